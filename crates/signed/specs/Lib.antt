@@ -1,0 +1,3 @@
+pub mod Choose
+pub mod Parts
+pub mod Place
