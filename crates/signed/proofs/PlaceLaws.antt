@@ -3,7 +3,9 @@ use Prim.Native.Nat.{ℕ, suc, _+_, _-_, _<_, _≤_}
 use mathlib.Core.Path.{_≡_, refl, sym}
 use native.Mathlib.Omega.{arith}
 use lib.IntN.{ℤ, pos, negsuc}
-use borrow.Author.Tests.{le-leb, lt-leb}
+use mathlib.Core.Bool.{Bool, true, false}
+use lib.Dec.{leb}
+use borrow.Author.Tests.{le-leb, lt-leb, leb-true}
 use Rattle.signed.specs.Choose.{if_then_else_}
 use Rattle.signed.specs.Parts.{posPart, negPart}
 use Rattle.signed.specs.Place.{placeOf}
@@ -29,3 +31,13 @@ pub place-on : (z : ℤ) (n : ℕ) → negPart z ≤ 0 → posPart z ≤ n → p
 unfolding placeOf
 place-on (pos k) n q h = rw (le-leb k n h)
 place-on (negsuc k) n q h = absurd (omega arith)
+
+-- a place is one of the n
+pub place-most : (z : ℤ) (n : ℕ) → placeOf z n ≤ n
+unfolding placeOf
+place-most (pos k) n = by (leb k n) refl
+  where
+    by : (t : Bool) → leb k n ≡ t → (if t then k else 0) ≤ n
+    by true e = leb-true k n e
+    by false e = omega arith
+place-most (negsuc k) n = omega arith
