@@ -1,10 +1,10 @@
 -- Laws of months: only February differs in a leap year; twelve months make the year.
-use Prim.Native.Nat.{ℕ, zero, suc, _+_, _-_, _<_, _≤_}
+use Prim.Native.Nat.{ℕ, zero, suc, _+_, _-_, _/_, _<_, _≤_}
 use mathlib.Core.Bool.{Bool, true, false}
 use mathlib.Core.List.{List}
 use mathlib.Core.Path.{_≡_, refl, sym, ap, _∙_}
 use native.Mathlib.Omega.{arith}
-use lib.Dec.{T, leb, ltb, leb→le}
+use lib.Dec.{T, leb, ltb, leb→le, ltb→lt}
 use borrow.Author.Tests.{ltb-true, ltb-false}
 use lib.ListN.{getD, List·getD-eq-default}
 use Rattle.signed.specs.Choose.{if_then_else_}
@@ -115,3 +115,52 @@ start-rule m h = entry (startIn false) 14 m (omega arith)
 pub start-most : (m : ℕ) → m ≤ 13 → startIn false m ≤ 365
 unfolding startIn lengthIn
 start-most m h = leb→le (startIn false m) 365 (all-below (λ m. leb (startIn false m) 365) 14 tt m (omega arith))
+
+-- ---- from a day of the year to its month
+
+start-adds : (leap : Bool) (m n : ℕ) → startIn leap m ≤ startIn leap (m + n)
+unfolding startIn
+start-adds leap m zero =
+    let none : m + 0 ≡ m = omega arith in
+    rw none (omega arith)
+start-adds leap m (suc n) =
+    let next : m + suc n ≡ suc (m + n) = omega arith in
+    rw next (omega (arith, start-adds leap m n))
+
+pub month-mono : (y a b : ℕ) → a ≤ b → monthStart y a ≤ monthStart y b
+unfolding monthStart
+month-mono y a b h =
+    let e : a + (b - a) ≡ b = omega arith in
+    rw e at (start-adds (isLeap y) a (b - a))
+
+-- at each day of a year of either length
+notAfter : Bool → ℕ → Bool
+notAfter leap r = leb (startIn leap (r / 32 + 1)) r
+
+notBefore : Bool → ℕ → Bool
+notBefore leap r = ltb r (startIn leap (suc (suc (r / 32 + 1))))
+
+none-after : (leap : Bool) → T (allBelow (notAfter leap) (startIn leap 13))
+unfolding notAfter startIn lengthIn
+none-after true = tt
+none-after false = tt
+
+none-before : (leap : Bool) → T (allBelow (notBefore leap) (startIn leap 13))
+unfolding notBefore startIn lengthIn
+none-before true = tt
+none-before false = tt
+
+module _ (y r : ℕ) (h : r < yearLength y) where
+  within : r < startIn (isLeap y) 13
+  unfolding monthStart
+  within = rw (year-is-months y) at h
+
+  pub month-guess-low : monthStart y (r / 32 + 1) ≤ r
+  unfolding monthStart notAfter
+  month-guess-low =
+      leb→le (monthStart y (r / 32 + 1)) r (all-below (notAfter (isLeap y)) (startIn (isLeap y) 13) (none-after (isLeap y)) r within)
+
+  pub month-guess-high : r < monthStart y (suc (suc (r / 32 + 1)))
+  unfolding monthStart notBefore
+  month-guess-high =
+      ltb→lt r (monthStart y (suc (suc (r / 32 + 1)))) (all-below (notBefore (isLeap y)) (startIn (isLeap y) 13) (none-before (isLeap y)) r within)

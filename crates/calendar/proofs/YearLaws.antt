@@ -4,7 +4,9 @@ use mathlib.Core.Bool.{Bool, true, false}
 use mathlib.Core.List.{List, [], _∷_}
 use mathlib.Core.Path.{_≡_, refl, sym, ap, _∙_}
 use native.Mathlib.Omega.{arith}
+use lib.Dec.{ltb}
 use lib.ListN.{length, getD}
+use borrow.Author.Tests.{ltb-true, ltb-false}
 use Rattle.signed.specs.Choose.{if_then_else_}
 use Rattle.calendar.specs.Year.{isLeap, yearLength, leapYears, firstOfYear}
 
@@ -46,7 +48,7 @@ first-grows k (suc n) =
     next : k + suc n ≡ suc (k + n)
     next = omega arith
 
-first-zero : firstOfYear 0 ≡ 0
+pub first-zero : firstOfYear 0 ≡ 0
 unfolding firstOfYear leapYears
 first-zero = refl
 
@@ -69,7 +71,7 @@ leap-repeats c k = rw (four-hundred, hundred, four)
     four : (1600 + (400 * c + k)) % 4 ≡ (1600 + k) % 4
     four = omega arith
 
-length-repeats : (c k : ℕ) → yearLength (1600 + (400 * c + k)) ≡ yearLength (1600 + k)
+pub length-repeats : (c k : ℕ) → yearLength (1600 + (400 * c + k)) ≡ yearLength (1600 + k)
 unfolding yearLength
 length-repeats c k = rw (leap-repeats c k)
 
@@ -115,3 +117,36 @@ table-from (suc n) k s (suc j) e h =
 -- the rule of the table, over all of its entries
 pub table-rule : (k : ℕ) → k < 401 → getD (yearTable 401 0 0) k 0 ≡ firstOfYear k
 table-rule k h = table-from 401 0 0 k (sym first-zero) h ∙ ap firstOfYear (omega arith)
+
+-- ---- from a day of the cycle to its year
+
+pub first-mono : (a b : ℕ) → a ≤ b → firstOfYear a ≤ firstOfYear b
+first-mono a b h =
+    let e : a + (b - a) ≡ b = omega arith in
+    let g : firstOfYear a + 365 * (b - a) ≤ firstOfYear b = rw e at (first-grows a (b - a)) in
+    omega arith
+
+pub guess-low : (r : ℕ) → firstOfYear (r / 366) ≤ r
+guess-low r = omega (arith, first-most (r / 366))
+
+first-364 : firstOfYear 364 ≡ 132948
+unfolding firstOfYear leapYears isLeap
+first-364 = refl
+
+-- two years further on than the guess: by 365 days a year, from 1600 on, and from 1964 on with the leap days so far
+pub guess-high : (k : ℕ) → k < 399 → 366 * k + 365 < firstOfYear (suc (suc k))
+guess-high k h = by (ltb k 364) refl
+  where
+    early : (k : ℕ) → 0 + (k + 2) ≡ suc (suc k)
+    early k = omega arith
+
+    late : (k : ℕ) → 364 ≤ k → 364 + (k - 362) ≡ suc (suc k)
+    late k h = omega arith
+
+    by : (b : Bool) → ltb k 364 ≡ b → 366 * k + 365 < firstOfYear (suc (suc k))
+    by true e =
+        let g : firstOfYear 0 + 365 * (k + 2) ≤ firstOfYear (suc (suc k)) = rw (early k) at (first-grows 0 (k + 2)) in
+        omega (arith, ltb-true k 364 e)
+    by false e =
+        let g : firstOfYear 364 + 365 * (k - 362) ≤ firstOfYear (suc (suc k)) = rw (late k (ltb-false k 364 e)) at (first-grows 364 (k - 362)) in
+        omega (arith, ltb-false k 364 e, first-364)

@@ -1,4 +1,5 @@
 pub mod Year
 pub mod Month
 pub mod Days
+pub mod Within
 pub mod Seconds
