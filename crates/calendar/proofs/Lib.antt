@@ -4,3 +4,4 @@ pub mod MonthLaws
 pub mod DayLaws
 pub mod RoundTrips
 mod WithinLaws
+pub mod SecondLaws

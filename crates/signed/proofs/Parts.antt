@@ -164,3 +164,11 @@ fit-neg (negsuc n) f = omega (arith, f .sfits)
 -- the bits of a number read back, by its range as a call or a slice has it
 pub back : (z : ℤ) → mag z < 2 ^ 63 → toZ w64 (ofZ w64 z) ≡ z
 back z h = toZ-ofZ (record { sfits = h })
+
+-- a - b of a number that is not smaller
+pub subℕ-above : (a b : ℕ) → b ≤ a → posPart (subℕ a b) ≡ a - b
+subℕ-above a b h = rw (le-ltb a b h)
+
+-- what a call ensures of a signed argument that is passed on speaks of the number read back from its bits
+pub passed : {A : Type 0} (f : ℤ → A) {z : ℤ} {r : A} → SFits w64 z → r ≡ f (toZ w64 (ofZ w64 z)) → r ≡ f z
+passed f h e = rw (toZ-ofZ h) at e

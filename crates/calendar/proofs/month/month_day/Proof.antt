@@ -1,10 +1,9 @@
 -- `calendar::month::month_day` meets its contract: the place among the days of the month.
-use mathlib.Core.Path.{_≡_, ap, _∙_}
+use mathlib.Core.Path.{ap, _∙_}
 use native.Mathlib.Omega.{arith}
-use mir.Facts.{toZ-ofZ}
 use Rattle.signed.specs.Place.{placeOf}
+use Rattle.signed.proofs.Parts.{passed}
 use Rattle.signed.proofs.PlaceLaws.{place-most}
-use Rattle.calendar.specs.Month.{monthLength}
 use Rattle.calendar.proofs.MonthLaws.{month-most}
 use Rattle.calendar.specs.Month.{monthDay}
 use borrow.Author.Needs.{needs}
@@ -22,14 +21,14 @@ place-requires c κs = search needs
 
 cast-result : tie.Need-cast-result
 cast-result c =
-    let e : c .place .result ≡ placeOf (c .before .before .args .day) (c .before .month-length .result) = rw (toZ-ofZ (c .before .before .fits .day)) at (c .place .ensures) in
-    let e' : c .before .month-length .result ≡ monthLength (c .before .before .args .year) (c .before .before .args .month) = c .before .month-length .ensures in
-    omega (arith, place-most (c .before .before .args .day) (c .before .month-length .result), month-most (c .before .before .args .year) (c .before .before .args .month))
+    let a = c .before .before .args in
+    let e = passed (λ z. placeOf z (c .before .month-length .result)) (c .before .before .fits .day) (c .place .ensures) in
+    omega (arith, e, c .before .month-length .ensures, place-most (a .day) (c .before .month-length .result), month-most (a .year) (a .month))
 
 returns : tie.Need-returns
 unfolding monthDay
 returns c =
-    let e : c .place .result ≡ placeOf (c .before .before .args .day) (c .before .month-length .result) = rw (toZ-ofZ (c .before .before .fits .day)) at (c .place .ensures) in
+    let e = passed (λ z. placeOf z (c .before .month-length .result)) (c .before .before .fits .day) (c .place .ensures) in
     e ∙ ap (placeOf (c .before .before .args .day)) (c .before .month-length .ensures)
 
 pub month-day-spec : {M : Type 1} → statement M
