@@ -6,15 +6,15 @@ use native.Mathlib.Omega.{arith}
 use native.Mathlib.Numerals.{add-one}
 use lib.Dec.{ltb}
 use borrow.Author.Tests.{ltb-true, ltb-false}
-use Rattle.calendar.specs.declared.Date.{Date}
-use Rattle.calendar.specs.Year.{yearLength, firstOfYear}
-use Rattle.calendar.specs.Month.{monthLength, monthStart}
-use Rattle.calendar.specs.Days.{dayOf, dayCount, dateOf}
+use Rattle.gregorian.specs.declared.Date.{Date}
+use Rattle.gregorian.specs.Year.{yearLength, firstOfYear}
+use Rattle.gregorian.specs.Month.{monthLength, monthStart}
+use Rattle.gregorian.specs.Days.{dayOf, dayCount, dateOf}
 use Rattle.calendar.specs.Within.{HoldsDay, HoldsDayOfYear}
-use Rattle.calendar.proofs.YearLaws.{first-suc, first-cycle, guess-low, guess-high, cycle-length, year-most, length-repeats}
-use Rattle.calendar.proofs.MonthLaws.{month-next, month-guess-low, month-guess-high, year-is-months}
-use Rattle.calendar.proofs.DayLaws.{Parts}
-use Rattle.calendar.proofs.RoundTrips.{day-date-day, date-parts, day-injective}
+use Rattle.gregorian.proofs.YearLaws.{first-suc, first-cycle, guess-low, guess-high, cycle-length, year-most, length-repeats}
+use Rattle.gregorian.proofs.MonthLaws.{month-next, month-guess-low, month-guess-high, year-is-months}
+use Rattle.gregorian.proofs.DayLaws.{Parts}
+use Rattle.gregorian.proofs.RoundTrips.{day-date-day, date-parts, day-injective}
 
 module _ (r : ℕ) (h : r < 146097) where
   pub year-here : r < firstOfYear (r / 366 + 1) → HoldsDay (r / 366) r

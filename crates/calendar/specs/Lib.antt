@@ -1,5 +1,1 @@
-pub mod Year
-pub mod Month
-pub mod Days
 pub mod Within
-pub mod Seconds

@@ -1,7 +1,7 @@
 -- What the steps from a day to its date find.
 use Prim.Native.Nat.{ℕ, suc, _<_, _≤_}
-use Rattle.calendar.specs.Year.{firstOfYear}
-use Rattle.calendar.specs.Month.{monthStart}
+use Rattle.gregorian.specs.Year.{firstOfYear}
+use Rattle.gregorian.specs.Month.{monthStart}
 
 -- Year k of a cycle holds the cycle's day r.
 pub record HoldsDay (k r : ℕ) : Type 0 where

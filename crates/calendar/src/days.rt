@@ -2,10 +2,10 @@
 ghost use mathlib.Core.Bool.{true};
 ghost use mathlib.Core.Path.{_≡_};
 ghost use Prim.Native.Nat.{_<_, _≤_};
-ghost use Rattle.calendar.specs.Year.{yearLength};
-ghost use Rattle.calendar.specs.Days.{isDate, dayOf, dayCount, dateOf, weekdayOf};
+ghost use Rattle.gregorian.specs.Year.{yearLength};
+ghost use Rattle.gregorian.specs.Days.{isDate, dayOf, dayCount, dateOf, weekdayOf};
 ghost use Rattle.calendar.specs.Within.{HoldsDay, HoldsDayOfYear};
-use super::Date;
+use gregorian::Date;
 
 // 0 is Monday.
 pub fn weekday(day: u32) -> u32

@@ -1,7 +1,7 @@
 // Months: their lengths, the days of the year before them, and signed days of the month.
 ghost use mathlib.Core.Path.{_≡_};
 ghost use Prim.Native.Nat.{_≤_};
-ghost use Rattle.calendar.specs.Month.{monthLength, monthStart, monthDay};
+ghost use Rattle.gregorian.specs.Month.{monthLength, monthStart, monthDay};
 
 // Of a common year, by the month's number.
 const LENGTHS: [u32; 13] = [0, 31, 28, 31, 30, 31, 30, 31, 31, 30, 31, 30, 31];

@@ -2,9 +2,9 @@
 // whose division is the floor division of the signed ones: 1970-01-01 is a whole number of days later.
 ghost use mathlib.Core.Path.{_≡_};
 ghost use Prim.Native.Nat.{_<_};
-ghost use Rattle.calendar.specs.Days.{dayCount};
-ghost use Rattle.calendar.specs.Seconds.{InCalendar, momentOf, secondsOf};
-use super::Moment;
+ghost use Rattle.gregorian.specs.Days.{dayCount};
+ghost use Rattle.gregorian.specs.Seconds.{InCalendar, momentOf, secondsOf};
+use gregorian::Moment;
 
 // 135,140 days of 86,400 seconds.
 const EPOCH: u64 = 11676096000;

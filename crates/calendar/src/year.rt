@@ -1,7 +1,7 @@
 // Years: the leap-year rule, and the day numbers of their first days from a table.
 ghost use mathlib.Core.Path.{_≡_};
 ghost use Prim.Native.Nat.{_-_, _≤_};
-ghost use Rattle.calendar.specs.Year.{isLeap, yearLength, firstOfYear};
+ghost use Rattle.gregorian.specs.Year.{isLeap, yearLength, firstOfYear};
 
 // The day numbers of January 1st of the 401 years from 1600 on.
 const FIRST_OF_YEAR: [u32; 401] = [
@@ -408,6 +408,10 @@ const FIRST_OF_YEAR: [u32; 401] = [
     146097,
 ];
 
+const COMMON_YEAR: u32 = 365;
+
+const LEAP_YEAR: u32 = 366;
+
 pub fn is_leap(year: u32) -> bool
     ensures { λ r. ⌜ r ≡ isLeap year ⌝ }
 {
@@ -424,9 +428,9 @@ pub fn year_length(year: u32) -> u32
     ensures { λ r. ⌜ r ≡ yearLength year ⌝ }
 {
     if is_leap(year) {
-        return 366;
+        return LEAP_YEAR;
     }
-    365
+    COMMON_YEAR
 }
 
 // The day number, in the cycle of 400 years that 1600 begins, of the first day of the cycle's year k.

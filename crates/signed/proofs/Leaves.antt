@@ -40,43 +40,56 @@ abs-positive (negsuc n) e = true-false e
 pub whole-positive : (z : ℤ) → SFits w64 z → ltZ (again z) (pos 0) ≡ false → natAbs (again z) ≡ posPart z
 whole-positive z f e = rw (toZ-ofZ f) (abs-positive z (rw (toZ-ofZ f) at e))
 
-none-negative : (z : ℤ) → ltZ z (pos 0) ≡ false → 0 ≡ negPart z
-none-negative (pos n) e = refl
-none-negative (negsuc n) e = true-false e
+-- -1 - z, which every i64 has room for: its sign is the other one
+mirror : ℤ → ℤ
+mirror (pos n) = negsuc n
+mirror (negsuc n) = pos n
 
-pub negative-none : (z : ℤ) → SFits w64 z → ltZ (again z) (pos 0) ≡ false → 0 ≡ negPart z
-negative-none z f e = none-negative z (rw (toZ-ofZ f) at e)
+mirrored : (z : ℤ) → negsuc 0 -ℤ z ≡ mirror z
+unfolding mirror
+mirrored (pos n) = parts-eq _ _ (omega (arith, diff-parts (negsuc 0) (pos n)))
+mirrored (negsuc n) = parts-eq _ _ (omega (arith, diff-parts (negsuc 0) (negsuc n)))
 
--- -1 - z of a z below zero is one less than the negative part, so it fits where -z need not
-mirrored : (z : ℤ) → ltZ z (pos 0) ≡ true → negsuc 0 -ℤ z ≡ pos (negPart z - 1)
-mirrored (pos n) e = absurd (omega (arith, ltb-true n 0 e))
-mirrored (negsuc n) e = parts-eq _ _ (omega (arith, diff-parts (negsuc 0) (negsuc n)))
+mirror-fits : (z : ℤ) → SFits w64 z → SFits w64 (mirror z)
+unfolding mirror
+mirror-fits (pos n) f = record { sfits = f .sfits }
+mirror-fits (negsuc n) f = record { sfits = f .sfits }
 
-negative-fits : (z : ℤ) → SFits w64 z → ltZ z (pos 0) ≡ true → (negPart z - 1 < 2 ^ 63) × (0 < negPart z)
-negative-fits (pos n) f e = absurd (omega (arith, ltb-true n 0 e))
-negative-fits (negsuc n) f e = omega (arith, f .sfits)
+mirror-none : (z : ℤ) → ltZ (mirror z) (pos 0) ≡ true → 0 ≡ negPart z
+unfolding mirror
+mirror-none (pos n) e = refl
+mirror-none (negsuc n) e = absurd (omega (arith, ltb-true n 0 e))
 
-module _ (z : ℤ) (f : SFits w64 z) (e : ltZ (again z) (pos 0) ≡ true) where
-  is-mirrored : negsuc 0 -ℤ again z ≡ pos (negPart z - 1)
-  is-mirrored = rw (toZ-ofZ f) (mirrored z (rw (toZ-ofZ f) at e))
+mirror-whole : (z : ℤ) → SFits w64 z → ltZ (mirror z) (pos 0) ≡ false → (natAbs (mirror z) + 1 ≡ negPart z) × (natAbs (mirror z) < 2 ^ 63)
+unfolding mirror
+mirror-whole (pos n) f e = true-false e
+mirror-whole (negsuc n) f e = omega (arith, f .sfits)
 
-  small : negPart z - 1 < 2 ^ 63
-  small = negative-fits z f (rw (toZ-ofZ f) at e) .0
+module _ (z : ℤ) (f : SFits w64 z) where
+  is-mirror : negsuc 0 -ℤ again z ≡ mirror z
+  is-mirror = rw (toZ-ofZ f) (mirrored z)
 
   pub mirrored-fits : SFits w64 (negsuc 0 -ℤ again z)
-  mirrored-fits = rw is-mirrored (record { sfits = small })
+  mirrored-fits = rw is-mirror (mirror-fits z f)
 
-  mirrored-again : again (negsuc 0 -ℤ again z) ≡ pos (negPart z - 1)
-  mirrored-again = toZ-ofZ mirrored-fits ∙ is-mirrored
+  mirrored-again : again (negsuc 0 -ℤ again z) ≡ mirror z
+  mirrored-again = toZ-ofZ mirrored-fits ∙ is-mirror
 
-  pub mirrored-casts : T (nonNeg (again (negsuc 0 -ℤ again z))) × Fits w64 (natAbs (again (negsuc 0 -ℤ again z)))
-  mirrored-casts = rw mirrored-again (tt, record { fits = omega (arith, small) })
+  pub negative-none : ltZ (again (negsuc 0 -ℤ again z)) (pos 0) ≡ true → 0 ≡ negPart z
+  negative-none e = mirror-none z (rw mirrored-again at e)
 
-  pub mirrored-next : Fits w64 (natAbs (again (negsuc 0 -ℤ again z)) + 1)
-  mirrored-next = rw mirrored-again (record { fits = omega (arith, small) })
+  module _ (e : ltZ (again (negsuc 0 -ℤ again z)) (pos 0) ≡ false) where
+    no-sign : ltZ (mirror z) (pos 0) ≡ false
+    no-sign = rw mirrored-again at e
 
-  pub mirrored-negative : natAbs (again (negsuc 0 -ℤ again z)) + 1 ≡ negPart z
-  mirrored-negative = rw mirrored-again (omega (arith, negative-fits z f (rw (toZ-ofZ f) at e)))
+    pub mirrored-casts : T (nonNeg (again (negsuc 0 -ℤ again z))) × Fits w64 (natAbs (again (negsuc 0 -ℤ again z)))
+    mirrored-casts = rw mirrored-again (whole (mirror z) (mirror-fits z f) no-sign)
+
+    pub mirrored-next : Fits w64 (natAbs (again (negsuc 0 -ℤ again z)) + 1)
+    mirrored-next = rw mirrored-again (record { fits = omega (arith, mirror-whole z f no-sign) })
+
+    pub mirrored-negative : natAbs (again (negsuc 0 -ℤ again z)) + 1 ≡ negPart z
+    mirrored-negative = rw mirrored-again (mirror-whole z f no-sign .0)
 
 -- the difference of two counts that an i64 holds
 module _ (a b : ℕ) (f : a < 2 ^ 63) (g : b < 2 ^ 63) where

@@ -16,15 +16,15 @@ pub fn positive_part(z: i64) -> u64
     z as u64
 }
 
-// -z, or 0 where z is positive. (-z itself need not fit.)
+// -z, or 0 where z is not negative. -z need not fit an i64; -1 - z always does.
 pub fn negative_part(z: i64) -> u64
     ensures { λ r. ⌜ r ≡ negPart z ⌝ }
 {
-    if z < 0 {
-        let below = -1 - z;
-        return below as u64 + 1;
+    let below = -1 - z;
+    if below < 0 {
+        return 0;
     }
-    0
+    below as u64 + 1
 }
 
 // a - b.

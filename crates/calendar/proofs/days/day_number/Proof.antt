@@ -1,7 +1,7 @@
 -- `calendar::days::day_number` meets its contract. A day number fits, since it lies within the calendar.
 use native.Mathlib.Omega.{arith}
-use Rattle.calendar.proofs.DayLaws.{parts-of, month-within, day-small}
-use Rattle.calendar.specs.Days.{dayOf}
+use Rattle.gregorian.proofs.DayLaws.{parts-of, month-within, day-small}
+use Rattle.gregorian.specs.Days.{dayOf}
 use Rattle.calendar.proofs.days.day_number.Statement.{statement}
 use Rattle.calendar.proofs.days.day_number.Tie as tie
 

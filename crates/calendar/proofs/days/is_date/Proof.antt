@@ -1,5 +1,5 @@
 -- `calendar::days::is_date` meets its contract: the definition's tests in its order.
-use Rattle.calendar.specs.Days.{isDate}
+use Rattle.gregorian.specs.Days.{isDate}
 use borrow.Author.Tests.{le-leb, lt-leb}
 use borrow.Author.Needs.{needs}
 use Rattle.calendar.proofs.days.is_date.Statement.{statement}

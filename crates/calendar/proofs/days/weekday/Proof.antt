@@ -1,4 +1,4 @@
-use Rattle.calendar.specs.Days.{weekdayOf}
+use Rattle.gregorian.specs.Days.{weekdayOf}
 use borrow.Author.Needs.{needs}
 use Rattle.calendar.proofs.days.weekday.Statement.{statement}
 use Rattle.calendar.proofs.days.weekday.Tie as tie

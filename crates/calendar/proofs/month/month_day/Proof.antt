@@ -4,8 +4,8 @@ use native.Mathlib.Omega.{arith}
 use Rattle.signed.specs.Place.{placeOf}
 use Rattle.signed.proofs.Parts.{passed}
 use Rattle.signed.proofs.PlaceLaws.{place-most}
-use Rattle.calendar.proofs.MonthLaws.{month-most}
-use Rattle.calendar.specs.Month.{monthDay}
+use Rattle.gregorian.proofs.MonthLaws.{month-most}
+use Rattle.gregorian.specs.Month.{monthDay}
 use borrow.Author.Needs.{needs}
 use Rattle.calendar.proofs.month.month_day.Statement.{statement}
 use Rattle.calendar.proofs.month.month_day.Tie as tie

@@ -1,6 +1,6 @@
 -- `calendar::month::month_length` meets its contract: the table is a common year's, and February is told apart.
-use Rattle.calendar.specs.Month.{lengthIn}
-use Rattle.calendar.proofs.MonthLaws.{month-none, month-february, month-other}
+use Rattle.gregorian.specs.Month.{lengthIn}
+use Rattle.gregorian.proofs.MonthLaws.{month-none, month-february, month-other}
 use mathlib.Core.Bool.{true, false}
 use mathlib.Core.Path.{sym, _∙_}
 use borrow.Author.Needs.{needs}

@@ -2,9 +2,9 @@
 use Prim.Native.Nat.{ℕ, _+_}
 use mathlib.Core.Path.{sym, ap, _∙_}
 use native.Mathlib.Omega.{arith}
-use Rattle.calendar.specs.Month.{startIn, lengthIn}
-use Rattle.calendar.proofs.MonthLaws.{start-rule, start-most, month-early, month-leap, month-common}
-use Rattle.calendar.specs.Month.{monthStart}
+use Rattle.gregorian.specs.Month.{startIn, lengthIn}
+use Rattle.gregorian.proofs.MonthLaws.{start-rule, start-most, month-early, month-leap, month-common}
+use Rattle.gregorian.specs.Month.{monthStart}
 use borrow.Author.Tests.{lt-ltb}
 use borrow.Author.Needs.{needs}
 use Rattle.calendar.proofs.month.month_start.Statement.{statement}

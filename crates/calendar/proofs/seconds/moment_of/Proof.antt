@@ -2,7 +2,7 @@
 use native.Mathlib.Omega.{arith}
 use Rattle.signed.specs.Parts.{posPart, negPart}
 use Rattle.signed.proofs.Parts.{passed}
-use Rattle.calendar.proofs.SecondLaws.{day-since, second-since}
+use Rattle.gregorian.proofs.SecondLaws.{day-since, second-since}
 use borrow.Author.Needs.{needs}
 use Rattle.calendar.proofs.seconds.moment_of.Statement.{statement}
 use Rattle.calendar.proofs.seconds.moment_of.Tie as tie

@@ -1,7 +1,7 @@
 -- `calendar::seconds::seconds_of` meets its contract.
 use mathlib.Core.Path.{sym, _∙_}
 use Rattle.signed.proofs.Parts.{back}
-use Rattle.calendar.proofs.SecondLaws.{counted}
+use Rattle.gregorian.proofs.SecondLaws.{counted}
 use borrow.Author.Needs.{needs}
 use Rattle.calendar.proofs.seconds.seconds_of.Statement.{statement}
 use Rattle.calendar.proofs.seconds.seconds_of.Tie as tie

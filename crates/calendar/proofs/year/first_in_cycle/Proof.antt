@@ -1,7 +1,7 @@
 -- `calendar::year::first_in_cycle` meets its contract: the table holds the first days of 401 years, as the checker computes them once.
 use native.Mathlib.Omega.{arith}
-use Rattle.calendar.specs.Year.{yearLength, isLeap}
-use Rattle.calendar.proofs.YearLaws.{table-rule}
+use Rattle.gregorian.specs.Year.{yearLength, isLeap}
+use Rattle.gregorian.proofs.YearLaws.{table-rule}
 use borrow.Author.Needs.{needs}
 use Rattle.calendar.proofs.year.first_in_cycle.Statement.{statement}
 use Rattle.calendar.proofs.year.first_in_cycle.Tie as tie

@@ -1,4 +1,4 @@
-use Rattle.calendar.specs.Year.{isLeap}
+use Rattle.gregorian.specs.Year.{isLeap}
 use borrow.Author.Tests.{eq-eqb, ne-eqb}
 use Rattle.calendar.proofs.year.is_leap.Statement.{statement}
 use Rattle.calendar.proofs.year.is_leap.Tie as tie

@@ -1,4 +1,4 @@
-use Rattle.calendar.specs.Year.{yearLength}
+use Rattle.gregorian.specs.Year.{yearLength}
 use borrow.Author.Needs.{needs}
 use Rattle.calendar.proofs.year.year_length.Statement.{statement}
 use Rattle.calendar.proofs.year.year_length.Tie as tie

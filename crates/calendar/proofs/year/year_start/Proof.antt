@@ -2,8 +2,8 @@
 use native.Mathlib.Omega.{arith}
 use mathlib.Core.Path.{_≡_, ap, _∙_}
 use Prim.Native.Nat.{ℕ, _+_, _*_, _-_, _/_, _%_}
-use Rattle.calendar.specs.Year.{firstOfYear}
-use Rattle.calendar.proofs.YearLaws.{first-cycle, first-most}
+use Rattle.gregorian.specs.Year.{firstOfYear}
+use Rattle.gregorian.proofs.YearLaws.{first-cycle, first-most}
 use borrow.Author.Needs.{needs}
 use Rattle.calendar.proofs.year.year_start.Statement.{statement}
 use Rattle.calendar.proofs.year.year_start.Tie as tie

@@ -2,7 +2,7 @@
 use Prim.Native.Nat.{ℕ, suc, _+_, _-_, _*_, _/_, _%_, _<_, _≤_}
 use lib.IntN.{ℤ, pos, negsuc, _+ℤ_, _-ℤ_, _*ℤ_}
 use Rattle.signed.specs.Parts.{posPart, negPart}
-use Rattle.calendar.specs.declared.Moment.{Moment}
+use Rattle.gregorian.specs.declared.Moment.{Moment}
 
 -- Division of an integer by d, rounded down: the quotient, and what is left, from 0 to d - 1. (`negsuc n` is -(n + 1).)
 unfoldable pub floorDiv : ℤ → ℕ → ℤ

@@ -3,9 +3,9 @@ use Prim.Native.Nat.{ℕ, zero, suc, _+_, _-_, _*_, _/_, _%_}
 use mathlib.Core.Bool.{Bool, _&&_}
 use lib.Dec.{leb, ltb}
 use Rattle.signed.specs.Choose.{if_then_else_}
-use Rattle.calendar.specs.declared.Date.{Date}
-use Rattle.calendar.specs.Year.{yearLength, firstOfYear}
-use Rattle.calendar.specs.Month.{monthLength, monthStart}
+use Rattle.gregorian.specs.declared.Date.{Date}
+use Rattle.gregorian.specs.Year.{yearLength, firstOfYear}
+use Rattle.gregorian.specs.Month.{monthLength, monthStart}
 
 -- A date of the Gregorian calendar, of the years that a rule of the profile can reach.
 unfoldable pub isDate : Date → Bool

@@ -6,7 +6,7 @@ use lib.ListN.{getD}
 use lib.IntN.{ℤ}
 use Rattle.signed.specs.Choose.{if_then_else_}
 use Rattle.signed.specs.Place.{placeOf}
-use Rattle.calendar.specs.Year.{isLeap}
+use Rattle.gregorian.specs.Year.{isLeap}
 
 -- Of a common or a leap year, by the month's number.
 abbrev pub lengths : Bool → List ℕ

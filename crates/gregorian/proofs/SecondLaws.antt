@@ -8,9 +8,9 @@ use borrow.Author.Tests.{ltb-false}
 use lib.IntN.{ℤ, pos, negsuc, negℤ, subℕ, _+ℤ_, _-ℤ_, _*ℤ_}
 use Rattle.signed.specs.Parts.{posPart, negPart}
 use Rattle.signed.proofs.Parts.{parts-eq, sum-parts, diff-parts, subℕ-parts, neg-pos, neg-neg, subℕ-above, subℕ-neg}
-use Rattle.calendar.specs.declared.Moment.{Moment}
-use Rattle.calendar.specs.Days.{dayCount}
-use Rattle.calendar.specs.Seconds.{floorDiv, floorMod, epochDay, InCalendar, momentOf, secondsOf}
+use Rattle.gregorian.specs.declared.Moment.{Moment}
+use Rattle.gregorian.specs.Days.{dayCount}
+use Rattle.gregorian.specs.Seconds.{floorDiv, floorMod, epochDay, InCalendar, momentOf, secondsOf}
 
 -- ---- division rounded down
 

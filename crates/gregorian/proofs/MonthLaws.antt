@@ -8,9 +8,9 @@ use lib.Dec.{T, leb, ltb, leb→le, ltb→lt}
 use borrow.Author.Tests.{ltb-true, ltb-false}
 use lib.ListN.{getD, List·getD-eq-default}
 use Rattle.signed.specs.Choose.{if_then_else_}
-use Rattle.calendar.proofs.Computed.{allBelow, all-below, tabulate, entry}
-use Rattle.calendar.specs.Year.{isLeap, yearLength}
-use Rattle.calendar.specs.Month.{lengths, lengthIn, startIn, monthLength, monthStart}
+use Rattle.gregorian.proofs.Computed.{allBelow, all-below, tabulate, entry}
+use Rattle.gregorian.specs.Year.{isLeap, yearLength}
+use Rattle.gregorian.specs.Month.{lengths, lengthIn, startIn, monthLength, monthStart}
 
 pub february : (leap : Bool) → (if leap then 29 else 28) ≡ lengthIn leap 2
 unfolding lengthIn

@@ -6,13 +6,13 @@ use native.Mathlib.Omega.{arith}
 use lib.Dec.{ltb}
 use borrow.Author.Tests.{ltb-true, ltb-false}
 use Rattle.signed.specs.Choose.{if_then_else_}
-use Rattle.calendar.specs.declared.Date.{Date}
-use Rattle.calendar.specs.Year.{yearLength, firstOfYear}
-use Rattle.calendar.specs.Month.{monthLength, monthStart, startIn, lengthIn}
-use Rattle.calendar.specs.Days.{isDate, dayOf, dayCount, fromMonth, fromYear, dateOf}
-use Rattle.calendar.proofs.YearLaws.{first-zero, first-suc, first-mono, first-cycle, cycle-length}
-use Rattle.calendar.proofs.MonthLaws.{month-next, month-mono, year-is-months}
-use Rattle.calendar.proofs.DayLaws.{Parts, parts-of, is-date, month-within, within-year, year-ends, day-above, day-below}
+use Rattle.gregorian.specs.declared.Date.{Date}
+use Rattle.gregorian.specs.Year.{yearLength, firstOfYear}
+use Rattle.gregorian.specs.Month.{monthLength, monthStart, startIn, lengthIn}
+use Rattle.gregorian.specs.Days.{isDate, dayOf, dayCount, fromMonth, fromYear, dateOf}
+use Rattle.gregorian.proofs.YearLaws.{first-zero, first-suc, first-mono, first-cycle, cycle-length}
+use Rattle.gregorian.proofs.MonthLaws.{month-next, month-mono, year-is-months}
+use Rattle.gregorian.proofs.DayLaws.{Parts, parts-of, is-date, month-within, within-year, year-ends, day-above, day-below}
 
 -- ---- the walk through the months
 

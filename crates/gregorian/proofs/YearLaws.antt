@@ -8,7 +8,7 @@ use lib.Dec.{ltb}
 use lib.ListN.{length, getD}
 use borrow.Author.Tests.{ltb-true, ltb-false}
 use Rattle.signed.specs.Choose.{if_then_else_}
-use Rattle.calendar.specs.Year.{isLeap, yearLength, leapYears, firstOfYear}
+use Rattle.gregorian.specs.Year.{isLeap, yearLength, leapYears, firstOfYear}
 
 -- ---- one year more
 

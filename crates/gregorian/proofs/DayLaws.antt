@@ -7,12 +7,12 @@ use lib.Dec.{T, leb, ltb, leb→le}
 use mir.Facts.{and-yes}
 use borrow.Author.Tests.{ltb-true, ltb-false, le-leb, leb-true}
 use Rattle.signed.specs.Choose.{if_then_else_}
-use Rattle.calendar.specs.declared.Date.{Date}
-use Rattle.calendar.specs.Year.{yearLength, firstOfYear}
-use Rattle.calendar.specs.Month.{monthLength, monthStart}
-use Rattle.calendar.specs.Days.{isDate, dayOf}
-use Rattle.calendar.proofs.YearLaws.{first-suc, first-mono, first-cycle, first-most, year-most}
-use Rattle.calendar.proofs.MonthLaws.{month-none, month-next, month-mono, year-is-months}
+use Rattle.gregorian.specs.declared.Date.{Date}
+use Rattle.gregorian.specs.Year.{yearLength, firstOfYear}
+use Rattle.gregorian.specs.Month.{monthLength, monthStart}
+use Rattle.gregorian.specs.Days.{isDate, dayOf}
+use Rattle.gregorian.proofs.YearLaws.{first-suc, first-mono, first-cycle, first-most, year-most}
+use Rattle.gregorian.proofs.MonthLaws.{month-none, month-next, month-mono, year-is-months}
 
 -- what the test of a date says, part by part
 pub record Parts (d : Date) : Type 0 where

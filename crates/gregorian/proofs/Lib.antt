@@ -1,0 +1,6 @@
+pub mod Computed
+pub mod YearLaws
+pub mod MonthLaws
+pub mod DayLaws
+pub mod RoundTrips
+pub mod SecondLaws

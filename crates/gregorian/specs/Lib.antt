@@ -1,0 +1,4 @@
+pub mod Year
+pub mod Month
+pub mod Days
+pub mod Seconds
