@@ -75,6 +75,10 @@ module _ (t : ℤ) (h : InCalendar t) where
   pub day-within : momentOf t .day < dayCount
   day-within = omega (arith, day-since, h .low, h .high)
 
+  pub second-within : momentOf t .second < 86400
+  unfolding momentOf
+  second-within = floor-below t
+
   -- seconds → day and second → seconds
   pub seconds-moment-seconds : secondsOf (momentOf t) ≡ t
   seconds-moment-seconds = counted (momentOf t) ∙ parts-eq _ _ (omega (arith, subℕ-parts (momentOf t .day * 86400 + momentOf t .second) 11676096000, day-since, second-since, h .low))
