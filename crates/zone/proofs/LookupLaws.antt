@@ -1,22 +1,20 @@
 -- The look-up in a valid table may stop at the first mark beyond the local time; the offset it gives is one of the table's.
 use Prim.Native.Nat.{ℕ, zero, suc, _+_, _<_, _≤_}
-use mathlib.Core.Bool.{Bool, true, false, _&&_}
+use mathlib.Core.Bool.{Bool, true, false}
 use mathlib.Core.List.{List, [], _∷_, map}
-use mathlib.Core.Path.{_≡_, refl, sym, ap, _∙_}
+use mathlib.Core.Path.{_≡_, refl, sym, _∙_}
 use native.Mathlib.Numerals.{add-one}
 use native.Mathlib.Omega.{arith}
-use lib.IntN.{ℤ, pos, natAbs, _-ℤ_}
+use lib.IntN.{ℤ, pos, natAbs}
 use lib.ListN.{length, getD, drop, drop-of-length-le}
 use lib.Signed.{leZ, ltZ}
 use Rattle.signed.specs.Choose.{if_then_else_}
-use Rattle.signed.specs.Parts.{posPart, negPart}
-use Rattle.signed.proofs.Parts.{diff-parts, pos-abs, neg-abs, parts-abs}
 use Rattle.zone.specs.Table.{Transition, transitions, mark, within, allWithin, increasing, validTable}
 use Rattle.zone.specs.Places.{markAt}
 use Rattle.zone.specs.Lookup.{lastAfter, offsetAt, utcAt}
 use Rattle.zone.proofs.RangeLaws.{and-left, and-right, range-abs, difference-abs}
 use Rattle.zone.proofs.OrderLaws.{lt-not-le, not-lt-le, lt-trans, increasing-drop}
-use Rattle.zone.proofs.TableLaws.{transitionAt, transitions-drop, transitions-length, marks, Valid, valid-gives}
+use Rattle.zone.proofs.TableLaws.{transitionAt, transitions-drop, transitions-length, marks, valid-gives}
 
 -- beyond the first mark all are beyond
 beyond : (found : ℤ) (t : Transition) (ts : List Transition) (x : ℤ) → increasing (map mark (t ∷ ts)) ≡ true → ltZ x (mark t) ≡ true → lastAfter found (t ∷ ts) x ≡ found

@@ -2,7 +2,7 @@
 use Prim.Native.Nat.{ℕ, zero, suc, _+_, _-_, _<_, _≤_, _^_}
 use mathlib.Core.Bool.{Bool, true, false, not}
 use mathlib.Core.List.{List, _∷_}
-use mathlib.Core.Path.{_≡_, refl, sym, _∙_, ap}
+use mathlib.Core.Path.{_≡_, refl, _∙_, ap}
 use native.Mathlib.Omega.{arith}
 use borrow.Author.Tests.{not-true, not-false}
 use lib.IntN.{ℤ, pos, natAbs, _+ℤ_, _-ℤ_}
@@ -17,7 +17,7 @@ use Rattle.zone.specs.Lookup.{offsetAt}
 use Rattle.zone.specs.Places.{InRange, markAt}
 use Rattle.zone.proofs.RangeLaws.{range-more, sum-abs, difference-abs, abs-fits}
 use Rattle.zone.proofs.OrderLaws.{walk-stop, walk-next}
-use Rattle.zone.proofs.TableLaws.{marks, marks-length, marks-at, Valid, valid-gives}
+use Rattle.zone.proofs.TableLaws.{marks, marks-length, marks-at, valid-gives}
 use Rattle.zone.proofs.LookupLaws.{Look, look-stop, look-next, look-end}
 
 abbrev pub again : ℤ → ℤ
@@ -62,14 +62,16 @@ module _ (a b : ℤ) (f : SFits w64 a) (g : SFits w64 b) (p : natAbs a ≤ 2 ^ 6
 -- ---- the mark, from what the calls in `mark::at` give: B the offset before, L the larger
 
 module _ (b : ℤ) (ns : List ℤ) (i : ℕ) (f : SFits w64 b) (g : SFits w64 (getD ns i (pos 0))) where
-  pub larger-is : (B L : ℤ) → mag B < 2 ^ 63 → B ≡ getD (again b ∷ ns) i (pos 0) → L ≡ larger (again B) (again (getD ns i (pos 0))) → L ≡ larger (getD (b ∷ ns) i (pos 0)) (getD ns i (pos 0))
+  pub larger-is : (B L : ℤ) → mag B < 2 ^ 63 → B ≡ getD (again b ∷ ns) i (pos 0) → L ≡ larger (again B) (again (getD ns i (pos 0)))
+      → L ≡ larger (getD (b ∷ ns) i (pos 0)) (getD ns i (pos 0))
   larger-is B L k e h =
       let same : B ≡ getD (b ∷ ns) i (pos 0) = rw (toZ-ofZ f) at e in
       rw (back B k, toZ-ofZ g, same) at h
 
 -- ---- one turn of `range::all_within`: r is what `within` answers
 
-module _ (k : ℕ) (s : List ℤ) (i : ℕ) (h : i < length s) (inv : allWithin k (drop i s) ≡ allWithin k s) (f : SFits w64 (getD s i (pos 0))) (r : Bool) (e : r ≡ within k (again (getD s i (pos 0)))) where
+module _ (k : ℕ) (s : List ℤ) (i : ℕ) (h : i < length s) (inv : allWithin k (drop i s) ≡ allWithin k s)
+    (f : SFits w64 (getD s i (pos 0))) (r : Bool) (e : r ≡ within k (again (getD s i (pos 0)))) where
   answer : r ≡ within k (getD s i (pos 0))
   answer = rw (toZ-ofZ f) at e
 

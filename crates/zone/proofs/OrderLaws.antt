@@ -1,9 +1,8 @@
 -- Numbers that increase. A walk that compares each with the one before carries: the answer from the last one on is the whole answer.
 use Prim.Native.Nat.{ℕ, zero, suc, _+_, _-_, _<_, _≤_}
-use mathlib.Core.Bool.{Bool, true, false, _&&_}
+use mathlib.Core.Bool.{true, false, _&&_}
 use mathlib.Core.List.{List, [], _∷_}
-use mathlib.Core.Path.{_≡_, refl, sym, _∙_, ap}
-use native.Mathlib.Numerals.{add-one}
+use mathlib.Core.Path.{_≡_, refl, sym, _∙_}
 use native.Mathlib.Omega.{arith}
 use lib.IntN.{ℤ, pos}
 use lib.ListN.{length, getD, drop, length-drop}
@@ -44,10 +43,12 @@ module _ (s : List ℤ) where
   step zero p h = absurd (omega arith)
   step (suc i) p h = let e : suc i - 1 ≡ i = omega arith in rw e (pair s i h)
 
-  pub walk-stop : (i : ℕ) → 1 ≤ i → i < length s → increasing (drop (i - 1) s) ≡ increasing s → leZ (getD s i (pos 0)) (getD s (i - 1) (pos 0)) ≡ true → false ≡ increasing s
+  pub walk-stop : (i : ℕ) → 1 ≤ i → i < length s → increasing (drop (i - 1) s) ≡ increasing s
+      → leZ (getD s i (pos 0)) (getD s (i - 1) (pos 0)) ≡ true → false ≡ increasing s
   walk-stop i p h inv e = rw (← inv, step i p h, le-not-lt _ _ e)
 
-  pub walk-next : (i : ℕ) → 1 ≤ i → i < length s → increasing (drop (i - 1) s) ≡ increasing s → leZ (getD s i (pos 0)) (getD s (i - 1) (pos 0)) ≡ false → increasing (drop (i + 1 - 1) s) ≡ increasing s
+  pub walk-next : (i : ℕ) → 1 ≤ i → i < length s → increasing (drop (i - 1) s) ≡ increasing s
+      → leZ (getD s i (pos 0)) (getD s (i - 1) (pos 0)) ≡ false → increasing (drop (i + 1 - 1) s) ≡ increasing s
   walk-next i p h inv e = let z : i + 1 - 1 ≡ i = omega arith in rw (← inv, step i p h, not-le-lt _ _ e, z)
 
   pub walk-end : (i : ℕ) → length s ≤ i → increasing (drop (i - 1) s) ≡ increasing s → true ≡ increasing s

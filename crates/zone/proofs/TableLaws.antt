@@ -1,19 +1,14 @@
 -- The transitions of a table by their places, and what a valid table gives.
-use Prim.Native.Nat.{ℕ, zero, suc, _+_, _<_, _≤_, _^_}
+use Prim.Native.Nat.{ℕ, zero, suc, _<_, _≤_}
 use mathlib.Core.Bool.{Bool, true, false, _&&_}
 use mathlib.Core.List.{List, [], _∷_, map}
-use mathlib.Core.Path.{_≡_, refl, sym, ap, _∙_}
+use mathlib.Core.Path.{_≡_, refl, ap}
 use native.Mathlib.Omega.{arith}
 use borrow.Author.Tests.{leb-true, eqb-true}
-use lib.Dec.{leb, eqb}
-use lib.IntN.{ℤ, pos, natAbs, _+ℤ_}
+use lib.IntN.{ℤ, pos, natAbs}
 use lib.ListN.{length, getD, drop}
 use lib.Signed.{leZ}
-use mir.Syntax.{w64}
-use mir.Val.{SFits}
 use Rattle.signed.specs.Choose.{if_then_else_}
-use Rattle.signed.specs.Parts.{posPart, negPart}
-use Rattle.signed.proofs.Parts.{sum-parts, pos-abs, neg-abs, parts-abs, parts-fit}
 use Rattle.zone.specs.Table.{Transition, transitions, larger, mark, within, allWithin, increasing, validTable}
 use Rattle.zone.specs.Places.{InRange, markAt}
 use Rattle.zone.proofs.RangeLaws.{and-left, and-right, range-abs, range-at}
@@ -22,7 +17,8 @@ use Rattle.zone.proofs.RangeLaws.{and-left, and-right, range-abs, range
 abbrev pub transitionAt : ℤ → List ℤ → List ℤ → ℕ → Transition
 transitionAt b ts ns i = record { instant = getD ts i (pos 0); before = getD (b ∷ ns) i (pos 0); after = getD ns i (pos 0) }
 
-pub transitions-drop : (b : ℤ) (ts ns : List ℤ) → length ts ≡ length ns → (i : ℕ) → i < length ts → drop i (transitions b ts ns) ≡ transitionAt b ts ns i ∷ drop (suc i) (transitions b ts ns)
+pub transitions-drop : (b : ℤ) (ts ns : List ℤ) → length ts ≡ length ns → (i : ℕ) → i < length ts
+    → drop i (transitions b ts ns) ≡ transitionAt b ts ns i ∷ drop (suc i) (transitions b ts ns)
 unfolding transitions
 transitions-drop b [] ns e i h = absurd (omega arith)
 transitions-drop b (t ∷ ts) [] e i h = absurd (omega arith)

@@ -1,11 +1,11 @@
 -- What the marks need of a table, and the mark at a place: terms of the inner functions' contracts.
-use Prim.Native.Nat.{ℕ, _≤_, _^_}
+use Prim.Native.Nat.{ℕ, _^_}
 use mathlib.Core.Bool.{true}
 use mathlib.Core.Path.{_≡_}
 use mathlib.Core.List.{List, _∷_}
 use lib.IntN.{ℤ, pos}
 use lib.ListN.{length, getD}
-use Rattle.zone.specs.Table.{Transition, mark, within, allWithin}
+use Rattle.zone.specs.Table.{mark, within, allWithin}
 
 -- The numbers of a table are in range, and the two lists equally long: the mark of each transition fits.
 pub record InRange (initial : ℤ) (instants offsets : List ℤ) : Type 0 where

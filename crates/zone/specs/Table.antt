@@ -1,7 +1,7 @@
 -- The zone table and when it is valid (01, "Zone table and UTC"). A table is an initial offset, the entries' instants and the offsets from
 -- then on, all in seconds.
 use Prim.Native.Nat.{ℕ, _^_}
-use mathlib.Core.Bool.{Bool, true, false, _&&_}
+use mathlib.Core.Bool.{Bool, true, _&&_}
 use mathlib.Core.List.{List, [], _∷_, map}
 use lib.Dec.{leb, eqb}
 use lib.IntN.{ℤ, natAbs, _+ℤ_}
@@ -44,14 +44,18 @@ increasing [] = true
 increasing (a ∷ []) = true
 increasing (a ∷ b ∷ zs) = ltZ a b && increasing (b ∷ zs)
 
--- "At most 1,024 entries; instants within ±2^40 and strictly increasing; offsets within ±86,399 seconds. .. marks strictly increase.
--- Otherwise 10." The initial offset is an offset too. Instants and offsets that are not equally many are no table.
+-- When 01 does not give 10 for the table.
 unfoldable pub validTable : ℤ → List ℤ → List ℤ → Bool
 validTable initial instants offsets =
+    -- "At most 1,024 entries"
     leb (length instants) 1024
+    -- instants and offsets of different lengths are no run of entries
     && eqb (length instants) (length offsets)
+    -- "instants within ±2^40 and strictly increasing"
     && allWithin (2 ^ 40) instants
     && increasing instants
+    -- "offsets within ±86,399 seconds", the initial one too
     && within 86399 initial
     && allWithin 86399 offsets
+    -- "marks strictly increase"
     && increasing (map mark (transitions initial instants offsets))

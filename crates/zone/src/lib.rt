@@ -42,8 +42,8 @@ pub fn offset(initial: i64, instants: &[i64], offsets: &[i64], local: i64) -> i6
 {
     let mut i = 0;
     while i < instants.len() {
-        let beyond = mark::at(initial, instants, offsets, i);
-        if local < beyond {
+        let next = mark::at(initial, instants, offsets, i);
+        if local < next {
             return mark::before(initial, offsets, i);
         }
         i += 1;

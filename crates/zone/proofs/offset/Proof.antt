@@ -1,9 +1,8 @@
 -- `zone::offset` meets its contract. The loop's invariant: each mark passed is at or before the local time, so the offset before the next
 -- transition is what was found.
 use Prim.Native.Nat.{_≤_, _-_}
-use mathlib.Core.Path.{_≡_}
 use native.Mathlib.Omega.{arith}
-use lib.ListN.{length, drop}
+use lib.ListN.{length}
 use mir.Syntax.{w64}
 use mir.Val.{toZ}
 use Rattle.zone.proofs.LookupLaws.{Look, look-start}

@@ -1,14 +1,11 @@
 -- `zone::utc` meets its contract: the offset is within ±86,399, so the difference fits.
 use Prim.Native.Nat.{_≤_}
-use native.Mathlib.Omega.{arith}
 use mathlib.Core.Path.{_≡_, _∙_, ap}
 use lib.IntN.{ℤ, natAbs, _-ℤ_}
-use mir.Facts.{toZ-ofZ}
 use Rattle.zone.specs.Lookup.{offsetAt}
 use Rattle.zone.proofs.LookupLaws.{offset-abs}
-use Rattle.zone.proofs.Machine.{again, passed-valid, passed-offset, difference-fits, difference-is}
+use Rattle.zone.proofs.Machine.{passed-valid, passed-offset, difference-fits, difference-is}
 use Rattle.zone.specs.Lookup.{utcAt}
-use borrow.Author.Needs.{needs}
 use Rattle.zone.proofs.utc.Statement.{statement}
 use Rattle.zone.proofs.utc.Tie as tie
 

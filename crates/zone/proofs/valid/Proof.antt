@@ -14,7 +14,9 @@ use Rattle.zone.proofs.valid.Tie as tie
 given-initial : (q : tie.Start) (r : Bool) → r ≡ within 86399 (again (q .args .initial)) → r ≡ within 86399 (q .args .initial)
 given-initial q r e = rw (toZ-ofZ (q .fits .initial)) at e
 
-given-marks : (q : tie.Start) (r : Bool) → r ≡ increasing (marks (again (q .args .initial)) (q .args .instants .now) (q .args .offsets .now)) → r ≡ increasing (marks (q .args .initial) (q .args .instants .now) (q .args .offsets .now))
+given-marks : (q : tie.Start) (r : Bool)
+    → r ≡ increasing (marks (again (q .args .initial)) (q .args .instants .now) (q .args .offsets .now))
+    → r ≡ increasing (marks (q .args .initial) (q .args .instants .now) (q .args .offsets .now))
 given-marks q r e = rw (toZ-ofZ (q .fits .initial)) at e
 
 -- a test that did not fail

@@ -71,7 +71,8 @@ utc-requires c κs =
     let p = c .before .before .before .before .before .before .before .before .before .before in
     let q = c .before .before .before .before .before in (
       sym (p .before .valid .ensures) ∙ not-false _ (p .if1 .left),
-      parts-abs (toZ w64 (ofZ w64 (p .before .before .before .args .local))) (2 ^ 62) (rw (q .positive-part .ensures) at (c .before .before .before .before .if2 .left)) (rw (c .before .before .before .negative-part .ensures) at (c .before .before .if3 .left)),
+      parts-abs (toZ w64 (ofZ w64 (p .before .before .before .args .local))) (2 ^ 62)
+          (rw (q .positive-part .ensures) at (c .before .before .before .before .if2 .left)) (rw (c .before .before .before .negative-part .ensures) at (c .before .before .if3 .left)),
     )
 
 print-signed-requires-2 : tie.Need-print-signed-requires-2

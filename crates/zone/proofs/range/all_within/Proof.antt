@@ -30,7 +30,8 @@ within-requires c κs = search needs
 returns : tie.Need-returns Inv-loop μ-loop
 returns c =
     let p = c .before .before .before .before in
-    range-stop _ (p .before .args .s .now) (p .loop .i) (c .before .before .before .loop-test .taken) (p .loop .inv) (record { sfits = c .before .before .within-arg .given }) _ (c .before .within .ensures) (c .if1 .taken)
+    range-stop _ (p .before .args .s .now) (p .loop .i) (c .before .before .before .loop-test .taken)
+    (p .loop .inv) (record { sfits = c .before .before .within-arg .given }) _ (c .before .within .ensures) (c .if1 .taken)
 
 add-i : tie.Need-add-i Inv-loop μ-loop
 add-i c = search needs
@@ -41,7 +42,8 @@ loop-less c = search needs
 loop-again : tie.Need-loop-again Inv-loop μ-loop
 loop-again c =
     let p = c .before .before .before .before in
-    range-next _ (p .before .args .s .now) (p .loop .i) (c .before .before .before .loop-test .taken) (p .loop .inv) (record { sfits = c .before .before .within-arg .given }) _ (c .before .within .ensures) (c .if1 .left)
+    range-next _ (p .before .args .s .now) (p .loop .i) (c .before .before .before .loop-test .taken)
+    (p .loop .inv) (record { sfits = c .before .before .within-arg .given }) _ (c .before .within .ensures) (c .if1 .left)
 
 returns-2 : tie.Need-returns-2 Inv-loop μ-loop
 returns-2 c = rw (← (c .before .loop .inv), range-end _ (c .before .before .args .s .now) (c .before .loop .i) (c .loop-test .left))
