@@ -1,0 +1,6 @@
+pub mod RangeLaws
+pub mod OrderLaws
+pub mod TableLaws
+pub mod LookupLaws
+pub mod Starred
+mod Machine

@@ -1,0 +1,33 @@
+-- `zone::utc` meets its contract: the offset is within ±86,399, so the difference fits.
+use Prim.Native.Nat.{_≤_}
+use mathlib.Core.Path.{_≡_, _∙_, ap}
+use lib.IntN.{ℤ, natAbs, _-ℤ_}
+use Rattle.zone.specs.Lookup.{offsetAt}
+use Rattle.zone.proofs.LookupLaws.{offset-abs}
+use Rattle.zone.proofs.Machine.{passed-valid, passed-offset, difference-fits, difference-is}
+use Rattle.zone.specs.Lookup.{utcAt}
+use Rattle.zone.proofs.utc.Statement.{statement}
+use Rattle.zone.proofs.utc.Tie as tie
+
+offset-requires : tie.Need-offset-requires
+offset-requires c κs = passed-valid _ _ _ (c .fits .initial) (c .pre .0)
+
+-- the offset that is taken away, as the call gives it of what it is passed
+taken : (c : tie.After-offset) → c .offset .result ≡ offsetAt (c .before .args .initial) (c .before .args .instants .now) (c .before .args .offsets .now) (c .before .args .local)
+taken c = passed-offset _ (c .before .args .instants .now) (c .before .args .offsets .now) _ (c .before .fits .initial) (c .before .fits .local) _ (c .offset .ensures)
+
+taken-small : (c : tie.After-offset) → natAbs (c .offset .result) ≤ 86399
+taken-small c = rw (taken c) (offset-abs _ (c .before .args .instants .now) (c .before .args .offsets .now) (c .before .pre .0) _)
+
+sub-result : tie.Need-sub-result
+sub-result c =
+    difference-fits (c .before .args .local) (c .offset .result) (c .before .fits .local) (record { sfits = c .offset .ok }) (c .before .pre .1) (taken-small c)
+
+returns : tie.Need-returns
+unfolding utcAt
+returns c =
+    difference-is (c .before .args .local) (c .offset .result) (c .before .fits .local) (record { sfits = c .offset .ok }) (c .before .pre .1) (taken-small c)
+    ∙ ap (λ (z : ℤ). c .before .args .local -ℤ z) (taken c)
+
+pub utc-spec : {M : Type 1} → statement M
+utc-spec = tie.close (tie.spec offset-requires sub-result returns)

@@ -1,0 +1,45 @@
+// The ranges of a zone table's numbers, and their order.
+ghost use mathlib.Core.Path.{_≡_};
+ghost use Rattle.zone.specs.Table as Table;
+
+// Is z within ±k? By its parts, as -z need not fit.
+pub fn within(z: i64, k: u64) -> bool
+    ensures { λ r. ⌜ r ≡ Table.within k z ⌝ }
+{
+    if k < signed::positive_part(z) {
+        return false;
+    }
+    if k < signed::negative_part(z) {
+        return false;
+    }
+    true
+}
+
+pub fn all_within(s: &[i64], k: u64) -> bool
+    ensures { λ r. ⌜ r ≡ Table.allWithin k (now (s .entry)) ⌝ }
+{
+    let mut i = 0;
+    while i < s.len() {
+        if !within(s[i], k) {
+            return false;
+        }
+        i += 1;
+    }
+    true
+}
+
+// Is each number below the next?
+pub fn increasing(s: &[i64]) -> bool
+    ensures { λ r. ⌜ r ≡ Table.increasing (now (s .entry)) ⌝ }
+{
+    let mut i = 1;
+    while i < s.len() {
+        let last = s[i - 1];
+        let next = s[i];
+        if next <= last {
+            return false;
+        }
+        i += 1;
+    }
+    true
+}
