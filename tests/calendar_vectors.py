@@ -34,7 +34,15 @@ def show_seconds(t):
         return f"{t}: before 1600"
     if t > 253402300799:
         return f"{t}: after 9999"
-    return f"{t}: {(EPOCH + timedelta(seconds=t)).isoformat()} is {t}"
+    return f"{t}: {(EPOCH + timedelta(seconds=t)).isoformat()}"
+
+
+def show_moment(n, second):
+    head = f"day {n} second {second}: "
+    if n > LAST_DAY or second > 86399:
+        return head + "none"
+    t = datetime(1600, 1, 1) + timedelta(days=n, seconds=second)
+    return head + str((t - EPOCH) // timedelta(seconds=1))
 
 
 def month_length(y, m):

@@ -2,8 +2,7 @@
 // tests/calendar_vectors.py.
 use gregorian::Date;
 use gregorian::Moment;
-ghost use Prim.Native.Nat.{_<_, _≤_};
-ghost use Rattle.gregorian.specs.Days.{dayCount};
+ghost use Prim.Native.Nat.{_≤_};
 
 fn show_date(year: u32, month: u32, day: u32) {
     let d = Date { year, month, day };
@@ -32,27 +31,29 @@ fn show_day(n: u32) {
     show::text(b"\n");
 }
 
-// Seconds within the calendar.
 fn show_seconds(t: i64) {
     show::signed_number(t);
     show::text(b": ");
-    if 11676096000 < signed::negative_part(t) {
-        show::text(b"before 1600\n");
-        return;
-    }
-    if 253402300799 < signed::positive_part(t) {
-        show::text(b"after 9999\n");
-        return;
-    }
-    show_moment(calendar::seconds::moment_of(t));
+    show::seconds(t);
+    show::text(b"\n");
 }
 
-fn show_moment(m: Moment)
-    requires { ⌜ (m .day < dayCount) × (m .second < 86400) ⌝ }
-{
-    show::moment(m);
-    show::text(b" is ");
-    show::signed_number(calendar::seconds::seconds_of(m));
+// The seconds of a day and a second of it.
+fn show_moment(day: u32, second: u32) {
+    show::text(b"day ");
+    show::number(day as u64);
+    show::text(b" second ");
+    show::number(second as u64);
+    if 3068036 < day {
+        show::text(b": none\n");
+        return;
+    }
+    if 86399 < second {
+        show::text(b": none\n");
+        return;
+    }
+    show::text(b": ");
+    show::signed_number(calendar::seconds::seconds_of(Moment { day, second }));
     show::text(b"\n");
 }
 
@@ -176,6 +177,16 @@ fn seconds() {
     show_seconds(-9223372036854775808);
 }
 
+fn moments() {
+    show_moment(0, 0);
+    show_moment(135139, 86399);
+    show_moment(135140, 0);
+    show_moment(152686, 46800);
+    show_moment(3068036, 86399);
+    show_moment(3068037, 0);
+    show_moment(0, 86400);
+}
+
 fn days_of_the_month() {
     show_month_day(2024, 2, -1);
     show_month_day(2023, 2, -1);
@@ -196,6 +207,7 @@ fn main() {
     ends_of_the_calendar();
     no_dates();
     seconds();
+    moments();
     days_of_the_month();
     sweep();
 }

@@ -10,7 +10,7 @@ use Rattle.signed.specs.Choose.{if_then_else_}
 use Rattle.gregorian.specs.declared.Date.{Date}
 use Rattle.gregorian.specs.Year.{yearLength, firstOfYear}
 use Rattle.gregorian.specs.Month.{monthLength, monthStart}
-use Rattle.gregorian.specs.Days.{isDate, dayOf}
+use Rattle.gregorian.specs.Days.{isDate, dayOf, weekdayOf}
 use Rattle.gregorian.proofs.YearLaws.{first-suc, first-mono, first-cycle, first-most, year-most}
 use Rattle.gregorian.proofs.MonthLaws.{month-none, month-next, month-mono, year-is-months}
 
@@ -63,3 +63,7 @@ module _ (d : Date) (p : Parts d) where
   pub day-small : firstOfYear (d .year - 1600) + monthStart (d .year) (d .month) + d .day < 2 ^ 31
   day-small =
       omega (arith, within-year, year-most (d .year), first-most (d .year - 1600), p .high)
+
+pub weekday-below : (n : ℕ) → weekdayOf n < 7
+unfolding weekdayOf
+weekday-below n = omega arith

@@ -1,13 +1,13 @@
 -- Floor division of signed seconds by parts, and the round trips between seconds and moments.
-use Prim.Native.Nat.{ℕ, zero, suc, _+_, _-_, _*_, _/_, _%_, _<_, _≤_}
+use Prim.Native.Nat.{ℕ, zero, suc, _+_, _-_, _*_, _/_, _%_, _^_, _<_, _≤_}
 use mathlib.Core.Bool.{Bool, true, false}
 use mathlib.Core.Path.{_≡_, refl, sym, ap, _∙_}
 use native.Mathlib.Omega.{arith}
 use lib.Dec.{ltb}
 use borrow.Author.Tests.{ltb-false}
-use lib.IntN.{ℤ, pos, negsuc, negℤ, subℕ, _+ℤ_, _-ℤ_, _*ℤ_}
+use lib.IntN.{ℤ, pos, negsuc, negℤ, natAbs, subℕ, _+ℤ_, _-ℤ_, _*ℤ_}
 use Rattle.signed.specs.Parts.{posPart, negPart}
-use Rattle.signed.proofs.Parts.{parts-eq, sum-parts, diff-parts, subℕ-parts, neg-pos, neg-neg, subℕ-above, subℕ-neg}
+use Rattle.signed.proofs.Parts.{parts-eq, sum-parts, diff-parts, subℕ-parts, neg-pos, neg-neg, subℕ-above, subℕ-neg, parts-abs}
 use Rattle.gregorian.specs.declared.Moment.{Moment}
 use Rattle.gregorian.specs.Days.{dayCount}
 use Rattle.gregorian.specs.Seconds.{floorDiv, floorMod, epochDay, InCalendar, momentOf, secondsOf}
@@ -100,6 +100,11 @@ module _ (m : Moment) (day : m .day < dayCount) (second : m .second < 86400) whe
           by : (b : Bool) → ltb (m .day * 86400 + m .second) 11676096000 ≡ b → posPart (subℕ (m .day * 86400 + m .second) 11676096000) < 253402300800
           by true e = rw e (omega arith)
           by false e = omega (arith, subℕ-above (m .day * 86400 + m .second) 11676096000 (ltb-false (m .day * 86400 + m .second) 11676096000 e))
+
+  pub seconds-small : natAbs (secondsOf m) ≤ 2 ^ 62
+  seconds-small =
+      let h = seconds-within in
+      parts-abs (secondsOf m) (2 ^ 62) (omega (arith, h .high)) (omega (arith, h .low))
 
   -- day and second → seconds → day and second
   pub moment-seconds-moment : momentOf (secondsOf m) ≡ m

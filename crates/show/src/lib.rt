@@ -69,6 +69,19 @@ pub fn moment(m: Moment)
     time(m.second);
 }
 
+// The date-time of local seconds, or on which side of the calendar they lie.
+pub fn seconds(t: i64) {
+    if 11676096000 < signed::negative_part(t) {
+        text(b"before 1600");
+        return;
+    }
+    if 253402300799 < signed::positive_part(t) {
+        text(b"after 9999");
+        return;
+    }
+    moment(calendar::seconds::moment_of(t));
+}
+
 // The two letters of a weekday: 0 is Monday.
 pub fn weekday(w: u32) {
     if w == 0 {
