@@ -4,3 +4,4 @@ pub mod MonthLaws
 pub mod DayLaws
 pub mod RoundTrips
 pub mod SecondLaws
+pub mod Worked
