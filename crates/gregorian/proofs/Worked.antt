@@ -30,13 +30,13 @@ pub record Found : Type 0 where
 
 pub found : Case → Found
 found c =
-    record
-      { valid = isDate (c .date)
-      ; again = dateOf (dayOf (c .date))
-      ; weekday = weekdayOf (dayOf (c .date))
-      ; midnight = secondsOf (record { day = dayOf (c .date); second = 0 })
-      ; day = momentOf (c .midnight) .day
-      }
+    record {
+      valid = isDate (c .date);
+      again = dateOf (dayOf (c .date));
+      weekday = weekdayOf (dayOf (c .date));
+      midnight = secondsOf (record { day = dayOf (c .date); second = 0 });
+      day = momentOf (c .midnight) .day;
+    }
 
 pub wanted : Case → Found
 wanted c = record { valid = true; again = c .date; weekday = c .weekday; midnight = c .midnight; day = dayOf (c .date) }

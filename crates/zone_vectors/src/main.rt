@@ -2,16 +2,6 @@
 use libc::STDOUT_FILENO;
 ghost use Prim.Native.Nat.{_≤_};
 
-fn print_signed(z: i64) {
-    let below = signed::negative_part(z);
-    if 0 < below {
-        io::write_all(STDOUT_FILENO, b"-");
-        io::print_decimal(STDOUT_FILENO, below);
-        return;
-    }
-    io::print_decimal(STDOUT_FILENO, signed::positive_part(z));
-}
-
 fn print_list(s: &[i64]) {
     if 3 < s.len() {
         io::print_decimal(STDOUT_FILENO, s.len() as u64);
@@ -24,20 +14,20 @@ fn print_list(s: &[i64]) {
         if 0 < i {
             io::write_all(STDOUT_FILENO, b" ");
         }
-        print_signed(s[i]);
+        show::signed_number(s[i]);
         i += 1;
     }
     io::write_all(STDOUT_FILENO, b"]");
 }
 
 fn print_table(initial: i64, instants: &[i64], offsets: &[i64], local: i64) {
-    print_signed(initial);
+    show::signed_number(initial);
     io::write_all(STDOUT_FILENO, b" ");
     print_list(instants);
     io::write_all(STDOUT_FILENO, b" ");
     print_list(offsets);
     io::write_all(STDOUT_FILENO, b" at ");
-    print_signed(local);
+    show::signed_number(local);
     io::write_all(STDOUT_FILENO, b": ");
 }
 
@@ -49,7 +39,7 @@ fn show(initial: i64, instants: &[i64], offsets: &[i64], local: i64) {
         return;
     }
     io::write_all(STDOUT_FILENO, b"offset ");
-    print_signed(zone::offset(initial, instants, offsets, local));
+    show::signed_number(zone::offset(initial, instants, offsets, local));
     if signed::positive_part(local) > 4611686018427387904 {
         io::write_all(STDOUT_FILENO, b", no UTC\n");
         return;
@@ -59,7 +49,7 @@ fn show(initial: i64, instants: &[i64], offsets: &[i64], local: i64) {
         return;
     }
     io::write_all(STDOUT_FILENO, b", UTC ");
-    print_signed(zone::utc(initial, instants, offsets, local));
+    show::signed_number(zone::utc(initial, instants, offsets, local));
     io::write_all(STDOUT_FILENO, b"\n");
 }
 

@@ -38,14 +38,14 @@ slice-aggregate-write-all-3 c = search needs
 write-all-requires-3 : tie.Need-write-all-requires-3 Inv-loop μ-loop
 write-all-requires-3 c κs = search needs
 
-mul-print-signed : tie.Need-mul-print-signed Inv-loop μ-loop
-mul-print-signed c = search needs
+mul-signed-number : tie.Need-mul-signed-number Inv-loop μ-loop
+mul-signed-number c = search needs
 
-shared-slice-copy-out-print-signed : tie.Need-shared-slice-copy-out-print-signed Inv-loop μ-loop
-shared-slice-copy-out-print-signed c = search needs
+shared-slice-copy-out-signed-number : tie.Need-shared-slice-copy-out-signed-number Inv-loop μ-loop
+shared-slice-copy-out-signed-number c = search needs
 
-print-signed-requires : tie.Need-print-signed-requires Inv-loop μ-loop
-print-signed-requires c κs = search needs
+signed-number-requires : tie.Need-signed-number-requires Inv-loop μ-loop
+signed-number-requires c κs = search needs
 
 add-i : tie.Need-add-i Inv-loop μ-loop
 add-i c = search needs
@@ -80,9 +80,9 @@ print-list-spec =
     loop-holds
     slice-aggregate-write-all-3
     write-all-requires-3
-    mul-print-signed
-    shared-slice-copy-out-print-signed
-    print-signed-requires
+    mul-signed-number
+    shared-slice-copy-out-signed-number
+    signed-number-requires
     add-i
     loop-less
     loop-again

@@ -33,8 +33,8 @@ write-all-requires-2 c κs = search needs
 offset-requires : tie.Need-offset-requires
 offset-requires c κs = sym (c .before .before .before .valid .ensures) ∙ not-false _ (c .before .before .if1 .left)
 
-print-signed-requires : tie.Need-print-signed-requires
-print-signed-requires c κs = search needs
+signed-number-requires : tie.Need-signed-number-requires
+signed-number-requires c κs = search needs
 
 positive-part-requires : tie.Need-positive-part-requires
 positive-part-requires c κs = search needs
@@ -75,8 +75,8 @@ utc-requires c κs =
           (rw (q .positive-part .ensures) at (c .before .before .before .before .if2 .left)) (rw (c .before .before .before .negative-part .ensures) at (c .before .before .if3 .left)),
     )
 
-print-signed-requires-2 : tie.Need-print-signed-requires-2
-print-signed-requires-2 c κs = search needs
+signed-number-requires-2 : tie.Need-signed-number-requires-2
+signed-number-requires-2 c κs = search needs
 
 slice-aggregate-write-all-6 : tie.Need-slice-aggregate-write-all-6
 slice-aggregate-write-all-6 c = search needs
@@ -99,7 +99,7 @@ show-spec =
     slice-aggregate-write-all-2
     write-all-requires-2
     offset-requires
-    print-signed-requires
+    signed-number-requires
     positive-part-requires
     slice-aggregate-write-all-3
     write-all-requires-3
@@ -111,7 +111,7 @@ show-spec =
     slice-aggregate-write-all-5
     write-all-requires-5
     utc-requires
-    print-signed-requires-2
+    signed-number-requires-2
     slice-aggregate-write-all-6
     write-all-requires-6
     returns-4)
