@@ -115,15 +115,9 @@ pub fn string(text: &[u8], at: usize) -> Read
             return Read::To(i + 1);
         }
         match character(text, i) {
-            Read::To(j) => {
-                i = j;
-            }
-            Read::Bad => {
-                return Read::Bad;
-            }
-            Read::Deep => {
-                return Read::Deep;
-            }
+            Read::To(j) => i = j,
+            Read::Bad => return Read::Bad,
+            Read::Deep => return Read::Deep,
         }
         n -= 1;
     }
