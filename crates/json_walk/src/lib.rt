@@ -1,5 +1,7 @@
 // Walks through a text that is known to be JSON, by place: the members of an object, the elements of an array, the
 // bytes of a string. Every function is total: where the text is not JSON a walk just ends.
+pub mod arrays;
+pub mod objects;
 pub mod strings;
 
 // A member of an object: the place of its name, that is of the opening quote; the place behind the closing quote; the

@@ -25,9 +25,11 @@ slash-in-requires c κs = search needs
 returns : tie.Need-returns
 unfolding rawAt
 returns c =
-    rw (← (c .before .inside .ensures),
+    rw (
+      ← (c .before .inside .ensures),
       bytes-ahead,
-      ← (c .before .before .step .ensures))
+      ← (c .before .before .step .ensures),
+    )
     (c .slash-in .ensures)
 
 pub has-backslash-spec : {M : Type 1} → statement M

@@ -33,11 +33,13 @@ byte-requires-2 c κs = search needs
 returns : tie.Need-returns Inv-loop μ-loop
 unfolding bytesAt same
 returns c =
-    rw (← (c .before .before .before .before .loop .inv),
+    rw (
+      ← (c .before .before .before .before .loop .inv),
       same-step _ (c .before .before .before .loop-test .taken),
       ← (c .before .before .byte .ensures .is),
       ← (c .before .byte2 .ensures .is),
-      ne-eqb _ _ (c .if1 .taken))
+      ne-eqb _ _ (c .if1 .taken),
+    )
 
 -- src/strings.rt:41:9
 step-requires : tie.Need-step-requires Inv-loop μ-loop
@@ -59,20 +61,24 @@ loop-less c = search needs
 loop-again : tie.Need-loop-again Inv-loop μ-loop
 unfolding bytesAt same
 loop-again c =
-    rw (← (c .before .before .before .before .before .before .loop .inv),
+    rw (
+      ← (c .before .before .before .before .before .before .loop .inv),
       same-step _ (c .before .before .before .before .before .loop-test .taken),
       ← (c .before .before .before .before .byte .ensures .is),
       ← (c .before .before .before .byte2 .ensures .is),
       eq-eqb _ _ (c .before .before .if1 .left),
       ← (c .before .step .ensures),
-      ← (c .step2 .ensures))
+      ← (c .step2 .ensures),
+    )
 
 -- src/strings.rt:31:1
 returns-2 : tie.Need-returns-2 Inv-loop μ-loop
 unfolding bytesAt same
 returns-2 c =
-    rw (← (c .before .loop .inv),
-      same-none _ (c .loop-test .left))
+    rw (
+      ← (c .before .loop .inv),
+      same-none _ (c .loop-test .left),
+    )
 
 pub same-bytes-spec : {M : Type 1} → statement M
 same-bytes-spec =

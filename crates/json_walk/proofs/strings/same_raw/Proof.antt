@@ -39,13 +39,15 @@ same-bytes-requires c κs = search needs
 returns-2 : tie.Need-returns-2
 unfolding rawAt
 returns-2 c =
-    rw (← (c .before .before .before .before .before .inside .ensures),
+    rw (
+      ← (c .before .before .before .before .before .inside .ensures),
       ← (c .before .before .before .before .inside2 .ensures),
       ← (c .before .before .before .if1 .left),
       bytes-ahead _ _ (c .before .before .before .before .before .before .before .args .a),
       bytes-ahead _ _ (c .before .before .before .before .before .before .before .args .b),
       ← (c .before .before .step .ensures),
-      ← (c .before .step2 .ensures))
+      ← (c .before .step2 .ensures),
+    )
     (c .same-bytes .ensures)
 
 pub same-raw-spec : {M : Type 1} → statement M

@@ -29,10 +29,12 @@ byte-requires c κs = search needs
 returns : tie.Need-returns Inv-loop μ-loop
 unfolding bytesAt slashed
 returns c =
-    rw (← (c .before .before .before .loop .inv),
+    rw (
+      ← (c .before .before .before .loop .inv),
       slashed-step _ (c .before .before .loop-test .taken),
       ← (c .before .byte .ensures .is),
-      eq-eqb _ _ (c .if1 .taken))
+      eq-eqb _ _ (c .if1 .taken),
+    )
 
 -- src/strings.rt:70:9
 step-requires : tie.Need-step-requires Inv-loop μ-loop
@@ -50,18 +52,22 @@ loop-less c = search needs
 loop-again : tie.Need-loop-again Inv-loop μ-loop
 unfolding bytesAt slashed
 loop-again c =
-    rw (← (c .before .before .before .before .loop .inv),
+    rw (
+      ← (c .before .before .before .before .loop .inv),
       slashed-step _ (c .before .before .before .loop-test .taken),
       ← (c .before .before .byte .ensures .is),
       ne-eqb _ _ (c .before .if1 .left),
-      ← (c .step .ensures))
+      ← (c .step .ensures),
+    )
 
 -- src/strings.rt:61:1
 returns-2 : tie.Need-returns-2 Inv-loop μ-loop
 unfolding bytesAt slashed
 returns-2 c =
-    rw (← (c .before .loop .inv),
-      slashed-none _ (c .loop-test .left))
+    rw (
+      ← (c .before .loop .inv),
+      slashed-none _ (c .loop-test .left),
+    )
 
 pub slash-in-spec : {M : Type 1} → statement M
 slash-in-spec =
