@@ -27,19 +27,19 @@ pub fn inside(k: usize, j: usize) -> usize
     j - k - 2
 }
 
-// Are the n bytes at a those at b?
-pub fn same_bytes(text: &[u8], a: usize, b: usize, count: usize) -> bool
-    ensures { λ r. ⌜ r ≡ same (bytesAt count (now (text .entry)) a) (bytesAt count (now (text .entry)) b) ⌝ }
+// Are the n bytes at a place of one text those at a place of another, or of the same?
+pub fn same_bytes(text: &[u8], a: usize, other: &[u8], b: usize, count: usize) -> bool
+    ensures { λ r. ⌜ r ≡ same (bytesAt count (now (text .entry)) a) (bytesAt count (now (other .entry)) b) ⌝ }
 {
     let mut i = a;
     let mut j = b;
     let mut n = count;
     while 0 < n {
-        if byte(text, i) != byte(text, j) {
+        if byte(text, i) != byte(other, j) {
             return false;
         }
         i = step(text, i);
-        j = step(text, j);
+        j = step(other, j);
         n -= 1;
     }
     true
@@ -54,7 +54,18 @@ pub fn same_raw(text: &[u8], a: usize, d: usize, b: usize, e: usize) -> bool
     if n != m {
         return false;
     }
-    same_bytes(text, step(text, a), step(text, b), n)
+    same_bytes(text, step(text, a), text, step(text, b), n)
+}
+
+// Are the raw bytes of a string these?
+pub fn raw_is(text: &[u8], k: usize, j: usize, word: &[u8]) -> bool
+    ensures { λ r. ⌜ r ≡ same (rawAt (now (text .entry)) k j) (now (word .entry)) ⌝ }
+{
+    let n = inside(k, j);
+    if n != word.len() {
+        return false;
+    }
+    same_bytes(text, step(text, k), word, 0, n)
 }
 
 // Is there a backslash among the n bytes at a?

@@ -1,12 +1,14 @@
 use Prim.Native.Nat.{_*_, _+_}
-use Rattle.json_names.proofs.Laws.{fault-none, fault-step, members-none}
+use Rattle.json_names.proofs.Laws.{fault-none, fault-step}
+use Rattle.json_walk.proofs.Walks.{members-none}
 use Rattle.json_names.specs.Names.{anyElement, anyMember, faultAt, objectFault}
 use Rattle.json_walk.specs.Walk.{elementsFrom, elementsOf, membersFrom, membersOf}
 use borrow.Author.Needs.{needs}
 use borrow.Author.Tests.{eq-eqb, ne-eqb}
 use mathlib.Core.Path.{_≡_}
 use Rattle.json_walk.specs.Walk.{membersFrom, membersOf, elementsFrom, elementsOf}
-use Rattle.json_names.proofs.Laws.{fault-step, fault-none, members-one, members-end, elements-one, elements-end, elements-none}
+use Rattle.json_names.proofs.Laws.{fault-step, fault-none}
+use Rattle.json_walk.proofs.Walks.{members-one, members-end, elements-one, elements-end, elements-none}
 use Prim.Native.Nat.{ℕ, _<_}
 use borrow.Fn.Kinds.{In}
 use borrow.Fn.PlainCycle.{Measures, is, falls, and}

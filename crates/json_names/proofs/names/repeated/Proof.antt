@@ -1,5 +1,5 @@
-use Rattle.json_names.proofs.Laws.{members-one, members-end}
-use Rattle.json_names.proofs.Laws.{members-none}
+use Rattle.json_walk.proofs.Walks.{members-one, members-end}
+use Rattle.json_walk.proofs.Walks.{members-none}
 use Rattle.json_names.specs.Names.{repeats}
 use Rattle.json_walk.specs.Walk.{membersFrom, membersOf}
 use borrow.Author.Needs.{needs}

@@ -11,10 +11,10 @@ use Rattle.json_text.proofs.bytes.byte.Reads as byte-reads
 use Rattle.json_walk.proofs.strings.step.Reads as step-reads
 
 abbrev Inv-loop : tie.InvT-loop
-Inv-loop text a b count i₀ j₀ n₀ i j n = same (bytesAt n text i) (bytesAt n text j) ≡ same (bytesAt count text a) (bytesAt count text b)
+Inv-loop text a other b count i₀ j₀ n₀ i j n = same (bytesAt n text i) (bytesAt n other j) ≡ same (bytesAt count text a) (bytesAt count other b)
 
 abbrev μ-loop : tie.MeasureT-loop
-μ-loop text a b count i₀ j₀ n₀ i j n = n
+μ-loop text a other b count i₀ j₀ n₀ i j n = n
 
 -- src/strings.rt:37:5
 loop-holds : tie.Need-loop-holds Inv-loop μ-loop
