@@ -2,3 +2,4 @@
 // be JSON.
 pub mod faults;
 pub mod names;
+pub mod order;

@@ -61,7 +61,7 @@ same-unlike [] (b ∷ y) h = refl
 same-unlike (a ∷ x) [] h = refl
 same-unlike (a ∷ x) (b ∷ y) h = rw (same-unlike x y (λ e. h (ap suc e))) (both (eqb a b))
 
-length-bytes : (n : ℕ) (s : List ℕ) (i : ℕ) → length (bytesAt n s i) ≡ n
+pub length-bytes : (n : ℕ) (s : List ℕ) (i : ℕ) → length (bytesAt n s i) ≡ n
 unfolding bytesAt
 length-bytes zero s i = refl
 length-bytes (suc n) s i = ap suc (length-bytes n s (i + 1))
