@@ -3,3 +3,4 @@
 pub mod faults;
 pub mod names;
 pub mod order;
+pub mod sorted;
