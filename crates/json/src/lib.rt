@@ -1,0 +1,3 @@
+// The strict reader: judges a text by answers 1 to 4.
+pub mod answer;
+pub mod surrogates;

@@ -1,0 +1,641 @@
+use Prim.Native.Nat.{_*_, _+_}
+use Rattle.json_names.proofs.Laws.{fault-none, fault-step}
+use Rattle.json_walk.proofs.Walks.{members-none}
+use Rattle.json_names.specs.Names.{anyElement, anyMember, faultAt, objectFault}
+use Rattle.json_walk.specs.Walk.{elementsFrom, elementsOf, membersFrom, membersOf}
+use borrow.Author.Needs.{needs}
+use borrow.Author.Tests.{eq-eqb, ne-eqb}
+use mathlib.Core.Path.{_≡_}
+use Rattle.json_walk.specs.Walk.{membersFrom, membersOf, elementsFrom, elementsOf}
+use Rattle.json_names.proofs.Laws.{fault-step, fault-none}
+use Rattle.json_walk.proofs.Walks.{members-one, members-end, elements-one, elements-end, elements-none}
+use Prim.Native.Nat.{ℕ, _<_}
+use borrow.Fn.Kinds.{In}
+use borrow.Fn.PlainCycle.{Measures, is, falls, and}
+use Rattle.json_names.proofs.faults.array.Reads as array
+use Rattle.json_names.proofs.faults.array.Kinds as array-kinds
+use Rattle.json_names.proofs.faults.+array+fault+object.Lts-array as array-lts
+use Rattle.json_names.proofs.faults.fault.Reads as fault
+use Rattle.json_names.proofs.faults.fault.Kinds as fault-kinds
+use Rattle.json_names.proofs.faults.+array+fault+object.Lts-fault as fault-lts
+use Rattle.json_names.proofs.faults.object.Reads as object
+use Rattle.json_names.proofs.faults.object.Kinds as object-kinds
+use Rattle.json_names.proofs.faults.+array+fault+object.Lts-object as object-lts
+use Rattle.json_names.proofs.names.bad_names.Reads as bad-names-reads
+use Rattle.json_text.proofs.bytes.byte.Reads as byte-reads
+use Rattle.json_walk.proofs.arrays.first_element.Reads as first-element-reads
+use Rattle.json_walk.proofs.arrays.next_element.Reads as next-element-reads
+use Rattle.json_walk.proofs.objects.first_member.Reads as first-member-reads
+use Rattle.json_walk.proofs.objects.next_member.Reads as next-member-reads
+use Rattle.json_names.proofs.faults.+array+fault+object.{statement}
+use Rattle.json_names.proofs.faults.+array+fault+object.Tie.{close}
+
+abbrev μ-array : Measures 1 array-kinds.ps ℕ
+μ-array κs a = 2 * a .1 .1 .0 + 1
+
+abbrev μ-fault : Measures 1 fault-kinds.ps ℕ
+μ-fault κs a = 2 * a .1 .1 .0
+
+abbrev μ-object : Measures 1 object-kinds.ps ℕ
+μ-object κs a = 2 * a .1 .1 .0 + 1
+
+abbrev array-at : ℕ → In 1 array-kinds.ps
+array-at t = and 1 array-kinds.ps (is 1 array-kinds.ps μ-array t) array.Pre
+
+abbrev array-below : ℕ → In 1 array-kinds.ps
+array-below t = and 1 array-kinds.ps (falls 1 array-kinds.ps _<_ μ-array t) array.Pre
+
+abbrev fault-at : ℕ → In 1 fault-kinds.ps
+fault-at t = and 1 fault-kinds.ps (is 1 fault-kinds.ps μ-fault t) fault.Pre
+
+abbrev fault-below : ℕ → In 1 fault-kinds.ps
+fault-below t = and 1 fault-kinds.ps (falls 1 fault-kinds.ps _<_ μ-fault t) fault.Pre
+
+abbrev object-at : ℕ → In 1 object-kinds.ps
+object-at t = and 1 object-kinds.ps (is 1 object-kinds.ps μ-object t) object.Pre
+
+abbrev object-below : ℕ → In 1 object-kinds.ps
+object-below t = and 1 object-kinds.ps (falls 1 object-kinds.ps _<_ μ-object t) object.Pre
+
+abbrev array-Inv-loop : array-lts.InvT-loop
+array-Inv-loop text at left step₀ n₀ step n = anyElement (λ v. faultAt left text v) (elementsFrom n text step) ≡ anyElement (λ v. faultAt left text v) (elementsOf text at)
+
+abbrev array-μ-loop : array-lts.MeasureT-loop
+array-μ-loop text at left step₀ n₀ step n = n
+
+-- src/faults.rt:61:9
+array-first-element-requires : (t : ℕ) → array-lts.Need-first-element-requires (
+  first-element-reads.Asked,
+  first-element-reads.Learnt,
+  fault-below t,
+  fault.Post,
+  next-element-reads.Asked,
+  next-element-reads.Learnt,
+) (array-at t) array.Post array-Inv-loop array-μ-loop
+array-first-element-requires t c κs = search needs
+
+-- src/faults.rt:63:5
+array-loop-holds : (t : ℕ) → array-lts.Need-loop-holds (
+  first-element-reads.Asked,
+  first-element-reads.Learnt,
+  fault-below t,
+  fault.Post,
+  next-element-reads.Asked,
+  next-element-reads.Learnt,
+) (array-at t) array.Post array-Inv-loop array-μ-loop
+unfolding anyElement elementsOf
+array-loop-holds t c = rw (← (c .first-element .ensures))
+
+-- src/faults.rt:65:31
+array-enum-known-step : (t : ℕ) → array-lts.Need-enum-known-step (
+  first-element-reads.Asked,
+  first-element-reads.Learnt,
+  fault-below t,
+  fault.Post,
+  next-element-reads.Asked,
+  next-element-reads.Learnt,
+) (array-at t) array.Post array-Inv-loop array-μ-loop
+array-enum-known-step t c = search needs
+
+-- src/faults.rt:66:20
+array-fault-requires : (t : ℕ) → array-lts.Need-fault-requires (
+  first-element-reads.Asked,
+  first-element-reads.Learnt,
+  fault-below t,
+  fault.Post,
+  next-element-reads.Asked,
+  next-element-reads.Learnt,
+) (array-at t) array.Post array-Inv-loop array-μ-loop
+array-fault-requires t c κs = search needs
+
+-- src/faults.rt:67:21
+array-returns : (t : ℕ) → array-lts.Need-returns (
+  first-element-reads.Asked,
+  first-element-reads.Learnt,
+  fault-below t,
+  fault.Post,
+  next-element-reads.Asked,
+  next-element-reads.Learnt,
+) (array-at t) array.Post array-Inv-loop array-μ-loop
+unfolding anyElement elementsOf
+array-returns t c =
+    rw (
+      ← (c .before .before .before .before .before .before .loop .inv),
+      c .before .before .before .step .given .1,
+      elements-one _ (c .before .before .before .before .before .loop-test .taken),
+      ← (c .before .fault .ensures),
+      c .if1 .taken,
+    )
+
+-- src/faults.rt:69:17
+array-next-element-requires : (t : ℕ) → array-lts.Need-next-element-requires (
+  first-element-reads.Asked,
+  first-element-reads.Learnt,
+  fault-below t,
+  fault.Post,
+  next-element-reads.Asked,
+  next-element-reads.Learnt,
+) (array-at t) array.Post array-Inv-loop array-μ-loop
+array-next-element-requires t c κs = search needs
+
+-- src/faults.rt:71:34
+array-enum-told : (t : ℕ) → array-lts.Need-enum-told (
+  first-element-reads.Asked,
+  first-element-reads.Learnt,
+  fault-below t,
+  fault.Post,
+  next-element-reads.Asked,
+  next-element-reads.Learnt,
+) (array-at t) array.Post array-Inv-loop array-μ-loop
+array-enum-told t c = search needs
+
+-- src/faults.rt:71:34
+array-returns-2 : (t : ℕ) → array-lts.Need-returns-2 (
+  first-element-reads.Asked,
+  first-element-reads.Learnt,
+  fault-below t,
+  fault.Post,
+  next-element-reads.Asked,
+  next-element-reads.Learnt,
+) (array-at t) array.Post array-Inv-loop array-μ-loop
+unfolding anyElement elementsOf
+array-returns-2 t c =
+    rw (
+      ← (c .before .before .before .loop .inv),
+      c .enum-told .given .1,
+      elements-end,
+    )
+
+-- src/faults.rt:73:9
+array-sub-n : (t : ℕ) → array-lts.Need-sub-n (
+  first-element-reads.Asked,
+  first-element-reads.Learnt,
+  fault-below t,
+  fault.Post,
+  next-element-reads.Asked,
+  next-element-reads.Learnt,
+) (array-at t) array.Post array-Inv-loop array-μ-loop
+array-sub-n t c = search needs
+
+-- src/faults.rt:63:5
+array-loop-less : (t : ℕ) → array-lts.Need-loop-less (
+  first-element-reads.Asked,
+  first-element-reads.Learnt,
+  fault-below t,
+  fault.Post,
+  next-element-reads.Asked,
+  next-element-reads.Learnt,
+) (array-at t) array.Post array-Inv-loop array-μ-loop
+array-loop-less t c = search needs
+
+-- src/faults.rt:63:5
+array-loop-again : (t : ℕ) → array-lts.Need-loop-again (
+  first-element-reads.Asked,
+  first-element-reads.Learnt,
+  fault-below t,
+  fault.Post,
+  next-element-reads.Asked,
+  next-element-reads.Learnt,
+) (array-at t) array.Post array-Inv-loop array-μ-loop
+unfolding anyElement elementsOf
+array-loop-again t c =
+    rw (
+      ← (c .before .before .before .before .before .before .before .loop .inv),
+      c .before .before .before .before .step .given .1,
+      elements-one _ (c .before .before .before .before .before .before .loop-test .taken),
+      ← (c .before .before .fault .ensures),
+      c .before .if1 .left,
+      ← (c .next-element .ensures),
+    )
+
+-- src/faults.rt:57:1
+array-returns-3 : (t : ℕ) → array-lts.Need-returns-3 (
+  first-element-reads.Asked,
+  first-element-reads.Learnt,
+  fault-below t,
+  fault.Post,
+  next-element-reads.Asked,
+  next-element-reads.Learnt,
+) (array-at t) array.Post array-Inv-loop array-μ-loop
+unfolding anyElement elementsOf
+array-returns-3 t c =
+    rw (
+      ← (c .before .loop .inv),
+      elements-none _ (c .loop-test .left),
+    )
+
+-- src/faults.rt:19:9
+fault-returns : (t : ℕ) → fault-lts.Need-returns (
+  byte-reads.Asked,
+  byte-reads.Learnt,
+  bad-names-reads.Asked,
+  bad-names-reads.Learnt,
+  object-below t,
+  object.Post,
+  array-below t,
+  array.Post,
+) (fault-at t) fault.Post
+unfolding objectFault
+fault-returns t c = rw (fault-none _ (c .if1 .taken))
+
+-- src/faults.rt:21:9
+fault-byte-requires : (t : ℕ) → fault-lts.Need-byte-requires (
+  byte-reads.Asked,
+  byte-reads.Learnt,
+  bad-names-reads.Asked,
+  bad-names-reads.Learnt,
+  object-below t,
+  object.Post,
+  array-below t,
+  array.Post,
+) (fault-at t) fault.Post
+fault-byte-requires t c κs = search needs
+
+-- src/faults.rt:23:12
+fault-bad-names-requires : (t : ℕ) → fault-lts.Need-bad-names-requires (
+  byte-reads.Asked,
+  byte-reads.Learnt,
+  bad-names-reads.Asked,
+  bad-names-reads.Learnt,
+  object-below t,
+  object.Post,
+  array-below t,
+  array.Post,
+) (fault-at t) fault.Post
+fault-bad-names-requires t c κs = search needs
+
+-- src/faults.rt:24:13
+fault-returns-2 : (t : ℕ) → fault-lts.Need-returns-2 (
+  byte-reads.Asked,
+  byte-reads.Learnt,
+  bad-names-reads.Asked,
+  bad-names-reads.Learnt,
+  object-below t,
+  object.Post,
+  array-below t,
+  array.Post,
+) (fault-at t) fault.Post
+unfolding objectFault
+fault-returns-2 t c =
+    rw (
+      fault-step _ (c .before .before .before .before .if1 .left),
+      ← (c .before .before .before .byte .ensures .is),
+      eq-eqb _ _ (c .before .before .if2 .taken),
+      ← (c .before .bad-names .ensures),
+      c .if3 .taken,
+    )
+
+-- src/faults.rt:26:33
+fault-sub-object : (t : ℕ) → fault-lts.Need-sub-object (
+  byte-reads.Asked,
+  byte-reads.Learnt,
+  bad-names-reads.Asked,
+  bad-names-reads.Learnt,
+  object-below t,
+  object.Post,
+  array-below t,
+  array.Post,
+) (fault-at t) fault.Post
+fault-sub-object t c = search needs
+
+-- src/faults.rt:26:9
+fault-object-requires : (t : ℕ) → fault-lts.Need-object-requires (
+  byte-reads.Asked,
+  byte-reads.Learnt,
+  bad-names-reads.Asked,
+  bad-names-reads.Learnt,
+  object-below t,
+  object.Post,
+  array-below t,
+  array.Post,
+) (fault-at t) fault.Post
+fault-object-requires t c κs = search needs
+
+-- src/faults.rt:26:9
+fault-returns-3 : (t : ℕ) → fault-lts.Need-returns-3 (
+  byte-reads.Asked,
+  byte-reads.Learnt,
+  bad-names-reads.Asked,
+  bad-names-reads.Learnt,
+  object-below t,
+  object.Post,
+  array-below t,
+  array.Post,
+) (fault-at t) fault.Post
+unfolding objectFault
+fault-returns-3 t c =
+    rw (
+      fault-step _ (c .before .before .before .before .before .if1 .left),
+      ← (c .before .before .before .before .byte .ensures .is),
+      eq-eqb _ _ (c .before .before .before .if2 .taken),
+      ← (c .before .before .bad-names .ensures),
+      c .before .if3 .left,
+      ← (c .object .ensures),
+    )
+
+-- src/faults.rt:29:32
+fault-sub-array : (t : ℕ) → fault-lts.Need-sub-array (
+  byte-reads.Asked,
+  byte-reads.Learnt,
+  bad-names-reads.Asked,
+  bad-names-reads.Learnt,
+  object-below t,
+  object.Post,
+  array-below t,
+  array.Post,
+) (fault-at t) fault.Post
+fault-sub-array t c = search needs
+
+-- src/faults.rt:29:9
+fault-array-requires : (t : ℕ) → fault-lts.Need-array-requires (
+  byte-reads.Asked,
+  byte-reads.Learnt,
+  bad-names-reads.Asked,
+  bad-names-reads.Learnt,
+  object-below t,
+  object.Post,
+  array-below t,
+  array.Post,
+) (fault-at t) fault.Post
+fault-array-requires t c κs = search needs
+
+-- src/faults.rt:29:9
+fault-returns-4 : (t : ℕ) → fault-lts.Need-returns-4 (
+  byte-reads.Asked,
+  byte-reads.Learnt,
+  bad-names-reads.Asked,
+  bad-names-reads.Learnt,
+  object-below t,
+  object.Post,
+  array-below t,
+  array.Post,
+) (fault-at t) fault.Post
+unfolding objectFault
+fault-returns-4 t c =
+    rw (
+      fault-step _ (c .before .before .before .before .if1 .left),
+      ← (c .before .before .before .byte .ensures .is),
+      ne-eqb _ _ (c .before .before .if2 .left),
+      eq-eqb _ _ (c .before .if4 .taken),
+      ← (c .array .ensures),
+    )
+
+-- src/faults.rt:15:1
+fault-returns-5 : (t : ℕ) → fault-lts.Need-returns-5 (
+  byte-reads.Asked,
+  byte-reads.Learnt,
+  bad-names-reads.Asked,
+  bad-names-reads.Learnt,
+  object-below t,
+  object.Post,
+  array-below t,
+  array.Post,
+) (fault-at t) fault.Post
+unfolding objectFault
+fault-returns-5 t c =
+    rw (
+      fault-step _ (c .before .before .before .if1 .left),
+      ← (c .before .before .byte .ensures .is),
+      ne-eqb _ _ (c .before .if2 .left),
+      ne-eqb _ _ (c .if4 .left),
+    )
+
+abbrev object-Inv-loop : object-lts.InvT-loop
+object-Inv-loop text at left step₀ n₀ step n = anyMember (λ v. faultAt left text v) (membersFrom n text step) ≡ anyMember (λ v. faultAt left text v) (membersOf text at)
+
+abbrev object-μ-loop : object-lts.MeasureT-loop
+object-μ-loop text at left step₀ n₀ step n = n
+
+-- src/faults.rt:39:9
+object-first-member-requires : (t : ℕ) → object-lts.Need-first-member-requires (
+  first-member-reads.Asked,
+  first-member-reads.Learnt,
+  fault-below t,
+  fault.Post,
+  next-member-reads.Asked,
+  next-member-reads.Learnt,
+) (object-at t) object.Post object-Inv-loop object-μ-loop
+object-first-member-requires t c κs = search needs
+
+-- src/faults.rt:41:5
+object-loop-holds : (t : ℕ) → object-lts.Need-loop-holds (
+  first-member-reads.Asked,
+  first-member-reads.Learnt,
+  fault-below t,
+  fault.Post,
+  next-member-reads.Asked,
+  next-member-reads.Learnt,
+) (object-at t) object.Post object-Inv-loop object-μ-loop
+unfolding anyMember membersOf
+object-loop-holds t c = rw (← (c .first-member .ensures))
+
+-- src/faults.rt:43:29
+object-enum-known-step : (t : ℕ) → object-lts.Need-enum-known-step (
+  first-member-reads.Asked,
+  first-member-reads.Learnt,
+  fault-below t,
+  fault.Post,
+  next-member-reads.Asked,
+  next-member-reads.Learnt,
+) (object-at t) object.Post object-Inv-loop object-μ-loop
+object-enum-known-step t c = search needs
+
+-- src/faults.rt:44:20
+object-fault-requires : (t : ℕ) → object-lts.Need-fault-requires (
+  first-member-reads.Asked,
+  first-member-reads.Learnt,
+  fault-below t,
+  fault.Post,
+  next-member-reads.Asked,
+  next-member-reads.Learnt,
+) (object-at t) object.Post object-Inv-loop object-μ-loop
+object-fault-requires t c κs = search needs
+
+-- src/faults.rt:45:21
+object-returns : (t : ℕ) → object-lts.Need-returns (
+  first-member-reads.Asked,
+  first-member-reads.Learnt,
+  fault-below t,
+  fault.Post,
+  next-member-reads.Asked,
+  next-member-reads.Learnt,
+) (object-at t) object.Post object-Inv-loop object-μ-loop
+unfolding anyMember membersOf
+object-returns t c =
+    rw (
+      ← (c .before .before .before .before .before .before .loop .inv),
+      c .before .before .before .step .given .1,
+      members-one _ (c .before .before .before .before .before .loop-test .taken),
+      ← (c .before .fault .ensures),
+      c .if1 .taken,
+    )
+
+-- src/faults.rt:47:17
+object-next-member-requires : (t : ℕ) → object-lts.Need-next-member-requires (
+  first-member-reads.Asked,
+  first-member-reads.Learnt,
+  fault-below t,
+  fault.Post,
+  next-member-reads.Asked,
+  next-member-reads.Learnt,
+) (object-at t) object.Post object-Inv-loop object-μ-loop
+object-next-member-requires t c κs = search needs
+
+-- src/faults.rt:49:32
+object-enum-told : (t : ℕ) → object-lts.Need-enum-told (
+  first-member-reads.Asked,
+  first-member-reads.Learnt,
+  fault-below t,
+  fault.Post,
+  next-member-reads.Asked,
+  next-member-reads.Learnt,
+) (object-at t) object.Post object-Inv-loop object-μ-loop
+object-enum-told t c = search needs
+
+-- src/faults.rt:49:32
+object-returns-2 : (t : ℕ) → object-lts.Need-returns-2 (
+  first-member-reads.Asked,
+  first-member-reads.Learnt,
+  fault-below t,
+  fault.Post,
+  next-member-reads.Asked,
+  next-member-reads.Learnt,
+) (object-at t) object.Post object-Inv-loop object-μ-loop
+unfolding anyMember membersOf
+object-returns-2 t c =
+    rw (
+      ← (c .before .before .before .loop .inv),
+      c .enum-told .given .1,
+      members-end,
+    )
+
+-- src/faults.rt:51:9
+object-sub-n : (t : ℕ) → object-lts.Need-sub-n (
+  first-member-reads.Asked,
+  first-member-reads.Learnt,
+  fault-below t,
+  fault.Post,
+  next-member-reads.Asked,
+  next-member-reads.Learnt,
+) (object-at t) object.Post object-Inv-loop object-μ-loop
+object-sub-n t c = search needs
+
+-- src/faults.rt:41:5
+object-loop-less : (t : ℕ) → object-lts.Need-loop-less (
+  first-member-reads.Asked,
+  first-member-reads.Learnt,
+  fault-below t,
+  fault.Post,
+  next-member-reads.Asked,
+  next-member-reads.Learnt,
+) (object-at t) object.Post object-Inv-loop object-μ-loop
+object-loop-less t c = search needs
+
+-- src/faults.rt:41:5
+object-loop-again : (t : ℕ) → object-lts.Need-loop-again (
+  first-member-reads.Asked,
+  first-member-reads.Learnt,
+  fault-below t,
+  fault.Post,
+  next-member-reads.Asked,
+  next-member-reads.Learnt,
+) (object-at t) object.Post object-Inv-loop object-μ-loop
+unfolding anyMember membersOf
+object-loop-again t c =
+    rw (
+      ← (c .before .before .before .before .before .before .before .loop .inv),
+      c .before .before .before .before .step .given .1,
+      members-one _ (c .before .before .before .before .before .before .loop-test .taken),
+      ← (c .before .before .fault .ensures),
+      c .before .if1 .left,
+      ← (c .next-member .ensures),
+    )
+
+-- src/faults.rt:35:1
+object-returns-3 : (t : ℕ) → object-lts.Need-returns-3 (
+  first-member-reads.Asked,
+  first-member-reads.Learnt,
+  fault-below t,
+  fault.Post,
+  next-member-reads.Asked,
+  next-member-reads.Learnt,
+) (object-at t) object.Post object-Inv-loop object-μ-loop
+unfolding anyMember membersOf
+object-returns-3 t c =
+    rw (
+      ← (c .before .loop .inv),
+      members-none _ (c .loop-test .left),
+    )
+
+pub +array+fault+object-spec : {M : Type 1} → statement M
++array+fault+object-spec = close μ-array μ-fault μ-object (λ t. array-lts.spec (
+  first-element-reads.Asked,
+  first-element-reads.Learnt,
+  fault-below t,
+  fault.Post,
+  next-element-reads.Asked,
+  next-element-reads.Learnt,
+)
+    (array-at t)
+    array.Post
+    array-Inv-loop
+    array-μ-loop
+    (array-first-element-requires t)
+    (array-loop-holds t)
+    (array-enum-known-step t)
+    (array-fault-requires t)
+    (array-returns t)
+    (array-next-element-requires t)
+    (array-enum-told t)
+    (array-returns-2 t)
+    (array-sub-n t)
+    (array-loop-less t)
+    (array-loop-again t)
+    (array-returns-3 t))
+    (λ t. fault-lts.spec (
+      byte-reads.Asked,
+      byte-reads.Learnt,
+      bad-names-reads.Asked,
+      bad-names-reads.Learnt,
+      object-below t,
+      object.Post,
+      array-below t,
+      array.Post,
+    )
+    (fault-at t)
+    fault.Post
+    (fault-returns t)
+    (fault-byte-requires t)
+    (fault-bad-names-requires t)
+    (fault-returns-2 t)
+    (fault-sub-object t)
+    (fault-object-requires t)
+    (fault-returns-3 t)
+    (fault-sub-array t)
+    (fault-array-requires t)
+    (fault-returns-4 t)
+    (fault-returns-5 t))
+    λ t. object-lts.spec (
+      first-member-reads.Asked,
+      first-member-reads.Learnt,
+      fault-below t,
+      fault.Post,
+      next-member-reads.Asked,
+      next-member-reads.Learnt,
+    )
+    (object-at t)
+    object.Post
+    object-Inv-loop
+    object-μ-loop
+    (object-first-member-requires t)
+    (object-loop-holds t)
+    (object-enum-known-step t)
+    (object-fault-requires t)
+    (object-returns t)
+    (object-next-member-requires t)
+    (object-enum-told t)
+    (object-returns-2 t)
+    (object-sub-n t)
+    (object-loop-less t)
+    (object-loop-again t)
+    (object-returns-3 t)

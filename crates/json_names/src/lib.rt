@@ -1,0 +1,6 @@
+// Member names: no two equal ones in an object, and no backslash in any, in every object of a text that is known to
+// be JSON.
+pub mod faults;
+pub mod names;
+pub mod order;
+pub mod sorted;

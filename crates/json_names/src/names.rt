@@ -1,0 +1,88 @@
+// The names of one object.
+ghost use mathlib.Core.Path.{_≡_};
+ghost use Prim.Native.Nat.{_<_};
+ghost use lib.ListN.{length};
+ghost use Rattle.json_walk.specs.Walk.{membersFrom, membersOf, nextMemberAt};
+ghost use Rattle.json_walk.specs.Strings.{rawAt};
+ghost use Rattle.json_names.specs.Names.{named, repeats, anySlashed, badNames};
+use json_walk::MemberStep;
+use json_walk::objects::first_member;
+use json_walk::objects::next_member;
+use json_walk::strings::has_backslash;
+use json_walk::strings::same_raw;
+
+// Has one of the next n members, behind a place, the name that stands from `name` to `stop`?
+pub fn among(text: &[u8], name: usize, stop: usize, at: usize, count: usize) -> bool
+    ensures { λ r. ⌜ r ≡ named (now (text .entry)) (rawAt (now (text .entry)) name stop) (membersFrom count (now (text .entry)) (nextMemberAt (now (text .entry)) at)) ⌝ }
+{
+    let mut step = next_member(text, at);
+    let mut n = count;
+    while 0 < n {
+        match step {
+            MemberStep::One(m) => {
+                if same_raw(text, name, stop, m.name, m.stop) {
+                    return true;
+                }
+                step = next_member(text, m.after);
+            }
+            MemberStep::End => return false,
+        }
+        n -= 1;
+    }
+    false
+}
+
+// Have two members equal names? Each name is compared with those behind it.
+pub fn repeated(text: &[u8], at: usize) -> bool
+    requires { ⌜ at < length (now text) ⌝ }
+    ensures { λ r. ⌜ r ≡ repeats (now (text .entry)) (membersOf (now (text .entry)) at) ⌝ }
+{
+    let mut step = first_member(text, at);
+    let mut n = text.len();
+    while 0 < n {
+        match step {
+            MemberStep::One(m) => {
+                if among(text, m.name, m.stop, m.after, n - 1) {
+                    return true;
+                }
+                step = next_member(text, m.after);
+            }
+            MemberStep::End => return false,
+        }
+        n -= 1;
+    }
+    false
+}
+
+// Has one of the names a backslash?
+pub fn slash_named(text: &[u8], at: usize) -> bool
+    requires { ⌜ at < length (now text) ⌝ }
+    ensures { λ r. ⌜ r ≡ anySlashed (now (text .entry)) (membersOf (now (text .entry)) at) ⌝ }
+{
+    let mut step = first_member(text, at);
+    let mut n = text.len();
+    while 0 < n {
+        match step {
+            MemberStep::One(m) => {
+                if has_backslash(text, m.name, m.stop) {
+                    return true;
+                }
+                step = next_member(text, m.after);
+            }
+            MemberStep::End => return false,
+        }
+        n -= 1;
+    }
+    false
+}
+
+// Are the names of the object at a place at fault?
+pub fn bad_names(text: &[u8], at: usize) -> bool
+    requires { ⌜ at < length (now text) ⌝ }
+    ensures { λ r. ⌜ r ≡ badNames (now (text .entry)) (membersOf (now (text .entry)) at) ⌝ }
+{
+    if slash_named(text, at) {
+        return true;
+    }
+    repeated(text, at)
+}

@@ -1,0 +1,154 @@
+// Equal names by sorting. How the entries came to be sorted is not relied on: what they show is checked, and where
+// they show nothing each name is compared with each. So a fault in the sorting costs time and no answer.
+ghost use mathlib.Core.Path.{_≡_};
+ghost use mathlib.Core.Bool.{true};
+ghost use Prim.Native.Nat.{_-_, _<_};
+ghost use lib.ListN.{length, getD};
+ghost use Rattle.json_walk.specs.Walk.{membersOf};
+ghost use Rattle.json_names.specs.Names.{repeats};
+ghost use Rattle.json_names.specs.Order.{Covered, Rising};
+use crate::names::among;
+use crate::names::repeated;
+use crate::order::entry_before;
+use crate::order::name_of;
+use crate::order::raw_before;
+use crate::order::stop_of;
+use json_walk::MemberStep;
+use json_walk::objects::first_member;
+use json_walk::objects::next_member;
+
+// The entry at an index; 0 past the end.
+pub fn entry(order: &[u64], i: usize) -> u64
+    ensures { λ r. ⌜ r ≡ getD (now (order .entry)) i 0 ⌝ }
+{
+    if i < order.len() {
+        return order[i];
+    }
+    0
+}
+
+// The difference, and 0 where it would be below 0.
+pub fn minus(a: usize, b: usize) -> usize
+    ensures { λ r. ⌜ r ≡ a - b ⌝ }
+{
+    if a < b {
+        return 0;
+    }
+    a - b
+}
+
+// How many of the first entries come before the next one.
+pub fn rising(text: &[u8], order: &[u64], k: usize) -> usize
+    ensures { λ r. ⌜ Rising (now (text .entry)) (now (order .entry)) r ⌝ }
+{
+    let mut i = 0;
+    while i < k {
+        if k - i < 2 {
+            return i;
+        }
+        if !entry_before(text, entry(order, i), entry(order, i + 1)) {
+            return i;
+        }
+        i += 1;
+    }
+    i
+}
+
+// Where a name belongs among the first k entries, by halving.
+pub fn locate(text: &[u8], order: &[u64], k: usize, a: usize, d: usize) -> usize {
+    let mut low = 0;
+    let mut high = k;
+    let mut n: usize = 64;
+    while 0 < n {
+        if high <= low {
+            return low;
+        }
+        n -= 1;
+        let middle = low + (high - low) / 2;
+        let e = entry(order, middle);
+        if raw_before(text, name_of(e), stop_of(e), a, d) {
+            low = middle + 1;
+        } else {
+            high = middle;
+        }
+    }
+    low
+}
+
+// Are all names of the object at a place among the first k entries?
+pub fn covered(text: &[u8], at: usize, order: &[u64], k: usize) -> bool
+    requires { ⌜ at < length (now text) ⌝ }
+    ensures { λ r. ⌜ (r ≡ true → Covered (now (order .entry)) k at (membersOf (now (text .entry)) at)) ⌝ }
+{
+    let mut step = first_member(text, at);
+    let mut last = at;
+    let mut n = text.len();
+    while 0 < n {
+        match step {
+            MemberStep::One(m) => {
+                let t = locate(text, order, k, m.name, m.stop);
+                let e = entry(order, t);
+                if m.name <= last {
+                    return false;
+                }
+                if k <= t {
+                    return false;
+                }
+                if name_of(e) != m.name {
+                    return false;
+                }
+                if stop_of(e) != m.stop {
+                    return false;
+                }
+                last = m.name;
+                step = next_member(text, m.after);
+            }
+            MemberStep::End => return true,
+        }
+        n -= 1;
+    }
+    true
+}
+
+// Does the name that stands at a place come again, in the object at a place?
+pub fn again(text: &[u8], at: usize, name: usize) -> bool
+    requires { ⌜ at < length (now text) ⌝ }
+    ensures { λ r. ⌜ (r ≡ true → repeats (now (text .entry)) (membersOf (now (text .entry)) at) ≡ true) ⌝ }
+{
+    let mut step = first_member(text, at);
+    let mut n = text.len();
+    while 0 < n {
+        match step {
+            MemberStep::One(m) => {
+                if m.name == name {
+                    return among(text, m.name, m.stop, m.after, n - 1);
+                }
+                step = next_member(text, m.after);
+            }
+            MemberStep::End => return false,
+        }
+        n -= 1;
+    }
+    false
+}
+
+// Have two members equal names? By k entries that should be all names, sorted.
+pub fn judge(text: &[u8], at: usize, order: &[u64], k: usize) -> bool
+    requires { ⌜ at < length (now text) ⌝ }
+    ensures { λ r. ⌜ r ≡ repeats (now (text .entry)) (membersOf (now (text .entry)) at) ⌝ }
+{
+    let r = rising(text, order, k);
+    if 1 < minus(k, r) {
+        if again(text, at, name_of(entry(order, r))) {
+            return true;
+        }
+        if again(text, at, name_of(entry(order, r + 1))) {
+            return true;
+        }
+        return repeated(text, at);
+    }
+    if covered(text, at, order, k) {
+        return false;
+    }
+    repeated(text, at)
+}

@@ -1,0 +1,99 @@
+use Rattle.json_text.specs.Strings.{isEscaped}
+use borrow.Author.Tests.{eq-eqb, ne-eqb}
+use Rattle.json_text.proofs.strings.is_escaped.Statement.{statement}
+use Rattle.json_text.proofs.strings.is_escaped.Tie as tie
+use Rattle.json_text.proofs.strings.is_escaped.Reads as reads
+use Rattle.json_text.proofs.strings.is_escaped.Lts as lts
+
+-- src/strings.rt:49:9
+returns : tie.Need-returns
+unfolding isEscaped
+returns c = rw (eq-eqb _ _ (c .if1 .taken))
+
+-- src/strings.rt:52:9
+returns-2 : tie.Need-returns-2
+unfolding isEscaped
+returns-2 c =
+    rw (
+      ne-eqb _ _ (c .before .if1 .left),
+      eq-eqb _ _ (c .if2 .taken),
+    )
+
+-- src/strings.rt:55:9
+returns-3 : tie.Need-returns-3
+unfolding isEscaped
+returns-3 c =
+    rw (
+      ne-eqb _ _ (c .before .before .if1 .left),
+      ne-eqb _ _ (c .before .if2 .left),
+      eq-eqb _ _ (c .if3 .taken),
+    )
+
+-- src/strings.rt:58:9
+returns-4 : tie.Need-returns-4
+unfolding isEscaped
+returns-4 c =
+    rw (
+      ne-eqb _ _ (c .before .before .before .if1 .left),
+      ne-eqb _ _ (c .before .before .if2 .left),
+      ne-eqb _ _ (c .before .if3 .left),
+      eq-eqb _ _ (c .if4 .taken),
+    )
+
+-- src/strings.rt:61:9
+returns-5 : tie.Need-returns-5
+unfolding isEscaped
+returns-5 c =
+    rw (
+      ne-eqb _ _ (c .before .before .before .before .if1 .left),
+      ne-eqb _ _ (c .before .before .before .if2 .left),
+      ne-eqb _ _ (c .before .before .if3 .left),
+      ne-eqb _ _ (c .before .if4 .left),
+      eq-eqb _ _ (c .if5 .taken),
+    )
+
+-- src/strings.rt:64:9
+returns-6 : tie.Need-returns-6
+unfolding isEscaped
+returns-6 c =
+    rw (
+      ne-eqb _ _ (c .before .before .before .before .before .if1 .left),
+      ne-eqb _ _ (c .before .before .before .before .if2 .left),
+      ne-eqb _ _ (c .before .before .before .if3 .left),
+      ne-eqb _ _ (c .before .before .if4 .left),
+      ne-eqb _ _ (c .before .if5 .left),
+      eq-eqb _ _ (c .if6 .taken),
+    )
+
+-- src/strings.rt:67:9
+returns-7 : tie.Need-returns-7
+unfolding isEscaped
+returns-7 c =
+    rw (
+      ne-eqb _ _ (c .before .before .before .before .before .before .if1 .left),
+      ne-eqb _ _ (c .before .before .before .before .before .if2 .left),
+      ne-eqb _ _ (c .before .before .before .before .if3 .left),
+      ne-eqb _ _ (c .before .before .before .if4 .left),
+      ne-eqb _ _ (c .before .before .if5 .left),
+      ne-eqb _ _ (c .before .if6 .left),
+      eq-eqb _ _ (c .if7 .taken),
+    )
+
+-- src/strings.rt:45:1
+returns-8 : tie.Need-returns-8
+unfolding isEscaped
+returns-8 c =
+    rw (
+      ne-eqb _ _ (c .before .before .before .before .before .before .if1 .left),
+      ne-eqb _ _ (c .before .before .before .before .before .if2 .left),
+      ne-eqb _ _ (c .before .before .before .before .if3 .left),
+      ne-eqb _ _ (c .before .before .before .if4 .left),
+      ne-eqb _ _ (c .before .before .if5 .left),
+      ne-eqb _ _ (c .before .if6 .left),
+      ne-eqb _ _ (c .if7 .left),
+    )
+
+pub is-escaped-spec : {M : Type 1} → statement M
+is-escaped-spec =
+    tie.close
+    (tie.spec returns returns-2 returns-3 returns-4 returns-5 returns-6 returns-7 returns-8)

@@ -1,0 +1,6 @@
+pub mod Choice
+pub mod Bytes
+pub mod Utf8
+pub mod Strings
+pub mod Numbers
+pub mod Words

@@ -1,0 +1,108 @@
+-- A JSON text as a tree of values. Each value has its kind and its place; a string and a name have the raw bytes
+-- between their quotes, a number its bytes.
+use Prim.Native.Nat.{ℕ, zero, suc, _+_, _-_}
+use mathlib.Core.Bool.{Bool, true, false}
+use mathlib.Core.List.{List, [], _∷_}
+use lib.Dec.{eqb}
+use Rattle.json_text.specs.Choice.{if_then_else_}
+use Rattle.json_text.specs.Bytes.{byte, spaceAt}
+use Rattle.json_text.specs.Strings.{stringAt}
+use Rattle.json_text.specs.Numbers.{numberAt}
+use Rattle.json_text.specs.declared.Read.{Read}
+use Rattle.json_text.specs.declared.Read.the-variants.{To, Bad, Deep}
+use Rattle.json_value.specs.Values.{levels}
+use Rattle.json_walk.specs.Walk.{membersOf, elementsOf}
+use Rattle.json_walk.specs.Strings.{bytesAt, rawAt}
+use Rattle.json_walk.specs.declared.Member.{Member}
+use Rattle.json_walk.specs.declared.Element.{Element}
+use Rattle.json_tree.specs.declared.Kind.{Kind}
+use Rattle.json_tree.specs.declared.Kind.the-variants as kind
+
+-- A value with its place; an object's field is a name with its place and its raw bytes, and a value.
+mutual
+  pub data Json : Type 0 where
+    nullAt : ℕ → Json
+    falseAt : ℕ → Json
+    trueAt : ℕ → Json
+    numberOf : ℕ → List ℕ → Json
+    stringOf : ℕ → List ℕ → Json
+    arrayOf : ℕ → Items → Json
+    objectOf : ℕ → Fields → Json
+
+  pub data Items : Type 0 where
+    noItem : Items
+    item : Json → Items → Items
+
+  pub data Fields : Type 0 where
+    noField : Fields
+    field : ℕ → List ℕ → Json → Fields → Fields
+
+-- The place behind what was read.
+abbrev pub endOf : Read → ℕ
+endOf (To j) = j
+endOf Bad = 0
+endOf Deep = 0
+
+-- A value that holds no other, by its first byte.
+unfoldable pub scalarTree : List ℕ → ℕ → Json
+scalarTree s i =
+    if eqb (byte s i) 0x22 then stringOf i (rawAt s i (endOf (stringAt s i))) else
+    if eqb (byte s i) 0x66 then falseAt i else
+    if eqb (byte s i) 0x6E then nullAt i else
+    if eqb (byte s i) 0x74 then trueAt i else
+    numberOf i (bytesAt (endOf (numberAt s i) - i) s i)
+
+-- The fields and items of members and elements, whose values are trees by their places.
+unfoldable pub fieldsOf : (ℕ → Json) → List ℕ → List Member → Fields
+fieldsOf tree s [] = noField
+fieldsOf tree s (m ∷ ms) = field (m .name) (rawAt s (m .name) (m .stop)) (tree (m .value)) (fieldsOf tree s ms)
+
+unfoldable pub itemsOf : (ℕ → Json) → List Element → Items
+itemsOf tree [] = noItem
+itemsOf tree (e ∷ es) = item (tree (e .value)) (itemsOf tree es)
+
+-- The value at i, where an object's fields and an array's items are given.
+unfoldable pub treeBy : Fields → Items → List ℕ → ℕ → Json
+treeBy fields items s i =
+    if eqb (byte s i) 0x7B then objectOf i fields else
+    if eqb (byte s i) 0x5B then arrayOf i items else
+    scalarTree s i
+
+-- The value at a place of a JSON text, so many levels deep.
+unfoldable pub treeAt : ℕ → List ℕ → ℕ → Json
+treeAt zero s i = treeBy noField noItem s i
+treeAt (suc l) s i = treeBy (fieldsOf (λ v. treeAt l s v) s (membersOf s i)) (itemsOf (λ v. treeAt l s v) (elementsOf s i)) s i
+
+-- The tree of a whole JSON text: no array or object of it lies deeper than 16 levels.
+unfoldable pub textTree : List ℕ → Json
+textTree s = treeAt levels s (spaceAt s 0)
+
+-- The kind and the place of a value.
+abbrev pub kindOf : Json → Kind
+kindOf (nullAt i) = kind.Null
+kindOf (falseAt i) = kind.False
+kindOf (trueAt i) = kind.True
+kindOf (numberOf i raw) = kind.Number
+kindOf (stringOf i raw) = kind.String
+kindOf (arrayOf i items) = kind.Array
+kindOf (objectOf i fields) = kind.Object
+
+abbrev pub placeOf : Json → ℕ
+placeOf (nullAt i) = i
+placeOf (falseAt i) = i
+placeOf (trueAt i) = i
+placeOf (numberOf i raw) = i
+placeOf (stringOf i raw) = i
+placeOf (arrayOf i items) = i
+placeOf (objectOf i fields) = i
+
+-- The kind of the value at a place, by its first byte.
+unfoldable pub kindAt : List ℕ → ℕ → Kind
+kindAt s i =
+    if eqb (byte s i) 0x7B then kind.Object else
+    if eqb (byte s i) 0x5B then kind.Array else
+    if eqb (byte s i) 0x22 then kind.String else
+    if eqb (byte s i) 0x66 then kind.False else
+    if eqb (byte s i) 0x6E then kind.Null else
+    if eqb (byte s i) 0x74 then kind.True else
+    kind.Number

@@ -1,0 +1,50 @@
+// The elements of an array, one after the other.
+ghost use mathlib.Core.Path.{_≡_};
+ghost use Prim.Native.Nat.{_<_};
+ghost use lib.ListN.{length};
+ghost use Rattle.json_walk.specs.Walk.{elementAt, firstElementAt, nextElementAt};
+use crate::Element;
+use crate::ElementStep;
+use json_text::Read;
+use json_value::Item;
+use json_value::items::after;
+use json_value::items::first;
+use json_value::values::value;
+use json_value::whole::LEVELS;
+
+// The element at a place.
+pub fn element(text: &[u8], at: usize) -> ElementStep
+    ensures { λ r. ⌜ r ≡ elementAt (now (text .entry)) at ⌝ }
+{
+    match value(text, at, LEVELS) {
+        Read::To(e) => ElementStep::Next(Element {
+            value: at,
+            after: e,
+        }),
+        Read::Bad => ElementStep::Stop,
+        Read::Deep => ElementStep::Stop,
+    }
+}
+
+// The first element of the array whose bracket stands at a place.
+pub fn first_element(text: &[u8], at: usize) -> ElementStep
+    requires { ⌜ at < length (now text) ⌝ }
+    ensures { λ r. ⌜ r ≡ firstElementAt (now (text .entry)) at ⌝ }
+{
+    match first(text, at + 1, 0x5D) {
+        Item::More(k) => element(text, k),
+        Item::Done(_) => ElementStep::Stop,
+        Item::Wrong => ElementStep::Stop,
+    }
+}
+
+// The element behind one that ends at a place.
+pub fn next_element(text: &[u8], at: usize) -> ElementStep
+    ensures { λ r. ⌜ r ≡ nextElementAt (now (text .entry)) at ⌝ }
+{
+    match after(text, at, 0x5D) {
+        Item::More(k) => element(text, k),
+        Item::Done(_) => ElementStep::Stop,
+        Item::Wrong => ElementStep::Stop,
+    }
+}

@@ -1,0 +1,32 @@
+// Walks through a text that is known to be JSON, by place: the members of an object, the elements of an array, the
+// bytes of a string. Every function is total: where the text is not JSON a walk just ends.
+pub mod arrays;
+pub mod objects;
+pub mod strings;
+
+// A member of an object: the place of its name, that is of the opening quote; the place behind the closing quote; the
+// place of the value; and the place behind the value.
+pub struct Member {
+    pub name: usize,
+    pub stop: usize,
+    pub value: usize,
+    pub after: usize,
+}
+
+// A step of a walk over members.
+pub enum MemberStep {
+    One(Member),
+    End,
+}
+
+// An element of an array: the place of the value, and the place behind it.
+pub struct Element {
+    pub value: usize,
+    pub after: usize,
+}
+
+// A step of a walk over elements.
+pub enum ElementStep {
+    Next(Element),
+    Stop,
+}
