@@ -21,7 +21,7 @@ use Rattle.json_names.proofs.faults.+array+fault+object.Lts-fault as fa
 use Rattle.json_names.proofs.faults.object.Reads as object
 use Rattle.json_names.proofs.faults.object.Kinds as object-kinds
 use Rattle.json_names.proofs.faults.+array+fault+object.Lts-object as object-lts
-use Rattle.json_names.proofs.names.bad_names.Reads as bad-names-reads
+use Rattle.json_names.proofs.duplicates.bad_names.Reads as bad-names-reads
 use Rattle.json_text.proofs.bytes.byte.Reads as byte-reads
 use Rattle.json_walk.proofs.arrays.first_element.Reads as first-element-reads
 use Rattle.json_walk.proofs.arrays.next_element.Reads as next-element-reads

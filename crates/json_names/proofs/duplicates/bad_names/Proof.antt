@@ -1,10 +1,10 @@
 use Rattle.json_names.specs.Names.{badNames}
 use borrow.Author.Needs.{needs}
-use Rattle.json_names.proofs.names.bad_names.Statement.{statement}
-use Rattle.json_names.proofs.names.bad_names.Tie as tie
-use Rattle.json_names.proofs.names.bad_names.Reads as reads
-use Rattle.json_names.proofs.names.bad_names.Lts as lts
-use Rattle.json_names.proofs.names.repeated.Reads as repeated-reads
+use Rattle.json_names.proofs.duplicates.bad_names.Statement.{statement}
+use Rattle.json_names.proofs.duplicates.bad_names.Tie as tie
+use Rattle.json_names.proofs.duplicates.bad_names.Reads as reads
+use Rattle.json_names.proofs.duplicates.bad_names.Lts as lts
+use Rattle.json_names.proofs.duplicates.repeated_any.Reads as repeated-any-reads
 use Rattle.json_names.proofs.names.slash_named.Reads as slash-named-reads
 
 -- src/names.rt:82:8
@@ -21,8 +21,8 @@ returns c =
     )
 
 -- src/names.rt:85:5
-repeated-requires : tie.Need-repeated-requires
-repeated-requires c κs = search needs
+repeated-any-requires : tie.Need-repeated-any-requires
+repeated-any-requires c κs = search needs
 
 -- src/names.rt:78:1
 returns-2 : tie.Need-returns-2
@@ -31,8 +31,8 @@ returns-2 c =
     rw (
       ← (c .before .before .slash-named .ensures),
       c .before .if1 .left,
-      ← (c .repeated .ensures),
+      ← (c .repeated-any .ensures),
     )
 
 pub bad-names-spec : {M : Type 1} → statement M
-bad-names-spec = tie.close (tie.spec slash-named-requires returns repeated-requires returns-2)
+bad-names-spec = tie.close (tie.spec slash-named-requires returns repeated-any-requires returns-2)
