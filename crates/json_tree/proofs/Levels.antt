@@ -47,7 +47,7 @@ unfolding membersAt
 members-keeps v w h zero s i = λ j e. e
 members-keeps v w h (suc n) s i =
     next-keeps (nameAt s i) (nameAt s i) _ _ (λ j e. e)
-      (λ a. next-keeps _ _ _ _ (h a) (λ k. item-keeps (afterAt 0x7D s k) _ _ (λ m. members-keeps v w h n s m)))
+    (λ a. next-keeps _ _ _ _ (h a) (λ k. item-keeps (afterAt 0x7D s k) _ _ (λ m. members-keeps v w h n s m)))
 
 choice-keeps : (c : Bool) (a b x y : Read) → Keeps a b → Keeps x y → Keeps (if c then a else x) (if c then b else y)
 choice-keeps true a b x y p q = p
@@ -58,11 +58,11 @@ unfolding valueOf
 value-keeps o p a b s i f g =
     choice-keeps (eqb (byte s i) 0x7B) _ _ _ _ f (choice-keeps (eqb (byte s i) 0x5B) _ _ _ _ g (λ j e. e))
 
-array-keeps : (v w : ℕ → Read) → ((k : ℕ) → Keeps (v k) (w k)) → (s : List ℕ) (i : ℕ) → Keeps (arrayOf v s i) (arrayOf w s i)
+pub array-keeps : (v w : ℕ → Read) → ((k : ℕ) → Keeps (v k) (w k)) → (s : List ℕ) (i : ℕ) → Keeps (arrayOf v s i) (arrayOf w s i)
 unfolding arrayOf
 array-keeps v w h s i = item-keeps (firstAt 0x5D s (i + 1)) _ _ (λ k. elements-keeps v w h (length s) s k)
 
-object-keeps : (v w : ℕ → Read) → ((k : ℕ) → Keeps (v k) (w k)) → (s : List ℕ) (i : ℕ) → Keeps (objectOf v s i) (objectOf w s i)
+pub object-keeps : (v w : ℕ → Read) → ((k : ℕ) → Keeps (v k) (w k)) → (s : List ℕ) (i : ℕ) → Keeps (objectOf v s i) (objectOf w s i)
 unfolding objectOf
 object-keeps v w h s i = item-keeps (firstAt 0x7D s (i + 1)) _ _ (λ k. members-keeps v w h (length s) s k)
 
