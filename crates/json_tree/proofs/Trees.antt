@@ -14,11 +14,11 @@ use Rattle.json_tree.specs.Tree.{Json, Fields, Items, noField, noItem, o
 use Rattle.json_tree.specs.Finds.{findIn, lookUp, valueFound}
 
 -- A function goes into a choice.
-choose : {A B : Type 0} (f : A → B) (c : Bool) (a b : A) → f (if c then a else b) ≡ (if c then f a else f b)
+pub choose : {A B : Type 0} (f : A → B) (c : Bool) (a b : A) → f (if c then a else b) ≡ (if c then f a else f b)
 choose f true a b = refl
 choose f false a b = refl
 
-always : {A : Type 0} (c : Bool) (a : A) → (if c then a else a) ≡ a
+pub always : {A : Type 0} (c : Bool) (a : A) → (if c then a else a) ≡ a
 always true a = refl
 always false a = refl
 
