@@ -2,16 +2,10 @@ use Rattle.json_names.specs.Names.{badNames}
 use borrow.Author.Needs.{needs}
 use Rattle.json_names.proofs.duplicates.bad_names.Statement.{statement}
 use Rattle.json_names.proofs.duplicates.bad_names.Tie as tie
-use Rattle.json_names.proofs.duplicates.bad_names.Reads as reads
-use Rattle.json_names.proofs.duplicates.bad_names.Lts as lts
-use Rattle.json_names.proofs.duplicates.repeated_any.Reads as repeated-any-reads
-use Rattle.json_names.proofs.names.slash_named.Reads as slash-named-reads
 
--- src/names.rt:82:8
 slash-named-requires : tie.Need-slash-named-requires
 slash-named-requires c κs = search needs
 
--- src/names.rt:83:9
 returns : tie.Need-returns
 unfolding badNames
 returns c =
@@ -20,11 +14,9 @@ returns c =
       c .if1 .taken,
     )
 
--- src/names.rt:85:5
 repeated-any-requires : tie.Need-repeated-any-requires
 repeated-any-requires c κs = search needs
 
--- src/names.rt:78:1
 returns-2 : tie.Need-returns-2
 unfolding badNames
 returns-2 c =
