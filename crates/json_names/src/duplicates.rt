@@ -1,5 +1,5 @@
 // Equal names in an object of any size. A text of 65,536 bytes is gone over a bounded number of times at each of its
-// 16 levels: up to 8 names are compared each with each, more are sorted. A comparison of two names reads at most the
+// 16 levels: up to 3 names are compared each with each, more are sorted. A comparison of two names reads at most the
 // bytes of the shorter, so sorting reads each byte of a name at most once a pass, 14 passes at most. Objects with
 // more than 128 names, which take the large room, are at most 102 in a text.
 ghost use mathlib.Core.Path.{_≡_};
@@ -16,23 +16,20 @@ use json_walk::MemberStep;
 use json_walk::objects::first_member;
 use json_walk::objects::next_member;
 
-// Has the object at a place more than so many members?
-pub fn more_than(text: &[u8], at: usize, count: usize) -> bool
+// How many members the object at a place has, counted up to so many.
+pub fn count_to(text: &[u8], at: usize, most: usize) -> usize
     requires { ⌜ at < length (now text) ⌝ }
 {
     let mut step = first_member(text, at);
-    let mut n = count;
+    let mut n = most;
     while 0 < n {
         match step {
             MemberStep::One(m) => step = next_member(text, m.after),
-            MemberStep::End => return false,
+            MemberStep::End => return most - n,
         }
         n -= 1;
     }
-    match step {
-        MemberStep::One(_) => true,
-        MemberStep::End => false,
-    }
+    most
 }
 
 // Have two members equal names? With room to sort them.
@@ -69,10 +66,11 @@ pub fn repeated_any(text: &[u8], at: usize) -> bool
     requires { ⌜ at < length (now text) ⌝ }
     ensures { λ r. ⌜ r ≡ repeats (now (text .entry)) (membersOf (now (text .entry)) at) ⌝ }
 {
-    if more_than(text, at, 128) {
+    let n = count_to(text, at, 129);
+    if 128 < n {
         return repeated_large(text, at);
     }
-    if more_than(text, at, 8) {
+    if 3 < n {
         return repeated_small(text, at);
     }
     repeated(text, at)

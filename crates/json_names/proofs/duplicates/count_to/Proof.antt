@@ -1,13 +1,13 @@
 use Prim.Native.Nat.{_≤_}
 use borrow.Author.Needs.{needs}
-use Rattle.json_names.proofs.duplicates.more_than.Statement.{statement}
-use Rattle.json_names.proofs.duplicates.more_than.Tie as tie
+use Rattle.json_names.proofs.duplicates.count_to.Statement.{statement}
+use Rattle.json_names.proofs.duplicates.count_to.Tie as tie
 
 abbrev Inv-loop : tie.InvT-loop
-Inv-loop text at count step₀ n₀ step n = n ≤ count
+Inv-loop text at most step₀ n₀ step n = n ≤ most
 
 abbrev μ-loop : tie.MeasureT-loop
-μ-loop text at count step₀ n₀ step n = n
+μ-loop text at most step₀ n₀ step n = n
 
 first-member-requires : tie.Need-first-member-requires Inv-loop μ-loop
 first-member-requires c κs = search needs
@@ -24,6 +24,9 @@ next-member-requires c κs = search needs
 enum-told : tie.Need-enum-told Inv-loop μ-loop
 enum-told c = search needs
 
+sub-result : tie.Need-sub-result Inv-loop μ-loop
+sub-result c = search needs
+
 returns : tie.Need-returns Inv-loop μ-loop
 returns c = search needs
 
@@ -36,20 +39,11 @@ loop-less c = search needs
 loop-again : tie.Need-loop-again Inv-loop μ-loop
 loop-again c = search needs
 
-enum-told-2 : tie.Need-enum-told-2 Inv-loop μ-loop
-enum-told-2 c = search needs
-
-enum-told-3 : tie.Need-enum-told-3 Inv-loop μ-loop
-enum-told-3 c = search needs
-
 returns-2 : tie.Need-returns-2 Inv-loop μ-loop
 returns-2 c = search needs
 
-returns-3 : tie.Need-returns-3 Inv-loop μ-loop
-returns-3 c = search needs
-
-pub more-than-spec : {M : Type 1} → statement M
-more-than-spec =
+pub count-to-spec : {M : Type 1} → statement M
+count-to-spec =
     tie.close
     (tie.spec
     Inv-loop
@@ -59,11 +53,9 @@ more-than-spec =
     enum-known-step
     next-member-requires
     enum-told
+    sub-result
     returns
     sub-n
     loop-less
     loop-again
-    enum-told-2
-    enum-told-3
-    returns-2
-    returns-3)
+    returns-2)
