@@ -62,7 +62,52 @@ put(3, '{"a":1,"a":2', '{"\\n":1')
 put(0, b'"' + b'a' * 65534 + b'"')
 put(1, b'"' + b'a' * 65535 + b'"')
 
+
+# many names: as many as a text has room for; long ones that differ at their end; few and middle numbers of them
+def named(names):
+    return b'{' + b','.join(b'"' + n + b'":1' for n in names) + b'}'
+
+
+def numbered(count, front=b'', width=2):
+    letters = bytes(c for c in range(0x23, 0x7F) if c != 0x5C)
+    out = []
+    for k in range(count):
+        name = b''
+        for _ in range(width):
+            name, k = bytes([letters[k % len(letters)]]) + name, k // len(letters)
+        out.append(front + name)
+    return out
+
+
+many = numbered(8000)
+put(0, named(many))
+put(4, named(many + many[:1]), named(many[:7000] + many[6999:]))
+long_names = numbered(490, b'x' * 125)
+put(0, named(long_names))
+put(4, named(long_names[1:] + long_names[-1:]))
+for count in (7, 8, 9, 10, 127, 128, 129, 130):
+    few = numbered(count)
+    put(0, named(few), named(few[::-1]), named(few[::2] + few[1::2]))
+    put(4, named(few + few[:1]), named(few[:1] + few[::-1]), named(few[:count // 2] + few[count // 2 - 1:]))
+put(0, b'[' + b','.join(named(numbered(9)) for _ in range(60)) + b']')
+put(4, b'[' + b','.join(named(numbered(9)) for _ in range(60)) + b',' + named(numbered(9) + [b'##']) + b']')
+
+
+def blocks():
+    """The texts in blocks of 262,144 bytes, each filled up with a text of spaces, which is no JSON or too long."""
+    out, answers, block = b'', [], b''
+    for text, answer in V:
+        if 262144 < len(block) + len(text) + 1:
+            spaces = 262144 - len(block) - 1
+            out, block = out + block + b' ' * spaces + b'\x1e', b''
+            answers.append(1 if 65536 < spaces else 3)
+        block += text + b'\x1e'
+        answers.append(answer)
+    return out + block, answers
+
+
+data, answers = blocks()
 if sys.argv[1:] == ['texts']:
-    sys.stdout.buffer.write(b'\x1e'.join(t for t, _ in V))
+    sys.stdout.buffer.write(data)
 else:
-    print(''.join(f'{a}\n' for _, a in V), end='')
+    print(''.join(f'{a}\n' for a in answers), end='')

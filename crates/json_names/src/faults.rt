@@ -4,7 +4,7 @@ ghost use Prim.Native.Nat.{_<_};
 ghost use lib.ListN.{length};
 ghost use Rattle.json_walk.specs.Walk.{membersOf, elementsOf};
 ghost use Rattle.json_names.specs.Names.{faultAt, anyMember, anyElement};
-use crate::names::bad_names;
+use crate::duplicates::bad_names;
 use json_text::bytes::byte;
 use json_walk::ElementStep;
 use json_walk::MemberStep;

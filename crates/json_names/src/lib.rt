@@ -1,6 +1,8 @@
 // Member names: no two equal ones in an object, and no backslash in any, in every object of a text that is known to
 // be JSON.
+pub mod duplicates;
 pub mod faults;
 pub mod names;
 pub mod order;
+pub mod sort;
 pub mod sorted;

@@ -4,7 +4,7 @@ ghost use Prim.Native.Nat.{_<_};
 ghost use lib.ListN.{length};
 ghost use Rattle.json_walk.specs.Walk.{membersFrom, membersOf, nextMemberAt};
 ghost use Rattle.json_walk.specs.Strings.{rawAt};
-ghost use Rattle.json_names.specs.Names.{named, repeats, anySlashed, badNames};
+ghost use Rattle.json_names.specs.Names.{named, repeats, anySlashed};
 use json_walk::MemberStep;
 use json_walk::objects::first_member;
 use json_walk::objects::next_member;
@@ -74,15 +74,4 @@ pub fn slash_named(text: &[u8], at: usize) -> bool
         n -= 1;
     }
     false
-}
-
-// Are the names of the object at a place at fault?
-pub fn bad_names(text: &[u8], at: usize) -> bool
-    requires { ⌜ at < length (now text) ⌝ }
-    ensures { λ r. ⌜ r ≡ badNames (now (text .entry)) (membersOf (now (text .entry)) at) ⌝ }
-{
-    if slash_named(text, at) {
-        return true;
-    }
-    repeated(text, at)
 }

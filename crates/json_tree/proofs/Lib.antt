@@ -1,1 +1,5 @@
+pub mod Faulted
+pub mod Levels
 pub mod Numbers
+pub mod Trees
+pub mod Walked

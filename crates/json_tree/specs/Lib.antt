@@ -1,3 +1,4 @@
 pub mod Tree
 pub mod Finds
 pub mod Integers
+pub mod Faults

@@ -1,4 +1,5 @@
 // Judges the JSON texts of its input, which byte 0x1E parts as in RFC 7464, and writes the answer of each, a line each.
+// The input comes in blocks of 262,144 bytes; a text does not go over from one to the next.
 ghost use Prim.Native.Nat.{_≤_};
 ghost use lib.ListN.{length};
 
@@ -34,8 +35,20 @@ fn judge_all(all: &[u8]) {
     }
 }
 
-fn main() {
+// Judges the texts of one block of the input; says whether there was one.
+fn judge_block() -> bool {
     let mut buffer = [0u8; 262144];
     let n = io::read_full(0, &mut buffer);
     judge_all(&buffer[..n]);
+    0 < n
+}
+
+fn main() {
+    let mut blocks: usize = 4;
+    while 0 < blocks {
+        if !judge_block() {
+            return;
+        }
+        blocks -= 1;
+    }
 }

@@ -3,43 +3,29 @@ use borrow.Author.Tests.{le-ltb, lt-ltb}
 use borrow.Author.Needs.{needs}
 use Rattle.json.proofs.answer.answer.Statement.{statement}
 use Rattle.json.proofs.answer.answer.Tie as tie
-use Rattle.json.proofs.answer.answer.Reads as reads
-use Rattle.json.proofs.answer.answer.Lts as lts
-use Rattle.json.proofs.surrogates.pairs.Reads as pairs-reads
-use Rattle.json_names.proofs.faults.fault.Reads as fault-reads
-use Rattle.json_text.proofs.bytes.space.Reads as space-reads
-use Rattle.json_value.proofs.whole.whole.Reads as whole-reads
 
--- src/answer.rt:17:9
 returns : tie.Need-returns
 unfolding answerOf readAnswer pairedAnswer
 returns c = rw (lt-ltb _ _ (c .if1 .taken))
 
--- src/answer.rt:19:11
 whole-requires : tie.Need-whole-requires
 whole-requires c κs = search needs
 
--- src/answer.rt:20:30
 enum-told : tie.Need-enum-told
 enum-told c = search needs
 
--- src/answer.rt:20:30
 pairs-requires : tie.Need-pairs-requires
 pairs-requires c κs = search needs
 
--- src/answer.rt:22:32
 enum-told-2 : tie.Need-enum-told-2
 enum-told-2 c = search needs
 
--- src/answer.rt:22:32
 space-requires : tie.Need-space-requires
 space-requires c κs = search needs
 
--- src/answer.rt:22:20
 fault-requires : tie.Need-fault-requires
 fault-requires c κs = search needs
 
--- src/answer.rt:23:21
 returns-2 : tie.Need-returns-2
 unfolding answerOf readAnswer pairedAnswer
 returns-2 c =
@@ -54,23 +40,18 @@ returns-2 c =
       c .if2 .taken,
     )
 
--- src/answer.rt:27:26
 enum-told-3 : tie.Need-enum-told-3
 enum-told-3 c = search needs
 
--- src/answer.rt:28:27
 enum-told-4 : tie.Need-enum-told-4
 enum-told-4 c = search needs
 
--- src/answer.rt:30:22
 enum-told-5 : tie.Need-enum-told-5
 enum-told-5 c = search needs
 
--- src/answer.rt:31:23
 enum-told-6 : tie.Need-enum-told-6
 enum-told-6 c = search needs
 
--- src/answer.rt:13:1
 returns-3 : tie.Need-returns-3
 unfolding answerOf readAnswer pairedAnswer
 returns-3 c =
@@ -85,7 +66,6 @@ returns-3 c =
       c .if2 .left,
     )
 
--- src/answer.rt:13:1
 returns-4 : tie.Need-returns-4
 unfolding answerOf readAnswer pairedAnswer
 returns-4 c =
@@ -97,7 +77,6 @@ returns-4 c =
       c .enum-told3 .given .1,
     )
 
--- src/answer.rt:13:1
 returns-5 : tie.Need-returns-5
 unfolding answerOf readAnswer pairedAnswer
 returns-5 c =
@@ -109,7 +88,6 @@ returns-5 c =
       c .enum-told4 .given .1,
     )
 
--- src/answer.rt:13:1
 returns-6 : tie.Need-returns-6
 unfolding answerOf readAnswer pairedAnswer
 returns-6 c =
@@ -119,7 +97,6 @@ returns-6 c =
       c .enum-told5 .given .1,
     )
 
--- src/answer.rt:13:1
 returns-7 : tie.Need-returns-7
 unfolding answerOf readAnswer pairedAnswer
 returns-7 c =

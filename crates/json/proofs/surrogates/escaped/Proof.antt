@@ -3,20 +3,13 @@ use borrow.Author.Tests.{eq-eqb, ne-eqb}
 use borrow.Author.Needs.{needs}
 use Rattle.json.proofs.surrogates.escaped.Statement.{statement}
 use Rattle.json.proofs.surrogates.escaped.Tie as tie
-use Rattle.json.proofs.surrogates.escaped.Reads as reads
-use Rattle.json.proofs.surrogates.escaped.Lts as lts
-use Rattle.json.proofs.surrogates.pair.Reads as pair-reads
-use Rattle.json_text.proofs.bytes.byte.Reads as byte-reads
 
--- src/surrogates.rt:102:8
 byte-requires : tie.Need-byte-requires
 byte-requires c κs = search needs
 
--- src/surrogates.rt:103:25
 add-t5 : tie.Need-add-t5
 add-t5 c = search needs
 
--- src/surrogates.rt:103:9
 returns : tie.Need-returns
 unfolding escapedAt
 returns c =
@@ -25,19 +18,15 @@ returns c =
       ne-eqb _ _ (c .if1 .taken),
     )
 
--- src/surrogates.rt:105:19
 add-byte : tie.Need-add-byte
 add-byte c = search needs
 
--- src/surrogates.rt:105:8
 byte-requires-2 : tie.Need-byte-requires-2
 byte-requires-2 c κs = search needs
 
--- src/surrogates.rt:106:25
 add-t7 : tie.Need-add-t7
 add-t7 c = search needs
 
--- src/surrogates.rt:106:9
 returns-2 : tie.Need-returns-2
 unfolding escapedAt
 returns-2 c =
@@ -48,11 +37,9 @@ returns-2 c =
       ne-eqb _ _ (c .if2 .taken),
     )
 
--- src/surrogates.rt:108:5
 pair-requires : tie.Need-pair-requires
 pair-requires c κs = search needs
 
--- src/surrogates.rt:98:1
 returns-3 : tie.Need-returns-3
 unfolding escapedAt
 returns-3 c =

@@ -3,20 +3,15 @@ use borrow.Author.Tests.{le-leb, le-ltb, lt-leb, lt-ltb}
 use borrow.Author.Needs.{needs}
 use Rattle.json.proofs.surrogates.hex_value.Statement.{statement}
 use Rattle.json.proofs.surrogates.hex_value.Tie as tie
-use Rattle.json.proofs.surrogates.hex_value.Reads as reads
-use Rattle.json.proofs.surrogates.hex_value.Lts as lts
 
--- src/surrogates.rt:15:9
 returns : tie.Need-returns
 unfolding hexValue
 returns c =
     record { is = rw (lt-ltb _ _ (c .if1 .taken)); small = search needs }
 
--- src/surrogates.rt:18:16
 cast-result : tie.Need-cast-result
 cast-result c = search needs
 
--- src/surrogates.rt:18:9
 returns-2 : tie.Need-returns-2
 unfolding hexValue
 returns-2 c =
@@ -28,7 +23,6 @@ returns-2 c =
       small = search needs;
     }
 
--- src/surrogates.rt:21:9
 returns-3 : tie.Need-returns-3
 unfolding hexValue
 returns-3 c =
@@ -41,15 +35,12 @@ returns-3 c =
       small = search needs;
     }
 
--- src/surrogates.rt:24:17
 sub-result : tie.Need-sub-result
 sub-result c = search needs
 
--- src/surrogates.rt:24:16
 cast-result-2 : tie.Need-cast-result-2
 cast-result-2 c = search needs
 
--- src/surrogates.rt:24:9
 returns-4 : tie.Need-returns-4
 unfolding hexValue
 returns-4 c =
@@ -63,7 +54,6 @@ returns-4 c =
       small = search needs;
     }
 
--- src/surrogates.rt:27:9
 returns-5 : tie.Need-returns-5
 unfolding hexValue
 returns-5 c =
@@ -78,15 +68,12 @@ returns-5 c =
       small = search needs;
     }
 
--- src/surrogates.rt:30:17
 sub-result-2 : tie.Need-sub-result-2
 sub-result-2 c = search needs
 
--- src/surrogates.rt:30:16
 cast-result-3 : tie.Need-cast-result-3
 cast-result-3 c = search needs
 
--- src/surrogates.rt:30:9
 returns-6 : tie.Need-returns-6
 unfolding hexValue
 returns-6 c =
@@ -102,7 +89,6 @@ returns-6 c =
       small = search needs;
     }
 
--- src/surrogates.rt:11:1
 returns-7 : tie.Need-returns-7
 unfolding hexValue
 returns-7 c =

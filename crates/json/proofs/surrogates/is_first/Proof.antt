@@ -2,15 +2,11 @@ use Rattle.json.specs.Surrogates.{isFirst}
 use borrow.Author.Tests.{le-ltb, lt-ltb}
 use Rattle.json.proofs.surrogates.is_first.Statement.{statement}
 use Rattle.json.proofs.surrogates.is_first.Tie as tie
-use Rattle.json.proofs.surrogates.is_first.Reads as reads
-use Rattle.json.proofs.surrogates.is_first.Lts as lts
 
--- src/surrogates.rt:51:9
 returns : tie.Need-returns
 unfolding isFirst
 returns c = rw (lt-ltb _ _ (c .if1 .taken))
 
--- src/surrogates.rt:47:1
 returns-2 : tie.Need-returns-2
 unfolding isFirst
 returns-2 c = rw (le-ltb _ _ (c .if1 .left))

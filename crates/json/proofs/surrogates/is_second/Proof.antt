@@ -2,15 +2,11 @@ use Rattle.json.specs.Surrogates.{isSecond}
 use borrow.Author.Tests.{le-ltb, lt-ltb}
 use Rattle.json.proofs.surrogates.is_second.Statement.{statement}
 use Rattle.json.proofs.surrogates.is_second.Tie as tie
-use Rattle.json.proofs.surrogates.is_second.Reads as reads
-use Rattle.json.proofs.surrogates.is_second.Lts as lts
 
--- src/surrogates.rt:60:9
 returns : tie.Need-returns
 unfolding isSecond
 returns c = rw (lt-ltb _ _ (c .if1 .taken))
 
--- src/surrogates.rt:56:1
 returns-2 : tie.Need-returns-2
 unfolding isSecond
 returns-2 c = rw (le-ltb _ _ (c .if1 .left))

@@ -2,26 +2,16 @@ use Rattle.json.specs.Surrogates.{pairAt}
 use borrow.Author.Needs.{needs}
 use Rattle.json.proofs.surrogates.pair.Statement.{statement}
 use Rattle.json.proofs.surrogates.pair.Tie as tie
-use Rattle.json.proofs.surrogates.pair.Reads as reads
-use Rattle.json.proofs.surrogates.pair.Lts as lts
-use Rattle.json.proofs.surrogates.is_first.Reads as is-first-reads
-use Rattle.json.proofs.surrogates.is_second.Reads as is-second-reads
-use Rattle.json.proofs.surrogates.partner.Reads as partner-reads
-use Rattle.json.proofs.surrogates.unit.Reads as unit-reads
 
--- src/surrogates.rt:84:24
 add-unit : tie.Need-add-unit
 add-unit c = search needs
 
--- src/surrogates.rt:84:9
 unit-requires : tie.Need-unit-requires
 unit-requires c κs = search needs
 
--- src/surrogates.rt:85:8
 is-second-requires : tie.Need-is-second-requires
 is-second-requires c κs = search needs
 
--- src/surrogates.rt:86:9
 returns : tie.Need-returns
 unfolding pairAt
 returns c =
@@ -31,23 +21,18 @@ returns c =
       c .if1 .taken,
     )
 
--- src/surrogates.rt:88:8
 is-first-requires : tie.Need-is-first-requires
 is-first-requires c κs = search needs
 
--- src/surrogates.rt:89:26
 add-partner : tie.Need-add-partner
 add-partner c = search needs
 
--- src/surrogates.rt:89:12
 partner-requires : tie.Need-partner-requires
 partner-requires c κs = search needs
 
--- src/surrogates.rt:90:29
 add-t9 : tie.Need-add-t9
 add-t9 c = search needs
 
--- src/surrogates.rt:90:13
 returns-2 : tie.Need-returns-2
 unfolding pairAt
 returns-2 c =
@@ -61,7 +46,6 @@ returns-2 c =
       c .if3 .taken,
     )
 
--- src/surrogates.rt:92:9
 returns-3 : tie.Need-returns-3
 unfolding pairAt
 returns-3 c =
@@ -75,11 +59,9 @@ returns-3 c =
       c .if3 .left,
     )
 
--- src/surrogates.rt:94:14
 add-t4 : tie.Need-add-t4
 add-t4 c = search needs
 
--- src/surrogates.rt:80:1
 returns-4 : tie.Need-returns-4
 unfolding pairAt
 returns-4 c =

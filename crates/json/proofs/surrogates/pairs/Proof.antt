@@ -6,9 +6,6 @@ use lib.ListN.{length}
 use mathlib.Core.Path.{_≡_}
 use Rattle.json.proofs.surrogates.pairs.Statement.{statement}
 use Rattle.json.proofs.surrogates.pairs.Tie as tie
-use Rattle.json.proofs.surrogates.pairs.Reads as reads
-use Rattle.json.proofs.surrogates.pairs.Lts as lts
-use Rattle.json.proofs.surrogates.escaped.Reads as escaped-reads
 
 abbrev Inv-loop : tie.InvT-loop
 Inv-loop text i₀ n₀ i n = pairsAt n text i ≡ pairsAt (length text) text 0
@@ -16,12 +13,10 @@ Inv-loop text i₀ n₀ i n = pairsAt n text i ≡ pairsAt (length text) text 0
 abbrev μ-loop : tie.MeasureT-loop
 μ-loop text i₀ n₀ i n = n
 
--- src/surrogates.rt:118:5
 loop-holds : tie.Need-loop-holds Inv-loop μ-loop
 unfolding pairsAt
 loop-holds c = search needs
 
--- src/surrogates.rt:120:13
 returns : tie.Need-returns Inv-loop μ-loop
 unfolding pairsAt
 returns c =
@@ -31,19 +26,15 @@ returns c =
       le-leb _ _ (c .if1 .taken),
     )
 
--- src/surrogates.rt:122:15
 escaped-requires : tie.Need-escaped-requires Inv-loop μ-loop
 escaped-requires c κs = search needs
 
--- src/surrogates.rt:123:22
 enum-known-j : tie.Need-enum-known-j Inv-loop μ-loop
 enum-known-j c = search needs
 
--- src/surrogates.rt:124:26
 enum-told : tie.Need-enum-told Inv-loop μ-loop
 enum-told c = search needs
 
--- src/surrogates.rt:124:26
 returns-2 : tie.Need-returns-2 Inv-loop μ-loop
 unfolding pairsAt
 returns-2 c =
@@ -55,11 +46,9 @@ returns-2 c =
       c .enum-told .given .1,
     )
 
--- src/surrogates.rt:125:27
 enum-told-2 : tie.Need-enum-told-2 Inv-loop μ-loop
 enum-told-2 c = search needs
 
--- src/surrogates.rt:125:27
 returns-3 : tie.Need-returns-3 Inv-loop μ-loop
 unfolding pairsAt
 returns-3 c =
@@ -71,15 +60,12 @@ returns-3 c =
       c .enum-told2 .given .1,
     )
 
--- src/surrogates.rt:127:9
 sub-n : tie.Need-sub-n Inv-loop μ-loop
 sub-n c = search needs
 
--- src/surrogates.rt:118:5
 loop-less : tie.Need-loop-less Inv-loop μ-loop
 loop-less c = search needs
 
--- src/surrogates.rt:118:5
 loop-again : tie.Need-loop-again Inv-loop μ-loop
 unfolding pairsAt
 loop-again c =
@@ -91,7 +77,6 @@ loop-again c =
       c .before .j .given .1,
     )
 
--- src/surrogates.rt:112:1
 returns-4 : tie.Need-returns-4 Inv-loop μ-loop
 unfolding pairsAt
 returns-4 c =

@@ -3,17 +3,10 @@ use borrow.Author.Tests.{eq-eqb, ne-eqb}
 use borrow.Author.Needs.{needs}
 use Rattle.json.proofs.surrogates.partner.Statement.{statement}
 use Rattle.json.proofs.surrogates.partner.Tie as tie
-use Rattle.json.proofs.surrogates.partner.Reads as reads
-use Rattle.json.proofs.surrogates.partner.Lts as lts
-use Rattle.json.proofs.surrogates.is_second.Reads as is-second-reads
-use Rattle.json.proofs.surrogates.unit.Reads as unit-reads
-use Rattle.json_text.proofs.bytes.byte.Reads as byte-reads
 
--- src/surrogates.rt:70:8
 byte-requires : tie.Need-byte-requires
 byte-requires c κs = search needs
 
--- src/surrogates.rt:71:9
 returns : tie.Need-returns
 unfolding partnerAt
 returns c =
@@ -22,15 +15,12 @@ returns c =
       ne-eqb _ _ (c .if1 .taken),
     )
 
--- src/surrogates.rt:73:19
 add-byte : tie.Need-add-byte
 add-byte c = search needs
 
--- src/surrogates.rt:73:8
 byte-requires-2 : tie.Need-byte-requires-2
 byte-requires-2 c κs = search needs
 
--- src/surrogates.rt:74:9
 returns-2 : tie.Need-returns-2
 unfolding partnerAt
 returns-2 c =
@@ -41,19 +31,15 @@ returns-2 c =
       ne-eqb _ _ (c .if2 .taken),
     )
 
--- src/surrogates.rt:76:26
 add-unit : tie.Need-add-unit
 add-unit c = search needs
 
--- src/surrogates.rt:76:15
 unit-requires : tie.Need-unit-requires
 unit-requires c κs = search needs
 
--- src/surrogates.rt:76:5
 is-second-requires : tie.Need-is-second-requires
 is-second-requires c κs = search needs
 
--- src/surrogates.rt:66:1
 returns-3 : tie.Need-returns-3
 unfolding partnerAt
 returns-3 c =

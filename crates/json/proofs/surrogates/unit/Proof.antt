@@ -2,80 +2,58 @@ use Rattle.json.specs.Surrogates.{hexValue, unitAt}
 use borrow.Author.Needs.{needs}
 use Rattle.json.proofs.surrogates.unit.Statement.{statement}
 use Rattle.json.proofs.surrogates.unit.Tie as tie
-use Rattle.json.proofs.surrogates.unit.Reads as reads
-use Rattle.json.proofs.surrogates.unit.Lts as lts
-use Rattle.json.proofs.surrogates.hex_value.Reads as hex-value-reads
-use Rattle.json_text.proofs.bytes.byte.Reads as byte-reads
 
--- src/surrogates.rt:40:23
 byte-requires : tie.Need-byte-requires
 byte-requires c κs = search needs
 
--- src/surrogates.rt:40:9
 hex-value-requires : tie.Need-hex-value-requires
 hex-value-requires c κs = search needs
 
--- src/surrogates.rt:41:34
 add-byte : tie.Need-add-byte
 add-byte c = search needs
 
--- src/surrogates.rt:41:23
 byte-requires-2 : tie.Need-byte-requires-2
 byte-requires-2 c κs = search needs
 
--- src/surrogates.rt:41:9
 hex-value-requires-2 : tie.Need-hex-value-requires-2
 hex-value-requires-2 c κs = search needs
 
--- src/surrogates.rt:42:34
 add-byte-2 : tie.Need-add-byte-2
 add-byte-2 c = search needs
 
--- src/surrogates.rt:42:23
 byte-requires-3 : tie.Need-byte-requires-3
 byte-requires-3 c κs = search needs
 
--- src/surrogates.rt:42:9
 hex-value-requires-3 : tie.Need-hex-value-requires-3
 hex-value-requires-3 c κs = search needs
 
--- src/surrogates.rt:43:34
 add-byte-3 : tie.Need-add-byte-3
 add-byte-3 c = search needs
 
--- src/surrogates.rt:43:23
 byte-requires-4 : tie.Need-byte-requires-4
 byte-requires-4 c κs = search needs
 
--- src/surrogates.rt:43:9
 hex-value-requires-4 : tie.Need-hex-value-requires-4
 hex-value-requires-4 c κs = search needs
 
--- src/surrogates.rt:44:7
 mul-result : tie.Need-mul-result
 mul-result c = search needs
 
--- src/surrogates.rt:44:7
 add-result : tie.Need-add-result
 add-result c = search needs
 
--- src/surrogates.rt:44:6
 mul-result-2 : tie.Need-mul-result-2
 mul-result-2 c = search needs
 
--- src/surrogates.rt:44:6
 add-result-2 : tie.Need-add-result-2
 add-result-2 c = search needs
 
--- src/surrogates.rt:44:5
 mul-result-3 : tie.Need-mul-result-3
 mul-result-3 c = search needs
 
--- src/surrogates.rt:44:5
 add-result-3 : tie.Need-add-result-3
 add-result-3 c = search needs
 
--- src/surrogates.rt:36:1
 returns : tie.Need-returns
 unfolding hexValue unitAt
 returns c =

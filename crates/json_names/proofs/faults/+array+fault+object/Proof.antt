@@ -21,7 +21,7 @@ use Rattle.json_names.proofs.faults.+array+fault+object.Lts-fault as fa
 use Rattle.json_names.proofs.faults.object.Reads as object
 use Rattle.json_names.proofs.faults.object.Kinds as object-kinds
 use Rattle.json_names.proofs.faults.+array+fault+object.Lts-object as object-lts
-use Rattle.json_names.proofs.names.bad_names.Reads as bad-names-reads
+use Rattle.json_names.proofs.duplicates.bad_names.Reads as bad-names-reads
 use Rattle.json_text.proofs.bytes.byte.Reads as byte-reads
 use Rattle.json_walk.proofs.arrays.first_element.Reads as first-element-reads
 use Rattle.json_walk.proofs.arrays.next_element.Reads as next-element-reads
@@ -63,7 +63,6 @@ array-Inv-loop text at left step₀ n₀ step n = anyElement (λ v. faultAt left
 abbrev array-μ-loop : array-lts.MeasureT-loop
 array-μ-loop text at left step₀ n₀ step n = n
 
--- src/faults.rt:61:9
 array-first-element-requires : (t : ℕ) → array-lts.Need-first-element-requires (
   first-element-reads.Asked,
   first-element-reads.Learnt,
@@ -74,7 +73,6 @@ array-first-element-requires : (t : ℕ) → array-lts.Need-first-element-requir
 ) (array-at t) array.Post array-Inv-loop array-μ-loop
 array-first-element-requires t c κs = search needs
 
--- src/faults.rt:63:5
 array-loop-holds : (t : ℕ) → array-lts.Need-loop-holds (
   first-element-reads.Asked,
   first-element-reads.Learnt,
@@ -86,7 +84,6 @@ array-loop-holds : (t : ℕ) → array-lts.Need-loop-holds (
 unfolding anyElement elementsOf
 array-loop-holds t c = rw (← (c .first-element .ensures))
 
--- src/faults.rt:65:31
 array-enum-known-step : (t : ℕ) → array-lts.Need-enum-known-step (
   first-element-reads.Asked,
   first-element-reads.Learnt,
@@ -97,7 +94,6 @@ array-enum-known-step : (t : ℕ) → array-lts.Need-enum-known-step (
 ) (array-at t) array.Post array-Inv-loop array-μ-loop
 array-enum-known-step t c = search needs
 
--- src/faults.rt:66:20
 array-fault-requires : (t : ℕ) → array-lts.Need-fault-requires (
   first-element-reads.Asked,
   first-element-reads.Learnt,
@@ -108,7 +104,6 @@ array-fault-requires : (t : ℕ) → array-lts.Need-fault-requires (
 ) (array-at t) array.Post array-Inv-loop array-μ-loop
 array-fault-requires t c κs = search needs
 
--- src/faults.rt:67:21
 array-returns : (t : ℕ) → array-lts.Need-returns (
   first-element-reads.Asked,
   first-element-reads.Learnt,
@@ -127,7 +122,6 @@ array-returns t c =
       c .if1 .taken,
     )
 
--- src/faults.rt:69:17
 array-next-element-requires : (t : ℕ) → array-lts.Need-next-element-requires (
   first-element-reads.Asked,
   first-element-reads.Learnt,
@@ -138,7 +132,6 @@ array-next-element-requires : (t : ℕ) → array-lts.Need-next-element-requires
 ) (array-at t) array.Post array-Inv-loop array-μ-loop
 array-next-element-requires t c κs = search needs
 
--- src/faults.rt:71:34
 array-enum-told : (t : ℕ) → array-lts.Need-enum-told (
   first-element-reads.Asked,
   first-element-reads.Learnt,
@@ -149,7 +142,6 @@ array-enum-told : (t : ℕ) → array-lts.Need-enum-told (
 ) (array-at t) array.Post array-Inv-loop array-μ-loop
 array-enum-told t c = search needs
 
--- src/faults.rt:71:34
 array-returns-2 : (t : ℕ) → array-lts.Need-returns-2 (
   first-element-reads.Asked,
   first-element-reads.Learnt,
@@ -166,7 +158,6 @@ array-returns-2 t c =
       elements-end,
     )
 
--- src/faults.rt:73:9
 array-sub-n : (t : ℕ) → array-lts.Need-sub-n (
   first-element-reads.Asked,
   first-element-reads.Learnt,
@@ -177,7 +168,6 @@ array-sub-n : (t : ℕ) → array-lts.Need-sub-n (
 ) (array-at t) array.Post array-Inv-loop array-μ-loop
 array-sub-n t c = search needs
 
--- src/faults.rt:63:5
 array-loop-less : (t : ℕ) → array-lts.Need-loop-less (
   first-element-reads.Asked,
   first-element-reads.Learnt,
@@ -188,7 +178,6 @@ array-loop-less : (t : ℕ) → array-lts.Need-loop-less (
 ) (array-at t) array.Post array-Inv-loop array-μ-loop
 array-loop-less t c = search needs
 
--- src/faults.rt:63:5
 array-loop-again : (t : ℕ) → array-lts.Need-loop-again (
   first-element-reads.Asked,
   first-element-reads.Learnt,
@@ -208,7 +197,6 @@ array-loop-again t c =
       ← (c .next-element .ensures),
     )
 
--- src/faults.rt:57:1
 array-returns-3 : (t : ℕ) → array-lts.Need-returns-3 (
   first-element-reads.Asked,
   first-element-reads.Learnt,
@@ -224,7 +212,6 @@ array-returns-3 t c =
       elements-none _ (c .loop-test .left),
     )
 
--- src/faults.rt:19:9
 fault-returns : (t : ℕ) → fault-lts.Need-returns (
   byte-reads.Asked,
   byte-reads.Learnt,
@@ -238,7 +225,6 @@ fault-returns : (t : ℕ) → fault-lts.Need-returns (
 unfolding objectFault
 fault-returns t c = rw (fault-none _ (c .if1 .taken))
 
--- src/faults.rt:21:9
 fault-byte-requires : (t : ℕ) → fault-lts.Need-byte-requires (
   byte-reads.Asked,
   byte-reads.Learnt,
@@ -251,7 +237,6 @@ fault-byte-requires : (t : ℕ) → fault-lts.Need-byte-requires (
 ) (fault-at t) fault.Post
 fault-byte-requires t c κs = search needs
 
--- src/faults.rt:23:12
 fault-bad-names-requires : (t : ℕ) → fault-lts.Need-bad-names-requires (
   byte-reads.Asked,
   byte-reads.Learnt,
@@ -264,7 +249,6 @@ fault-bad-names-requires : (t : ℕ) → fault-lts.Need-bad-names-requires (
 ) (fault-at t) fault.Post
 fault-bad-names-requires t c κs = search needs
 
--- src/faults.rt:24:13
 fault-returns-2 : (t : ℕ) → fault-lts.Need-returns-2 (
   byte-reads.Asked,
   byte-reads.Learnt,
@@ -285,7 +269,6 @@ fault-returns-2 t c =
       c .if3 .taken,
     )
 
--- src/faults.rt:26:33
 fault-sub-object : (t : ℕ) → fault-lts.Need-sub-object (
   byte-reads.Asked,
   byte-reads.Learnt,
@@ -298,7 +281,6 @@ fault-sub-object : (t : ℕ) → fault-lts.Need-sub-object (
 ) (fault-at t) fault.Post
 fault-sub-object t c = search needs
 
--- src/faults.rt:26:9
 fault-object-requires : (t : ℕ) → fault-lts.Need-object-requires (
   byte-reads.Asked,
   byte-reads.Learnt,
@@ -311,7 +293,6 @@ fault-object-requires : (t : ℕ) → fault-lts.Need-object-requires (
 ) (fault-at t) fault.Post
 fault-object-requires t c κs = search needs
 
--- src/faults.rt:26:9
 fault-returns-3 : (t : ℕ) → fault-lts.Need-returns-3 (
   byte-reads.Asked,
   byte-reads.Learnt,
@@ -333,7 +314,6 @@ fault-returns-3 t c =
       ← (c .object .ensures),
     )
 
--- src/faults.rt:29:32
 fault-sub-array : (t : ℕ) → fault-lts.Need-sub-array (
   byte-reads.Asked,
   byte-reads.Learnt,
@@ -346,7 +326,6 @@ fault-sub-array : (t : ℕ) → fault-lts.Need-sub-array (
 ) (fault-at t) fault.Post
 fault-sub-array t c = search needs
 
--- src/faults.rt:29:9
 fault-array-requires : (t : ℕ) → fault-lts.Need-array-requires (
   byte-reads.Asked,
   byte-reads.Learnt,
@@ -359,7 +338,6 @@ fault-array-requires : (t : ℕ) → fault-lts.Need-array-requires (
 ) (fault-at t) fault.Post
 fault-array-requires t c κs = search needs
 
--- src/faults.rt:29:9
 fault-returns-4 : (t : ℕ) → fault-lts.Need-returns-4 (
   byte-reads.Asked,
   byte-reads.Learnt,
@@ -380,7 +358,6 @@ fault-returns-4 t c =
       ← (c .array .ensures),
     )
 
--- src/faults.rt:15:1
 fault-returns-5 : (t : ℕ) → fault-lts.Need-returns-5 (
   byte-reads.Asked,
   byte-reads.Learnt,
@@ -406,7 +383,6 @@ object-Inv-loop text at left step₀ n₀ step n = anyMember (λ v. faultAt left
 abbrev object-μ-loop : object-lts.MeasureT-loop
 object-μ-loop text at left step₀ n₀ step n = n
 
--- src/faults.rt:39:9
 object-first-member-requires : (t : ℕ) → object-lts.Need-first-member-requires (
   first-member-reads.Asked,
   first-member-reads.Learnt,
@@ -417,7 +393,6 @@ object-first-member-requires : (t : ℕ) → object-lts.Need-first-member-requir
 ) (object-at t) object.Post object-Inv-loop object-μ-loop
 object-first-member-requires t c κs = search needs
 
--- src/faults.rt:41:5
 object-loop-holds : (t : ℕ) → object-lts.Need-loop-holds (
   first-member-reads.Asked,
   first-member-reads.Learnt,
@@ -429,7 +404,6 @@ object-loop-holds : (t : ℕ) → object-lts.Need-loop-holds (
 unfolding anyMember membersOf
 object-loop-holds t c = rw (← (c .first-member .ensures))
 
--- src/faults.rt:43:29
 object-enum-known-step : (t : ℕ) → object-lts.Need-enum-known-step (
   first-member-reads.Asked,
   first-member-reads.Learnt,
@@ -440,7 +414,6 @@ object-enum-known-step : (t : ℕ) → object-lts.Need-enum-known-step (
 ) (object-at t) object.Post object-Inv-loop object-μ-loop
 object-enum-known-step t c = search needs
 
--- src/faults.rt:44:20
 object-fault-requires : (t : ℕ) → object-lts.Need-fault-requires (
   first-member-reads.Asked,
   first-member-reads.Learnt,
@@ -451,7 +424,6 @@ object-fault-requires : (t : ℕ) → object-lts.Need-fault-requires (
 ) (object-at t) object.Post object-Inv-loop object-μ-loop
 object-fault-requires t c κs = search needs
 
--- src/faults.rt:45:21
 object-returns : (t : ℕ) → object-lts.Need-returns (
   first-member-reads.Asked,
   first-member-reads.Learnt,
@@ -470,7 +442,6 @@ object-returns t c =
       c .if1 .taken,
     )
 
--- src/faults.rt:47:17
 object-next-member-requires : (t : ℕ) → object-lts.Need-next-member-requires (
   first-member-reads.Asked,
   first-member-reads.Learnt,
@@ -481,7 +452,6 @@ object-next-member-requires : (t : ℕ) → object-lts.Need-next-member-requires
 ) (object-at t) object.Post object-Inv-loop object-μ-loop
 object-next-member-requires t c κs = search needs
 
--- src/faults.rt:49:32
 object-enum-told : (t : ℕ) → object-lts.Need-enum-told (
   first-member-reads.Asked,
   first-member-reads.Learnt,
@@ -492,7 +462,6 @@ object-enum-told : (t : ℕ) → object-lts.Need-enum-told (
 ) (object-at t) object.Post object-Inv-loop object-μ-loop
 object-enum-told t c = search needs
 
--- src/faults.rt:49:32
 object-returns-2 : (t : ℕ) → object-lts.Need-returns-2 (
   first-member-reads.Asked,
   first-member-reads.Learnt,
@@ -509,7 +478,6 @@ object-returns-2 t c =
       members-end,
     )
 
--- src/faults.rt:51:9
 object-sub-n : (t : ℕ) → object-lts.Need-sub-n (
   first-member-reads.Asked,
   first-member-reads.Learnt,
@@ -520,7 +488,6 @@ object-sub-n : (t : ℕ) → object-lts.Need-sub-n (
 ) (object-at t) object.Post object-Inv-loop object-μ-loop
 object-sub-n t c = search needs
 
--- src/faults.rt:41:5
 object-loop-less : (t : ℕ) → object-lts.Need-loop-less (
   first-member-reads.Asked,
   first-member-reads.Learnt,
@@ -531,7 +498,6 @@ object-loop-less : (t : ℕ) → object-lts.Need-loop-less (
 ) (object-at t) object.Post object-Inv-loop object-μ-loop
 object-loop-less t c = search needs
 
--- src/faults.rt:41:5
 object-loop-again : (t : ℕ) → object-lts.Need-loop-again (
   first-member-reads.Asked,
   first-member-reads.Learnt,
@@ -551,7 +517,6 @@ object-loop-again t c =
       ← (c .next-member .ensures),
     )
 
--- src/faults.rt:35:1
 object-returns-3 : (t : ℕ) → object-lts.Need-returns-3 (
   first-member-reads.Asked,
   first-member-reads.Learnt,

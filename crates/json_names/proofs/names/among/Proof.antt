@@ -7,10 +7,6 @@ use borrow.Author.Needs.{needs}
 use mathlib.Core.Path.{_≡_}
 use Rattle.json_names.proofs.names.among.Statement.{statement}
 use Rattle.json_names.proofs.names.among.Tie as tie
-use Rattle.json_names.proofs.names.among.Reads as reads
-use Rattle.json_names.proofs.names.among.Lts as lts
-use Rattle.json_walk.proofs.objects.next_member.Reads as next-member-reads
-use Rattle.json_walk.proofs.strings.same_raw.Reads as same-raw-reads
 
 abbrev Inv-loop : tie.InvT-loop
 Inv-loop text name stop at count step₀ n₀ step n = named text (rawAt text name stop) (membersFrom n text step) ≡ named text (rawAt text name stop) (membersFrom count text (nextMemberAt text at))
@@ -18,24 +14,19 @@ Inv-loop text name stop at count step₀ n₀ step n = named text (rawAt text na
 abbrev μ-loop : tie.MeasureT-loop
 μ-loop text name stop at count step₀ n₀ step n = n
 
--- src/names.rt:16:9
 next-member-requires : tie.Need-next-member-requires Inv-loop μ-loop
 next-member-requires c κs = search needs
 
--- src/names.rt:18:5
 loop-holds : tie.Need-loop-holds Inv-loop μ-loop
 unfolding named
 loop-holds c = rw (← (c .next-member .ensures))
 
--- src/names.rt:20:29
 enum-known-step : tie.Need-enum-known-step Inv-loop μ-loop
 enum-known-step c = search needs
 
--- src/names.rt:21:20
 same-raw-requires : tie.Need-same-raw-requires Inv-loop μ-loop
 same-raw-requires c κs = search needs
 
--- src/names.rt:22:21
 returns : tie.Need-returns Inv-loop μ-loop
 unfolding named
 returns c =
@@ -47,15 +38,12 @@ returns c =
       c .if1 .taken,
     )
 
--- src/names.rt:24:17
 next-member-requires-2 : tie.Need-next-member-requires-2 Inv-loop μ-loop
 next-member-requires-2 c κs = search needs
 
--- src/names.rt:26:32
 enum-told : tie.Need-enum-told Inv-loop μ-loop
 enum-told c = search needs
 
--- src/names.rt:26:32
 returns-2 : tie.Need-returns-2 Inv-loop μ-loop
 unfolding named
 returns-2 c =
@@ -65,15 +53,12 @@ returns-2 c =
       members-end,
     )
 
--- src/names.rt:28:9
 sub-n : tie.Need-sub-n Inv-loop μ-loop
 sub-n c = search needs
 
--- src/names.rt:18:5
 loop-less : tie.Need-loop-less Inv-loop μ-loop
 loop-less c = search needs
 
--- src/names.rt:18:5
 loop-again : tie.Need-loop-again Inv-loop μ-loop
 unfolding named
 loop-again c =
@@ -86,7 +71,6 @@ loop-again c =
       ← (c .next-member2 .ensures),
     )
 
--- src/names.rt:13:1
 returns-3 : tie.Need-returns-3 Inv-loop μ-loop
 unfolding named
 returns-3 c =

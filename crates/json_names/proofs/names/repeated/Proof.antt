@@ -6,11 +6,6 @@ use borrow.Author.Needs.{needs}
 use mathlib.Core.Path.{_≡_}
 use Rattle.json_names.proofs.names.repeated.Statement.{statement}
 use Rattle.json_names.proofs.names.repeated.Tie as tie
-use Rattle.json_names.proofs.names.repeated.Reads as reads
-use Rattle.json_names.proofs.names.repeated.Lts as lts
-use Rattle.json_names.proofs.names.among.Reads as among-reads
-use Rattle.json_walk.proofs.objects.first_member.Reads as first-member-reads
-use Rattle.json_walk.proofs.objects.next_member.Reads as next-member-reads
 
 abbrev Inv-loop : tie.InvT-loop
 Inv-loop text at step₀ n₀ step n = repeats text (membersFrom n text step) ≡ repeats text (membersOf text at)
@@ -18,28 +13,22 @@ Inv-loop text at step₀ n₀ step n = repeats text (membersFrom n text step) �
 abbrev μ-loop : tie.MeasureT-loop
 μ-loop text at step₀ n₀ step n = n
 
--- src/names.rt:38:9
 first-member-requires : tie.Need-first-member-requires Inv-loop μ-loop
 first-member-requires c κs = search needs
 
--- src/names.rt:40:5
 loop-holds : tie.Need-loop-holds Inv-loop μ-loop
 unfolding repeats membersOf
 loop-holds c = rw (← (c .first-member .ensures))
 
--- src/names.rt:42:29
 enum-known-step : tie.Need-enum-known-step Inv-loop μ-loop
 enum-known-step c = search needs
 
--- src/names.rt:43:57
 sub-among : tie.Need-sub-among Inv-loop μ-loop
 sub-among c = search needs
 
--- src/names.rt:43:20
 among-requires : tie.Need-among-requires Inv-loop μ-loop
 among-requires c κs = search needs
 
--- src/names.rt:44:21
 returns : tie.Need-returns Inv-loop μ-loop
 unfolding repeats membersOf
 returns c =
@@ -51,15 +40,12 @@ returns c =
       c .if1 .taken,
     )
 
--- src/names.rt:46:17
 next-member-requires : tie.Need-next-member-requires Inv-loop μ-loop
 next-member-requires c κs = search needs
 
--- src/names.rt:48:32
 enum-told : tie.Need-enum-told Inv-loop μ-loop
 enum-told c = search needs
 
--- src/names.rt:48:32
 returns-2 : tie.Need-returns-2 Inv-loop μ-loop
 unfolding repeats membersOf
 returns-2 c =
@@ -69,15 +55,12 @@ returns-2 c =
       members-end,
     )
 
--- src/names.rt:50:9
 sub-n : tie.Need-sub-n Inv-loop μ-loop
 sub-n c = search needs
 
--- src/names.rt:40:5
 loop-less : tie.Need-loop-less Inv-loop μ-loop
 loop-less c = search needs
 
--- src/names.rt:40:5
 loop-again : tie.Need-loop-again Inv-loop μ-loop
 unfolding repeats membersOf
 loop-again c =
@@ -90,7 +73,6 @@ loop-again c =
       ← (c .next-member .ensures),
     )
 
--- src/names.rt:34:1
 returns-3 : tie.Need-returns-3 Inv-loop μ-loop
 unfolding repeats membersOf
 returns-3 c =

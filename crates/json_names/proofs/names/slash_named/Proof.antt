@@ -6,11 +6,6 @@ use borrow.Author.Needs.{needs}
 use mathlib.Core.Path.{_≡_}
 use Rattle.json_names.proofs.names.slash_named.Statement.{statement}
 use Rattle.json_names.proofs.names.slash_named.Tie as tie
-use Rattle.json_names.proofs.names.slash_named.Reads as reads
-use Rattle.json_names.proofs.names.slash_named.Lts as lts
-use Rattle.json_walk.proofs.objects.first_member.Reads as first-member-reads
-use Rattle.json_walk.proofs.objects.next_member.Reads as next-member-reads
-use Rattle.json_walk.proofs.strings.has_backslash.Reads as has-backslash-reads
 
 abbrev Inv-loop : tie.InvT-loop
 Inv-loop text at step₀ n₀ step n = anySlashed text (membersFrom n text step) ≡ anySlashed text (membersOf text at)
@@ -18,24 +13,19 @@ Inv-loop text at step₀ n₀ step n = anySlashed text (membersFrom n text step)
 abbrev μ-loop : tie.MeasureT-loop
 μ-loop text at step₀ n₀ step n = n
 
--- src/names.rt:60:9
 first-member-requires : tie.Need-first-member-requires Inv-loop μ-loop
 first-member-requires c κs = search needs
 
--- src/names.rt:62:5
 loop-holds : tie.Need-loop-holds Inv-loop μ-loop
 unfolding anySlashed membersOf
 loop-holds c = rw (← (c .first-member .ensures))
 
--- src/names.rt:64:29
 enum-known-step : tie.Need-enum-known-step Inv-loop μ-loop
 enum-known-step c = search needs
 
--- src/names.rt:65:20
 has-backslash-requires : tie.Need-has-backslash-requires Inv-loop μ-loop
 has-backslash-requires c κs = search needs
 
--- src/names.rt:66:21
 returns : tie.Need-returns Inv-loop μ-loop
 unfolding anySlashed membersOf
 returns c =
@@ -47,15 +37,12 @@ returns c =
       c .if1 .taken,
     )
 
--- src/names.rt:68:17
 next-member-requires : tie.Need-next-member-requires Inv-loop μ-loop
 next-member-requires c κs = search needs
 
--- src/names.rt:70:32
 enum-told : tie.Need-enum-told Inv-loop μ-loop
 enum-told c = search needs
 
--- src/names.rt:70:32
 returns-2 : tie.Need-returns-2 Inv-loop μ-loop
 unfolding anySlashed membersOf
 returns-2 c =
@@ -65,15 +52,12 @@ returns-2 c =
       members-end,
     )
 
--- src/names.rt:72:9
 sub-n : tie.Need-sub-n Inv-loop μ-loop
 sub-n c = search needs
 
--- src/names.rt:62:5
 loop-less : tie.Need-loop-less Inv-loop μ-loop
 loop-less c = search needs
 
--- src/names.rt:62:5
 loop-again : tie.Need-loop-again Inv-loop μ-loop
 unfolding anySlashed membersOf
 loop-again c =
@@ -86,7 +70,6 @@ loop-again c =
       ← (c .next-member .ensures),
     )
 
--- src/names.rt:56:1
 returns-3 : tie.Need-returns-3 Inv-loop μ-loop
 unfolding anySlashed membersOf
 returns-3 c =

@@ -7,11 +7,6 @@ use mathlib.Core.Bool.{true}
 use mathlib.Core.Path.{_≡_}
 use Rattle.json_names.proofs.sorted.again.Statement.{statement}
 use Rattle.json_names.proofs.sorted.again.Tie as tie
-use Rattle.json_names.proofs.sorted.again.Reads as reads
-use Rattle.json_names.proofs.sorted.again.Lts as lts
-use Rattle.json_names.proofs.names.among.Reads as among-reads
-use Rattle.json_walk.proofs.objects.first_member.Reads as first-member-reads
-use Rattle.json_walk.proofs.objects.next_member.Reads as next-member-reads
 
 abbrev Inv-loop : tie.InvT-loop
 Inv-loop text at name step₀ n₀ step n = repeats text (membersFrom n text step) ≡ true → repeats text (membersOf text at) ≡ true
@@ -19,56 +14,43 @@ Inv-loop text at name step₀ n₀ step n = repeats text (membersFrom n text ste
 abbrev μ-loop : tie.MeasureT-loop
 μ-loop text at name step₀ n₀ step n = n
 
--- src/sorted.rt:103:9
 first-member-requires : tie.Need-first-member-requires Inv-loop μ-loop
 first-member-requires c κs = search needs
 
--- src/sorted.rt:105:5
 loop-holds : tie.Need-loop-holds Inv-loop μ-loop
 unfolding membersOf
 loop-holds c = λ e. rw (← (c .first-member .ensures)) e
 
--- src/sorted.rt:107:29
 enum-known-step : tie.Need-enum-known-step Inv-loop μ-loop
 enum-known-step c = search needs
 
--- src/sorted.rt:109:65
 sub-among : tie.Need-sub-among Inv-loop μ-loop
 sub-among c = search needs
 
--- src/sorted.rt:109:21
 among-requires : tie.Need-among-requires Inv-loop μ-loop
 among-requires c κs = search needs
 
--- src/sorted.rt:109:21
 returns : tie.Need-returns Inv-loop μ-loop
 returns c = λ e. c .before .before .before .before .before .before .before .loop .inv (rw (c .before .before .before .before .step .given .1, members-one _ (c .before .before .before .before .before .before .loop-test .taken)) (repeats-here _ _ _ (rw (← (c .among .ensures)) e)))
 
--- src/sorted.rt:111:17
 next-member-requires : tie.Need-next-member-requires Inv-loop μ-loop
 next-member-requires c κs = search needs
 
--- src/sorted.rt:113:32
 enum-told : tie.Need-enum-told Inv-loop μ-loop
 enum-told c = search needs
 
--- src/sorted.rt:113:32
 returns-2 : tie.Need-returns-2 Inv-loop μ-loop
 returns-2 c = λ e. not-both e
 
--- src/sorted.rt:115:9
 sub-n : tie.Need-sub-n Inv-loop μ-loop
 sub-n c = search needs
 
--- src/sorted.rt:105:5
 loop-less : tie.Need-loop-less Inv-loop μ-loop
 loop-less c = search needs
 
--- src/sorted.rt:105:5
 loop-again : tie.Need-loop-again Inv-loop μ-loop
 loop-again c = λ e. c .before .before .before .before .before .before .before .loop .inv (rw (c .before .before .before .before .step .given .1, members-one _ (c .before .before .before .before .before .before .loop-test .taken)) (repeats-later _ _ _ (rw (← (c .next-member .ensures)) e)))
 
--- src/sorted.rt:99:1
 returns-3 : tie.Need-returns-3 Inv-loop μ-loop
 returns-3 c = λ e. not-both e
 

@@ -6,14 +6,6 @@ use Rattle.json_walk.specs.Walk.{membersFrom, membersOf}
 use borrow.Author.Needs.{needs}
 use Rattle.json_names.proofs.sorted.covered.Statement.{statement}
 use Rattle.json_names.proofs.sorted.covered.Tie as tie
-use Rattle.json_names.proofs.sorted.covered.Reads as reads
-use Rattle.json_names.proofs.sorted.covered.Lts as lts
-use Rattle.json_names.proofs.order.name_of.Reads as name-of-reads
-use Rattle.json_names.proofs.order.stop_of.Reads as stop-of-reads
-use Rattle.json_names.proofs.sorted.entry.Reads as entry-reads
-use Rattle.json_names.proofs.sorted.locate.Reads as locate-reads
-use Rattle.json_walk.proofs.objects.first_member.Reads as first-member-reads
-use Rattle.json_walk.proofs.objects.next_member.Reads as next-member-reads
 
 abbrev Inv-loop : tie.InvT-loop
 Inv-loop text at order k step₀ last₀ n₀ step last n = Covered order k last (membersFrom n text step) → Covered order k at (membersOf text at)
@@ -21,72 +13,55 @@ Inv-loop text at order k step₀ last₀ n₀ step last n = Covered order k last
 abbrev μ-loop : tie.MeasureT-loop
 μ-loop text at order k step₀ last₀ n₀ step last n = n
 
--- src/sorted.rt:68:9
 first-member-requires : tie.Need-first-member-requires Inv-loop μ-loop
 first-member-requires c κs = search needs
 
--- src/sorted.rt:71:5
 loop-holds : tie.Need-loop-holds Inv-loop μ-loop
 unfolding membersOf
 loop-holds c = λ e. rw (← (c .first-member .ensures)) e
 
--- src/sorted.rt:73:29
 enum-known-step : tie.Need-enum-known-step Inv-loop μ-loop
 enum-known-step c = search needs
 
--- src/sorted.rt:74:21
 locate-requires : tie.Need-locate-requires Inv-loop μ-loop
 locate-requires c κs = search needs
 
--- src/sorted.rt:75:21
 entry-requires : tie.Need-entry-requires Inv-loop μ-loop
 entry-requires c κs = search needs
 
--- src/sorted.rt:77:21
 returns : tie.Need-returns Inv-loop μ-loop
 returns c = λ e. not-both e
 
--- src/sorted.rt:80:21
 returns-2 : tie.Need-returns-2 Inv-loop μ-loop
 returns-2 c = λ e. not-both e
 
--- src/sorted.rt:82:20
 name-of-requires : tie.Need-name-of-requires Inv-loop μ-loop
 name-of-requires c κs = search needs
 
--- src/sorted.rt:83:21
 returns-3 : tie.Need-returns-3 Inv-loop μ-loop
 returns-3 c = λ e. not-both e
 
--- src/sorted.rt:85:20
 stop-of-requires : tie.Need-stop-of-requires Inv-loop μ-loop
 stop-of-requires c κs = search needs
 
--- src/sorted.rt:86:21
 returns-4 : tie.Need-returns-4 Inv-loop μ-loop
 returns-4 c = λ e. not-both e
 
--- src/sorted.rt:89:17
 next-member-requires : tie.Need-next-member-requires Inv-loop μ-loop
 next-member-requires c κs = search needs
 
--- src/sorted.rt:91:32
 enum-told : tie.Need-enum-told Inv-loop μ-loop
 enum-told c = search needs
 
--- src/sorted.rt:91:32
 returns-5 : tie.Need-returns-5 Inv-loop μ-loop
 returns-5 c = λ e. c .before .before .before .loop .inv (rw (c .enum-told .given .1, members-end) tt)
 
--- src/sorted.rt:93:9
 sub-n : tie.Need-sub-n Inv-loop μ-loop
 sub-n c = search needs
 
--- src/sorted.rt:71:5
 loop-less : tie.Need-loop-less Inv-loop μ-loop
 loop-less c = search needs
 
--- src/sorted.rt:71:5
 loop-again : tie.Need-loop-again Inv-loop μ-loop
 loop-again c = λ e.
     c .before .before .before .before .before .before .before .before .before .before .before .before .before .before .before .before .loop .inv (rw (c .before .before .before .before .before .before .before .before .before .before .before .before .before .step .given .1, members-one _ (c .before .before .before .before .before .before .before .before .before .before .before .before .before .before .before .loop-test .taken)) (
@@ -102,7 +77,6 @@ loop-again c = λ e.
       ),
     ))
 
--- src/sorted.rt:64:1
 returns-6 : tie.Need-returns-6 Inv-loop μ-loop
 returns-6 c = λ e. c .before .loop .inv (rw (members-none _ (c .loop-test .left)) tt)
 

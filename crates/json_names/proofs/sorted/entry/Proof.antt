@@ -3,22 +3,16 @@ use lib.ListN.{List·getD-eq-default}
 use borrow.Author.Needs.{needs}
 use Rattle.json_names.proofs.sorted.entry.Statement.{statement}
 use Rattle.json_names.proofs.sorted.entry.Tie as tie
-use Rattle.json_names.proofs.sorted.entry.Reads as reads
-use Rattle.json_names.proofs.sorted.entry.Lts as lts
 
--- src/sorted.rt:20:16
 mul-result : tie.Need-mul-result
 mul-result c = search needs
 
--- src/sorted.rt:20:16
 shared-slice-read-result : tie.Need-shared-slice-read-result
 shared-slice-read-result c = search needs
 
--- src/sorted.rt:20:9
 returns : tie.Need-returns
 returns c = search needs
 
--- src/sorted.rt:16:1
 returns-2 : tie.Need-returns-2
 returns-2 c = sym (List·getD-eq-default (c .before .args .order .now) 0 (c .if1 .left))
 

@@ -2,12 +2,6 @@ use Prim.Native.Nat.{_≤_}
 use borrow.Author.Needs.{needs}
 use Rattle.json_names.proofs.sorted.locate.Statement.{statement}
 use Rattle.json_names.proofs.sorted.locate.Tie as tie
-use Rattle.json_names.proofs.sorted.locate.Reads as reads
-use Rattle.json_names.proofs.sorted.locate.Lts as lts
-use Rattle.json_names.proofs.order.name_of.Reads as name-of-reads
-use Rattle.json_names.proofs.order.raw_before.Reads as raw-before-reads
-use Rattle.json_names.proofs.order.stop_of.Reads as stop-of-reads
-use Rattle.json_names.proofs.sorted.entry.Reads as entry-reads
 
 abbrev Inv-loop : tie.InvT-loop
 Inv-loop text order k a d low₀ high₀ n₀ low high n = high ≤ k
@@ -15,63 +9,48 @@ Inv-loop text order k a d low₀ high₀ n₀ low high n = high ≤ k
 abbrev μ-loop : tie.MeasureT-loop
 μ-loop text order k a d low₀ high₀ n₀ low high n = n
 
--- src/sorted.rt:47:5
 loop-holds : tie.Need-loop-holds Inv-loop μ-loop
 loop-holds c = search needs
 
--- src/sorted.rt:49:13
 returns : tie.Need-returns Inv-loop μ-loop
 returns c = search needs
 
--- src/sorted.rt:51:9
 sub-n : tie.Need-sub-n Inv-loop μ-loop
 sub-n c = search needs
 
--- src/sorted.rt:52:29
 sub-middle : tie.Need-sub-middle Inv-loop μ-loop
 sub-middle c = search needs
 
--- src/sorted.rt:52:22
 add-middle : tie.Need-add-middle Inv-loop μ-loop
 add-middle c = search needs
 
--- src/sorted.rt:53:13
 entry-requires : tie.Need-entry-requires Inv-loop μ-loop
 entry-requires c κs = search needs
 
--- src/sorted.rt:54:29
 name-of-requires : tie.Need-name-of-requires Inv-loop μ-loop
 name-of-requires c κs = search needs
 
--- src/sorted.rt:54:41
 stop-of-requires : tie.Need-stop-of-requires Inv-loop μ-loop
 stop-of-requires c κs = search needs
 
--- src/sorted.rt:54:12
 raw-before-requires : tie.Need-raw-before-requires Inv-loop μ-loop
 raw-before-requires c κs = search needs
 
--- src/sorted.rt:55:19
 add-low : tie.Need-add-low Inv-loop μ-loop
 add-low c = search needs
 
--- src/sorted.rt:47:5
 loop-less : tie.Need-loop-less Inv-loop μ-loop
 loop-less c = search needs
 
--- src/sorted.rt:47:5
 loop-again : tie.Need-loop-again Inv-loop μ-loop
 loop-again c = search needs
 
--- src/sorted.rt:47:5
 loop-less-2 : tie.Need-loop-less-2 Inv-loop μ-loop
 loop-less-2 c = search needs
 
--- src/sorted.rt:47:5
 loop-again-2 : tie.Need-loop-again-2 Inv-loop μ-loop
 loop-again-2 c = search needs
 
--- src/sorted.rt:43:1
 returns-2 : tie.Need-returns-2 Inv-loop μ-loop
 returns-2 c = search needs
 

@@ -5,10 +5,6 @@ use Prim.Native.Nat.{_-_}
 use borrow.Author.Needs.{needs}
 use Rattle.json_names.proofs.sorted.rising.Statement.{statement}
 use Rattle.json_names.proofs.sorted.rising.Tie as tie
-use Rattle.json_names.proofs.sorted.rising.Reads as reads
-use Rattle.json_names.proofs.sorted.rising.Lts as lts
-use Rattle.json_names.proofs.order.entry_before.Reads as entry-before-reads
-use Rattle.json_names.proofs.sorted.entry.Reads as entry-reads
 
 abbrev Inv-loop : tie.InvT-loop
 Inv-loop text order k i₀ i = Rising text order i
@@ -16,53 +12,41 @@ Inv-loop text order k i₀ i = Rising text order i
 abbrev μ-loop : tie.MeasureT-loop
 μ-loop text order k i₀ i = k - i
 
--- src/sorted.rt:30:5
 loop-holds : tie.Need-loop-holds Inv-loop μ-loop
 unfolding Rising
 loop-holds c = below-none _
 
--- src/sorted.rt:31:12
 sub-if1 : tie.Need-sub-if1 Inv-loop μ-loop
 sub-if1 c = search needs
 
--- src/sorted.rt:32:13
 returns : tie.Need-returns Inv-loop μ-loop
 returns c = search needs
 
--- src/sorted.rt:34:32
 entry-requires : tie.Need-entry-requires Inv-loop μ-loop
 entry-requires c κs = search needs
 
--- src/sorted.rt:34:62
 add-entry : tie.Need-add-entry Inv-loop μ-loop
 add-entry c = search needs
 
--- src/sorted.rt:34:49
 entry-requires-2 : tie.Need-entry-requires-2 Inv-loop μ-loop
 entry-requires-2 c κs = search needs
 
--- src/sorted.rt:34:13
 entry-before-requires : tie.Need-entry-before-requires Inv-loop μ-loop
 entry-before-requires c κs = search needs
 
--- src/sorted.rt:35:13
 returns-2 : tie.Need-returns-2 Inv-loop μ-loop
 returns-2 c = search needs
 
--- src/sorted.rt:37:9
 add-i : tie.Need-add-i Inv-loop μ-loop
 add-i c = search needs
 
--- src/sorted.rt:30:5
 loop-less : tie.Need-loop-less Inv-loop μ-loop
 loop-less c = search needs
 
--- src/sorted.rt:30:5
 loop-again : tie.Need-loop-again Inv-loop μ-loop
 unfolding Rising
 loop-again c = below-more _ _ (c .before .before .before .before .before .before .loop .inv) (rw (← (c .before .before .before .entry .ensures), ← (c .before .before .entry2 .ensures), ← (c .before .entry-before .ensures)) (not-false _ (c .if2 .left)))
 
--- src/sorted.rt:26:1
 returns-3 : tie.Need-returns-3 Inv-loop μ-loop
 returns-3 c = search needs
 

@@ -1,8 +1,7 @@
 -- `byte` meets its contract: what it reads is the byte at the place, and past the end it is 0.
-use Prim.Native.Nat.{_-_}
 use mathlib.Core.Path.{refl, sym}
 use native.Mathlib.Omega.{arith}
-use lib.ListN.{length, List·getD-eq-default}
+use lib.ListN.{List·getD-eq-default}
 use borrow.Author.Needs.{needs}
 use Rattle.json_text.proofs.bytes.byte.Statement.{statement}
 use Rattle.json_text.proofs.bytes.byte.Tie as tie

@@ -2,15 +2,11 @@ use Rattle.json_text.specs.Bytes.{isDigit}
 use borrow.Author.Tests.{le-ltb, lt-ltb}
 use Rattle.json_text.proofs.bytes.is_digit.Statement.{statement}
 use Rattle.json_text.proofs.bytes.is_digit.Tie as tie
-use Rattle.json_text.proofs.bytes.is_digit.Reads as reads
-use Rattle.json_text.proofs.bytes.is_digit.Lts as lts
 
--- src/bytes.rt:34:9
 returns : tie.Need-returns
 unfolding isDigit
 returns c = rw (lt-ltb _ _ (c .if1 .taken))
 
--- src/bytes.rt:30:1
 returns-2 : tie.Need-returns-2
 unfolding isDigit
 returns-2 c = rw (le-ltb _ _ (c .if1 .left))

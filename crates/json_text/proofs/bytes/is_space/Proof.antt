@@ -2,15 +2,11 @@ use Rattle.json_text.specs.Bytes.{isSpace}
 use borrow.Author.Tests.{eq-eqb, ne-eqb}
 use Rattle.json_text.proofs.bytes.is_space.Statement.{statement}
 use Rattle.json_text.proofs.bytes.is_space.Tie as tie
-use Rattle.json_text.proofs.bytes.is_space.Reads as reads
-use Rattle.json_text.proofs.bytes.is_space.Lts as lts
 
--- src/bytes.rt:19:9
 returns : tie.Need-returns
 unfolding isSpace
 returns c = rw (eq-eqb _ _ (c .if1 .taken))
 
--- src/bytes.rt:22:9
 returns-2 : tie.Need-returns-2
 unfolding isSpace
 returns-2 c =
@@ -19,7 +15,6 @@ returns-2 c =
       eq-eqb _ _ (c .if2 .taken),
     )
 
--- src/bytes.rt:25:9
 returns-3 : tie.Need-returns-3
 unfolding isSpace
 returns-3 c =
@@ -29,7 +24,6 @@ returns-3 c =
       eq-eqb _ _ (c .if3 .taken),
     )
 
--- src/bytes.rt:15:1
 returns-4 : tie.Need-returns-4
 unfolding isSpace
 returns-4 c =

@@ -10,10 +10,6 @@ use native.Mathlib.Omega.{arith}
 use mathlib.Core.Path.{sym}
 use Rattle.json_text.proofs.bytes.space.Statement.{statement}
 use Rattle.json_text.proofs.bytes.space.Tie as tie
-use Rattle.json_text.proofs.bytes.space.Reads as reads
-use Rattle.json_text.proofs.bytes.space.Lts as lts
-use Rattle.json_text.proofs.bytes.byte.Reads as byte-reads
-use Rattle.json_text.proofs.bytes.is_space.Reads as is-space-reads
 
 abbrev Inv-loop : tie.InvT-loop
 Inv-loop text at i₀ i = spaceAt text i ≡ spaceAt text at
@@ -21,35 +17,28 @@ Inv-loop text at i₀ i = spaceAt text i ≡ spaceAt text at
 abbrev μ-loop : tie.MeasureT-loop
 μ-loop text at i₀ i = length text - i
 
--- src/bytes.rt:44:5
 loop-holds : tie.Need-loop-holds Inv-loop μ-loop
 unfolding past spaceAt
 loop-holds c = search needs
 
--- src/bytes.rt:44:20
 byte-requires : tie.Need-byte-requires Inv-loop μ-loop
 byte-requires c κs = search needs
 
--- src/bytes.rt:44:11
 is-space-requires : tie.Need-is-space-requires Inv-loop μ-loop
 is-space-requires c κs = search needs
 
--- src/bytes.rt:45:9
 add-i : tie.Need-add-i Inv-loop μ-loop
 add-i c =
     omega (arith, some-space _ _ (c .before .is-space .ensures) (c .if1 .taken))
 
--- src/bytes.rt:44:5
 loop-less : tie.Need-loop-less Inv-loop μ-loop
 loop-less c =
     omega (arith, some-space _ _ (c .before .is-space .ensures) (c .if1 .taken))
 
--- src/bytes.rt:44:5
 loop-again : tie.Need-loop-again Inv-loop μ-loop
 loop-again c =
     rw (← (c .before .before .before .loop .inv)) (space-more _ _ (omega (arith, some-space _ _ (c .before .is-space .ensures) (c .if1 .taken))) (rw (← (c .before .before .byte .ensures .is), ← (c .before .is-space .ensures)) (c .if1 .taken)))
 
--- src/bytes.rt:40:1
 returns : tie.Need-returns Inv-loop μ-loop
 returns c =
     rw (← (c .before .before .before .loop .inv)) (sym (space-stop _ _ (rw (← (c .before .before .byte .ensures .is), ← (c .before .is-space .ensures)) (c .if1 .left))))

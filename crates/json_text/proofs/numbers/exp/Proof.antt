@@ -3,24 +3,16 @@ use borrow.Author.Tests.{eq-eqb, ne-eqb}
 use borrow.Author.Needs.{needs}
 use Rattle.json_text.proofs.numbers.exp.Statement.{statement}
 use Rattle.json_text.proofs.numbers.exp.Tie as tie
-use Rattle.json_text.proofs.numbers.exp.Reads as reads
-use Rattle.json_text.proofs.numbers.exp.Lts as lts
-use Rattle.json_text.proofs.bytes.byte.Reads as byte-reads
-use Rattle.json_text.proofs.numbers.power.Reads as power-reads
 
--- src/numbers.rt:52:9
 byte-requires : tie.Need-byte-requires
 byte-requires c κs = search needs
 
--- src/numbers.rt:54:28
 add-power : tie.Need-add-power
 add-power c = search needs
 
--- src/numbers.rt:54:9
 power-requires : tie.Need-power-requires
 power-requires c κs = search needs
 
--- src/numbers.rt:54:9
 returns : tie.Need-returns
 unfolding expAt
 returns c =
@@ -30,15 +22,12 @@ returns c =
       ← (c .power .ensures),
     )
 
--- src/numbers.rt:57:28
 add-power-2 : tie.Need-add-power-2
 add-power-2 c = search needs
 
--- src/numbers.rt:57:9
 power-requires-2 : tie.Need-power-requires-2
 power-requires-2 c κs = search needs
 
--- src/numbers.rt:57:9
 returns-2 : tie.Need-returns-2
 unfolding expAt
 returns-2 c =
@@ -49,7 +38,6 @@ returns-2 c =
       ← (c .power2 .ensures),
     )
 
--- src/numbers.rt:49:1
 returns-3 : tie.Need-returns-3
 unfolding expAt
 returns-3 c =

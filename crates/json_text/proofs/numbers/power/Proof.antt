@@ -3,24 +3,16 @@ use borrow.Author.Tests.{eq-eqb, ne-eqb}
 use borrow.Author.Needs.{needs}
 use Rattle.json_text.proofs.numbers.power.Statement.{statement}
 use Rattle.json_text.proofs.numbers.power.Tie as tie
-use Rattle.json_text.proofs.numbers.power.Reads as reads
-use Rattle.json_text.proofs.numbers.power.Lts as lts
-use Rattle.json_text.proofs.bytes.byte.Reads as byte-reads
-use Rattle.json_text.proofs.numbers.some_digits.Reads as some-digits-reads
 
--- src/numbers.rt:39:9
 byte-requires : tie.Need-byte-requires
 byte-requires c κs = search needs
 
--- src/numbers.rt:41:34
 add-some-digits : tie.Need-add-some-digits
 add-some-digits c = search needs
 
--- src/numbers.rt:41:9
 some-digits-requires : tie.Need-some-digits-requires
 some-digits-requires c κs = search needs
 
--- src/numbers.rt:41:9
 returns : tie.Need-returns
 unfolding powerAt
 returns c =
@@ -30,15 +22,12 @@ returns c =
       ← (c .some-digits .ensures),
     )
 
--- src/numbers.rt:44:34
 add-some-digits-2 : tie.Need-add-some-digits-2
 add-some-digits-2 c = search needs
 
--- src/numbers.rt:44:9
 some-digits-requires-2 : tie.Need-some-digits-requires-2
 some-digits-requires-2 c κs = search needs
 
--- src/numbers.rt:44:9
 returns-2 : tie.Need-returns-2
 unfolding powerAt
 returns-2 c =
@@ -49,11 +38,9 @@ returns-2 c =
       ← (c .some-digits2 .ensures),
     )
 
--- src/numbers.rt:46:5
 some-digits-requires-3 : tie.Need-some-digits-requires-3
 some-digits-requires-3 c κs = search needs
 
--- src/numbers.rt:36:1
 returns-3 : tie.Need-returns-3
 unfolding powerAt
 returns-3 c =

@@ -5,21 +5,13 @@ use borrow.Author.Tests.{not-false, not-true}
 use borrow.Author.Needs.{needs}
 use Rattle.json_text.proofs.numbers.some_digits.Statement.{statement}
 use Rattle.json_text.proofs.numbers.some_digits.Tie as tie
-use Rattle.json_text.proofs.numbers.some_digits.Reads as reads
-use Rattle.json_text.proofs.numbers.some_digits.Lts as lts
-use Rattle.json_text.proofs.bytes.byte.Reads as byte-reads
-use Rattle.json_text.proofs.bytes.digits.Reads as digits-reads
-use Rattle.json_text.proofs.bytes.is_digit.Reads as is-digit-reads
 
--- src/numbers.rt:11:18
 byte-requires : tie.Need-byte-requires
 byte-requires c κs = search needs
 
--- src/numbers.rt:11:9
 is-digit-requires : tie.Need-is-digit-requires
 is-digit-requires c κs = search needs
 
--- src/numbers.rt:12:9
 returns : tie.Need-returns
 unfolding someDigitsAt
 returns c =
@@ -29,15 +21,12 @@ returns c =
       not-true (c .before .is-digit .result) (c .if1 .taken),
     )
 
--- src/numbers.rt:14:27
 add-digits : tie.Need-add-digits
 add-digits c = omega (arith, some-digit _ _ (c .before .is-digit .ensures) (not-false _ (c .if1 .left)))
 
--- src/numbers.rt:14:14
 digits-requires : tie.Need-digits-requires
 digits-requires c κs = search needs
 
--- src/numbers.rt:8:1
 returns-2 : tie.Need-returns-2
 unfolding someDigitsAt
 returns-2 c =

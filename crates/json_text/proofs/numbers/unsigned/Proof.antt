@@ -2,49 +2,34 @@ use Rattle.json_text.specs.Numbers.{unsignedAt}
 use borrow.Author.Needs.{needs}
 use Rattle.json_text.proofs.numbers.unsigned.Statement.{statement}
 use Rattle.json_text.proofs.numbers.unsigned.Tie as tie
-use Rattle.json_text.proofs.numbers.unsigned.Reads as reads
-use Rattle.json_text.proofs.numbers.unsigned.Lts as lts
-use Rattle.json_text.proofs.numbers.exp.Reads as exp-reads
-use Rattle.json_text.proofs.numbers.frac.Reads as frac-reads
-use Rattle.json_text.proofs.numbers.int.Reads as int-reads
 
--- src/numbers.rt:65:11
 int-requires : tie.Need-int-requires
 int-requires c κs = search needs
 
--- src/numbers.rt:66:18
 enum-known-j : tie.Need-enum-known-j
 enum-known-j c = search needs
 
--- src/numbers.rt:66:30
 frac-requires : tie.Need-frac-requires
 frac-requires c κs = search needs
 
--- src/numbers.rt:67:22
 enum-known-k : tie.Need-enum-known-k
 enum-known-k c = search needs
 
--- src/numbers.rt:67:28
 exp-requires : tie.Need-exp-requires
 exp-requires c κs = search needs
 
--- src/numbers.rt:68:26
 enum-told : tie.Need-enum-told
 enum-told c = search needs
 
--- src/numbers.rt:69:27
 enum-told-2 : tie.Need-enum-told-2
 enum-told-2 c = search needs
 
--- src/numbers.rt:71:22
 enum-told-3 : tie.Need-enum-told-3
 enum-told-3 c = search needs
 
--- src/numbers.rt:72:23
 enum-told-4 : tie.Need-enum-told-4
 enum-told-4 c = search needs
 
--- src/numbers.rt:62:1
 returns : tie.Need-returns
 unfolding unsignedAt
 returns c =
@@ -56,7 +41,6 @@ returns c =
       ← (c .exp .ensures),
     )
 
--- src/numbers.rt:62:1
 returns-2 : tie.Need-returns-2
 unfolding unsignedAt
 returns-2 c =
@@ -67,7 +51,6 @@ returns-2 c =
       c .enum-told .given .1,
     )
 
--- src/numbers.rt:62:1
 returns-3 : tie.Need-returns-3
 unfolding unsignedAt
 returns-3 c =
@@ -78,7 +61,6 @@ returns-3 c =
       c .enum-told2 .given .1,
     )
 
--- src/numbers.rt:62:1
 returns-4 : tie.Need-returns-4
 unfolding unsignedAt
 returns-4 c =
@@ -87,7 +69,6 @@ returns-4 c =
       c .enum-told3 .given .1,
     )
 
--- src/numbers.rt:62:1
 returns-5 : tie.Need-returns-5
 unfolding unsignedAt
 returns-5 c =

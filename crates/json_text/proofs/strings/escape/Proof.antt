@@ -5,25 +5,16 @@ use borrow.Author.Tests.{eq-eqb, ne-eqb}
 use borrow.Author.Needs.{needs}
 use Rattle.json_text.proofs.strings.escape.Statement.{statement}
 use Rattle.json_text.proofs.strings.escape.Tie as tie
-use Rattle.json_text.proofs.strings.escape.Reads as reads
-use Rattle.json_text.proofs.strings.escape.Lts as lts
-use Rattle.json_text.proofs.bytes.byte.Reads as byte-reads
-use Rattle.json_text.proofs.strings.hex.Reads as hex-reads
-use Rattle.json_text.proofs.strings.is_escaped.Reads as is-escaped-reads
 
--- src/strings.rt:76:9
 byte-requires : tie.Need-byte-requires
 byte-requires c κs = search needs
 
--- src/strings.rt:77:8
 is-escaped-requires : tie.Need-is-escaped-requires
 is-escaped-requires c κs = search needs
 
--- src/strings.rt:78:25
 add-t5 : tie.Need-add-t5
 add-t5 c = omega (arith, some-escaped _ _ (c .before .is-escaped .ensures) (c .if1 .taken))
 
--- src/strings.rt:78:9
 returns : tie.Need-returns
 unfolding escapeAt
 returns c =
@@ -33,15 +24,12 @@ returns c =
       c .if1 .taken,
     )
 
--- src/strings.rt:81:26
 add-hex : tie.Need-add-hex
 add-hex c = search needs
 
--- src/strings.rt:81:9
 hex-requires : tie.Need-hex-requires
 hex-requires c κs = search needs
 
--- src/strings.rt:81:9
 returns-2 : tie.Need-returns-2
 unfolding escapeAt
 returns-2 c =
@@ -53,7 +41,6 @@ returns-2 c =
       ← (c .hex .ensures),
     )
 
--- src/strings.rt:73:1
 returns-3 : tie.Need-returns-3
 unfolding escapeAt
 returns-3 c =

@@ -2,15 +2,11 @@ use Rattle.json_text.specs.Strings.{isEscaped}
 use borrow.Author.Tests.{eq-eqb, ne-eqb}
 use Rattle.json_text.proofs.strings.is_escaped.Statement.{statement}
 use Rattle.json_text.proofs.strings.is_escaped.Tie as tie
-use Rattle.json_text.proofs.strings.is_escaped.Reads as reads
-use Rattle.json_text.proofs.strings.is_escaped.Lts as lts
 
--- src/strings.rt:49:9
 returns : tie.Need-returns
 unfolding isEscaped
 returns c = rw (eq-eqb _ _ (c .if1 .taken))
 
--- src/strings.rt:52:9
 returns-2 : tie.Need-returns-2
 unfolding isEscaped
 returns-2 c =
@@ -19,7 +15,6 @@ returns-2 c =
       eq-eqb _ _ (c .if2 .taken),
     )
 
--- src/strings.rt:55:9
 returns-3 : tie.Need-returns-3
 unfolding isEscaped
 returns-3 c =
@@ -29,7 +24,6 @@ returns-3 c =
       eq-eqb _ _ (c .if3 .taken),
     )
 
--- src/strings.rt:58:9
 returns-4 : tie.Need-returns-4
 unfolding isEscaped
 returns-4 c =
@@ -40,7 +34,6 @@ returns-4 c =
       eq-eqb _ _ (c .if4 .taken),
     )
 
--- src/strings.rt:61:9
 returns-5 : tie.Need-returns-5
 unfolding isEscaped
 returns-5 c =
@@ -52,7 +45,6 @@ returns-5 c =
       eq-eqb _ _ (c .if5 .taken),
     )
 
--- src/strings.rt:64:9
 returns-6 : tie.Need-returns-6
 unfolding isEscaped
 returns-6 c =
@@ -65,7 +57,6 @@ returns-6 c =
       eq-eqb _ _ (c .if6 .taken),
     )
 
--- src/strings.rt:67:9
 returns-7 : tie.Need-returns-7
 unfolding isEscaped
 returns-7 c =
@@ -79,7 +70,6 @@ returns-7 c =
       eq-eqb _ _ (c .if7 .taken),
     )
 
--- src/strings.rt:45:1
 returns-8 : tie.Need-returns-8
 unfolding isEscaped
 returns-8 c =

@@ -3,15 +3,10 @@ use borrow.Author.Tests.{le-leb, le-ltb, lt-leb, lt-ltb}
 use borrow.Author.Needs.{needs}
 use Rattle.json_text.proofs.strings.is_hex.Statement.{statement}
 use Rattle.json_text.proofs.strings.is_hex.Tie as tie
-use Rattle.json_text.proofs.strings.is_hex.Reads as reads
-use Rattle.json_text.proofs.strings.is_hex.Lts as lts
-use Rattle.json_text.proofs.bytes.is_digit.Reads as is-digit-reads
 
--- src/strings.rt:11:8
 is-digit-requires : tie.Need-is-digit-requires
 is-digit-requires c κs = search needs
 
--- src/strings.rt:12:9
 returns : tie.Need-returns
 unfolding isHex
 returns c = rw (
@@ -19,7 +14,6 @@ returns c = rw (
   c .if1 .taken,
 )
 
--- src/strings.rt:15:9
 returns-2 : tie.Need-returns-2
 unfolding isHex
 returns-2 c =
@@ -29,7 +23,6 @@ returns-2 c =
       lt-ltb _ _ (c .if2 .taken),
     )
 
--- src/strings.rt:18:9
 returns-3 : tie.Need-returns-3
 unfolding isHex
 returns-3 c =
@@ -40,7 +33,6 @@ returns-3 c =
       le-leb _ _ (c .if3 .taken),
     )
 
--- src/strings.rt:21:9
 returns-4 : tie.Need-returns-4
 unfolding isHex
 returns-4 c =
@@ -52,7 +44,6 @@ returns-4 c =
       lt-ltb _ _ (c .if4 .taken),
     )
 
--- src/strings.rt:8:1
 returns-5 : tie.Need-returns-5
 unfolding isHex
 returns-5 c =

@@ -5,10 +5,6 @@ use borrow.Author.Tests.{eq-eqb, ne-eqb}
 use mathlib.Core.Path.{_≡_}
 use Rattle.json_text.proofs.strings.string.Statement.{statement}
 use Rattle.json_text.proofs.strings.string.Tie as tie
-use Rattle.json_text.proofs.strings.string.Reads as reads
-use Rattle.json_text.proofs.strings.string.Lts as lts
-use Rattle.json_text.proofs.bytes.byte.Reads as byte-reads
-use Rattle.json_text.proofs.strings.character.Reads as character-reads
 
 abbrev Inv-loop : tie.InvT-loop
 Inv-loop text at i₀ n₀ i n = charsAt n text i ≡ stringAt text at
@@ -16,11 +12,9 @@ Inv-loop text at i₀ n₀ i n = charsAt n text i ≡ stringAt text at
 abbrev μ-loop : tie.MeasureT-loop
 μ-loop text at i₀ n₀ i n = n
 
--- src/strings.rt:107:8
 byte-requires : tie.Need-byte-requires Inv-loop μ-loop
 byte-requires c κs = search needs
 
--- src/strings.rt:108:9
 returns : tie.Need-returns Inv-loop μ-loop
 unfolding stringAt
 returns c =
@@ -29,11 +23,9 @@ returns c =
       ne-eqb _ _ (c .if1 .taken),
     )
 
--- src/strings.rt:110:17
 add-i : tie.Need-add-i Inv-loop μ-loop
 add-i c = search needs
 
--- src/strings.rt:112:5
 loop-holds : tie.Need-loop-holds Inv-loop μ-loop
 unfolding stringAt
 loop-holds c =
@@ -42,15 +34,12 @@ loop-holds c =
       eq-eqb _ _ (c .if1 .left),
     )
 
--- src/strings.rt:113:12
 byte-requires-2 : tie.Need-byte-requires-2 Inv-loop μ-loop
 byte-requires-2 c κs = search needs
 
--- src/strings.rt:114:29
 add-t10 : tie.Need-add-t10 Inv-loop μ-loop
 add-t10 c = search needs
 
--- src/strings.rt:114:13
 returns-2 : tie.Need-returns-2 Inv-loop μ-loop
 unfolding stringAt
 returns-2 c =
@@ -61,19 +50,15 @@ returns-2 c =
       eq-eqb _ _ (c .if2 .taken),
     )
 
--- src/strings.rt:116:15
 character-requires : tie.Need-character-requires Inv-loop μ-loop
 character-requires c κs = search needs
 
--- src/strings.rt:117:22
 enum-known-j : tie.Need-enum-known-j Inv-loop μ-loop
 enum-known-j c = search needs
 
--- src/strings.rt:121:17
 enum-told : tie.Need-enum-told Inv-loop μ-loop
 enum-told c = search needs
 
--- src/strings.rt:121:17
 returns-3 : tie.Need-returns-3 Inv-loop μ-loop
 unfolding stringAt
 returns-3 c =
@@ -86,11 +71,9 @@ returns-3 c =
       c .enum-told .given .1,
     )
 
--- src/strings.rt:124:17
 enum-told-2 : tie.Need-enum-told-2 Inv-loop μ-loop
 enum-told-2 c = search needs
 
--- src/strings.rt:124:17
 returns-4 : tie.Need-returns-4 Inv-loop μ-loop
 unfolding stringAt
 returns-4 c =
@@ -103,15 +86,12 @@ returns-4 c =
       c .enum-told2 .given .1,
     )
 
--- src/strings.rt:127:9
 sub-n : tie.Need-sub-n Inv-loop μ-loop
 sub-n c = search needs
 
--- src/strings.rt:112:5
 loop-less : tie.Need-loop-less Inv-loop μ-loop
 loop-less c = search needs
 
--- src/strings.rt:112:5
 loop-again : tie.Need-loop-again Inv-loop μ-loop
 unfolding stringAt
 loop-again c =
@@ -124,7 +104,6 @@ loop-again c =
       c .before .j .given .1,
     )
 
--- src/strings.rt:104:1
 returns-5 : tie.Need-returns-5 Inv-loop μ-loop
 unfolding stringAt
 returns-5 c =

@@ -2,15 +2,11 @@ use Rattle.json_text.specs.Utf8.{isTail}
 use borrow.Author.Tests.{le-ltb, lt-ltb}
 use Rattle.json_text.proofs.utf8.is_tail.Statement.{statement}
 use Rattle.json_text.proofs.utf8.is_tail.Tie as tie
-use Rattle.json_text.proofs.utf8.is_tail.Reads as reads
-use Rattle.json_text.proofs.utf8.is_tail.Lts as lts
 
--- src/utf8.rt:12:9
 returns : tie.Need-returns
 unfolding isTail
 returns c = rw (lt-ltb _ _ (c .if1 .taken))
 
--- src/utf8.rt:8:1
 returns-2 : tie.Need-returns-2
 unfolding isTail
 returns-2 c = rw (le-ltb _ _ (c .if1 .left))

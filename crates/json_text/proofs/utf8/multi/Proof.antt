@@ -3,16 +3,10 @@ use borrow.Author.Tests.{eq-eqb, le-ltb, lt-ltb, ne-eqb}
 use borrow.Author.Needs.{needs}
 use Rattle.json_text.proofs.utf8.multi.Statement.{statement}
 use Rattle.json_text.proofs.utf8.multi.Tie as tie
-use Rattle.json_text.proofs.utf8.multi.Reads as reads
-use Rattle.json_text.proofs.utf8.multi.Lts as lts
-use Rattle.json_text.proofs.bytes.byte.Reads as byte-reads
-use Rattle.json_text.proofs.utf8.second.Reads as second-reads
 
--- src/utf8.rt:52:9
 byte-requires : tie.Need-byte-requires
 byte-requires c κs = search needs
 
--- src/utf8.rt:54:9
 returns : tie.Need-returns
 unfolding multiAt
 returns c =
@@ -21,15 +15,12 @@ returns c =
       lt-ltb _ _ (c .if1 .taken),
     )
 
--- src/utf8.rt:57:29
 add-second : tie.Need-add-second
 add-second c = search needs
 
--- src/utf8.rt:57:9
 second-requires : tie.Need-second-requires
 second-requires c κs = search needs
 
--- src/utf8.rt:57:9
 returns-2 : tie.Need-returns-2
 unfolding multiAt
 returns-2 c =
@@ -40,15 +31,12 @@ returns-2 c =
       ← (c .second .ensures),
     )
 
--- src/utf8.rt:60:29
 add-second-2 : tie.Need-add-second-2
 add-second-2 c = search needs
 
--- src/utf8.rt:60:9
 second-requires-2 : tie.Need-second-requires-2
 second-requires-2 c κs = search needs
 
--- src/utf8.rt:60:9
 returns-3 : tie.Need-returns-3
 unfolding multiAt
 returns-3 c =
@@ -60,15 +48,12 @@ returns-3 c =
       ← (c .second2 .ensures),
     )
 
--- src/utf8.rt:63:29
 add-second-3 : tie.Need-add-second-3
 add-second-3 c = search needs
 
--- src/utf8.rt:63:9
 second-requires-3 : tie.Need-second-requires-3
 second-requires-3 c κs = search needs
 
--- src/utf8.rt:63:9
 returns-4 : tie.Need-returns-4
 unfolding multiAt
 returns-4 c =
@@ -81,15 +66,12 @@ returns-4 c =
       ← (c .second3 .ensures),
     )
 
--- src/utf8.rt:66:29
 add-second-4 : tie.Need-add-second-4
 add-second-4 c = search needs
 
--- src/utf8.rt:66:9
 second-requires-4 : tie.Need-second-requires-4
 second-requires-4 c κs = search needs
 
--- src/utf8.rt:66:9
 returns-5 : tie.Need-returns-5
 unfolding multiAt
 returns-5 c =
@@ -103,15 +85,12 @@ returns-5 c =
       ← (c .second4 .ensures),
     )
 
--- src/utf8.rt:69:29
 add-second-5 : tie.Need-add-second-5
 add-second-5 c = search needs
 
--- src/utf8.rt:69:9
 second-requires-5 : tie.Need-second-requires-5
 second-requires-5 c κs = search needs
 
--- src/utf8.rt:69:9
 returns-6 : tie.Need-returns-6
 unfolding multiAt
 returns-6 c =
@@ -126,15 +105,12 @@ returns-6 c =
       ← (c .second5 .ensures),
     )
 
--- src/utf8.rt:72:29
 add-second-6 : tie.Need-add-second-6
 add-second-6 c = search needs
 
--- src/utf8.rt:72:9
 second-requires-6 : tie.Need-second-requires-6
 second-requires-6 c κs = search needs
 
--- src/utf8.rt:72:9
 returns-7 : tie.Need-returns-7
 unfolding multiAt
 returns-7 c =
@@ -150,15 +126,12 @@ returns-7 c =
       ← (c .second6 .ensures),
     )
 
--- src/utf8.rt:75:29
 add-second-7 : tie.Need-add-second-7
 add-second-7 c = search needs
 
--- src/utf8.rt:75:9
 second-requires-7 : tie.Need-second-requires-7
 second-requires-7 c κs = search needs
 
--- src/utf8.rt:75:9
 returns-8 : tie.Need-returns-8
 unfolding multiAt
 returns-8 c =
@@ -175,15 +148,12 @@ returns-8 c =
       ← (c .second7 .ensures),
     )
 
--- src/utf8.rt:78:29
 add-second-8 : tie.Need-add-second-8
 add-second-8 c = search needs
 
--- src/utf8.rt:78:9
 second-requires-8 : tie.Need-second-requires-8
 second-requires-8 c κs = search needs
 
--- src/utf8.rt:78:9
 returns-9 : tie.Need-returns-9
 unfolding multiAt
 returns-9 c =
@@ -201,7 +171,6 @@ returns-9 c =
       ← (c .second8 .ensures),
     )
 
--- src/utf8.rt:49:1
 returns-10 : tie.Need-returns-10
 unfolding multiAt
 returns-10 c =

@@ -3,16 +3,10 @@ use borrow.Author.Tests.{le-ltb, lt-ltb}
 use borrow.Author.Needs.{needs}
 use Rattle.json_text.proofs.utf8.second.Statement.{statement}
 use Rattle.json_text.proofs.utf8.second.Tie as tie
-use Rattle.json_text.proofs.utf8.second.Reads as reads
-use Rattle.json_text.proofs.utf8.second.Lts as lts
-use Rattle.json_text.proofs.bytes.byte.Reads as byte-reads
-use Rattle.json_text.proofs.utf8.tails.Reads as tails-reads
 
--- src/utf8.rt:38:9
 byte-requires : tie.Need-byte-requires
 byte-requires c κs = search needs
 
--- src/utf8.rt:40:9
 returns : tie.Need-returns
 unfolding secondAt
 returns c =
@@ -21,7 +15,6 @@ returns c =
       lt-ltb _ _ (c .if1 .taken),
     )
 
--- src/utf8.rt:43:9
 returns-2 : tie.Need-returns-2
 unfolding secondAt
 returns-2 c =
@@ -31,15 +24,12 @@ returns-2 c =
       lt-ltb _ _ (c .if2 .taken),
     )
 
--- src/utf8.rt:45:17
 add-tails : tie.Need-add-tails
 add-tails c = search needs
 
--- src/utf8.rt:45:5
 tails-requires : tie.Need-tails-requires
 tails-requires c κs = search needs
 
--- src/utf8.rt:34:1
 returns-3 : tie.Need-returns-3
 unfolding secondAt
 returns-3 c =

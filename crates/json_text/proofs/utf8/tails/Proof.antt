@@ -8,10 +8,6 @@ use Rattle.json_text.proofs.Laws.{some-tail}
 use native.Mathlib.Omega.{arith}
 use Rattle.json_text.proofs.utf8.tails.Statement.{statement}
 use Rattle.json_text.proofs.utf8.tails.Tie as tie
-use Rattle.json_text.proofs.utf8.tails.Reads as reads
-use Rattle.json_text.proofs.utf8.tails.Lts as lts
-use Rattle.json_text.proofs.bytes.byte.Reads as byte-reads
-use Rattle.json_text.proofs.utf8.is_tail.Reads as is-tail-reads
 
 abbrev Inv-loop : tie.InvT-loop
 Inv-loop text at count i₀ n₀ i n = tailsAt n text i ≡ tailsAt count text at
@@ -19,20 +15,16 @@ Inv-loop text at count i₀ n₀ i n = tailsAt n text i ≡ tailsAt count text a
 abbrev μ-loop : tie.MeasureT-loop
 μ-loop text at count i₀ n₀ i n = n
 
--- src/utf8.rt:23:5
 loop-holds : tie.Need-loop-holds Inv-loop μ-loop
 unfolding tailsAt
 loop-holds c = search needs
 
--- src/utf8.rt:24:21
 byte-requires : tie.Need-byte-requires Inv-loop μ-loop
 byte-requires c κs = search needs
 
--- src/utf8.rt:24:13
 is-tail-requires : tie.Need-is-tail-requires Inv-loop μ-loop
 is-tail-requires c κs = search needs
 
--- src/utf8.rt:25:13
 returns : tie.Need-returns Inv-loop μ-loop
 unfolding tailsAt
 returns c =
@@ -44,20 +36,16 @@ returns c =
       not-true (c .before .is-tail .result) (c .if1 .taken),
     )
 
--- src/utf8.rt:27:9
 add-i : tie.Need-add-i Inv-loop μ-loop
 add-i c =
     omega (arith, some-tail _ _ (c .before .is-tail .ensures) (not-false (c .before .is-tail .result) (c .if1 .left)))
 
--- src/utf8.rt:28:9
 sub-n : tie.Need-sub-n Inv-loop μ-loop
 sub-n c = search needs
 
--- src/utf8.rt:23:5
 loop-less : tie.Need-loop-less Inv-loop μ-loop
 loop-less c = search needs
 
--- src/utf8.rt:23:5
 loop-again : tie.Need-loop-again Inv-loop μ-loop
 unfolding tailsAt
 loop-again c =
@@ -69,7 +57,6 @@ loop-again c =
       not-false (c .before .is-tail .result) (c .if1 .left),
     )
 
--- src/utf8.rt:18:1
 returns-2 : tie.Need-returns-2 Inv-loop μ-loop
 unfolding tailsAt
 returns-2 c =

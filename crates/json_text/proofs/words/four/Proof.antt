@@ -3,15 +3,10 @@ use borrow.Author.Tests.{eq-eqb, ne-eqb}
 use borrow.Author.Needs.{needs}
 use Rattle.json_text.proofs.words.four.Statement.{statement}
 use Rattle.json_text.proofs.words.four.Tie as tie
-use Rattle.json_text.proofs.words.four.Reads as reads
-use Rattle.json_text.proofs.words.four.Lts as lts
-use Rattle.json_text.proofs.bytes.byte.Reads as byte-reads
 
--- src/words.rt:15:8
 byte-requires : tie.Need-byte-requires
 byte-requires c κs = search needs
 
--- src/words.rt:16:9
 returns : tie.Need-returns
 unfolding fourAt
 returns c =
@@ -20,15 +15,12 @@ returns c =
       ne-eqb _ _ (c .if1 .taken),
     )
 
--- src/words.rt:18:19
 add-byte : tie.Need-add-byte
 add-byte c = search needs
 
--- src/words.rt:18:8
 byte-requires-2 : tie.Need-byte-requires-2
 byte-requires-2 c κs = search needs
 
--- src/words.rt:19:9
 returns-2 : tie.Need-returns-2
 unfolding fourAt
 returns-2 c =
@@ -39,15 +31,12 @@ returns-2 c =
       ne-eqb _ _ (c .if2 .taken),
     )
 
--- src/words.rt:21:19
 add-byte-2 : tie.Need-add-byte-2
 add-byte-2 c = search needs
 
--- src/words.rt:21:8
 byte-requires-3 : tie.Need-byte-requires-3
 byte-requires-3 c κs = search needs
 
--- src/words.rt:22:9
 returns-3 : tie.Need-returns-3
 unfolding fourAt
 returns-3 c =
@@ -60,15 +49,12 @@ returns-3 c =
       ne-eqb _ _ (c .if3 .taken),
     )
 
--- src/words.rt:24:19
 add-byte-3 : tie.Need-add-byte-3
 add-byte-3 c = search needs
 
--- src/words.rt:24:8
 byte-requires-4 : tie.Need-byte-requires-4
 byte-requires-4 c κs = search needs
 
--- src/words.rt:25:9
 returns-4 : tie.Need-returns-4
 unfolding fourAt
 returns-4 c =
@@ -83,11 +69,9 @@ returns-4 c =
       ne-eqb _ _ (c .if4 .taken),
     )
 
--- src/words.rt:27:14
 add-t9 : tie.Need-add-t9
 add-t9 c = search needs
 
--- src/words.rt:11:1
 returns-5 : tie.Need-returns-5
 unfolding fourAt
 returns-5 c =

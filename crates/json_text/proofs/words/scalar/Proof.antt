@@ -3,22 +3,13 @@ use borrow.Author.Tests.{eq-eqb, ne-eqb}
 use borrow.Author.Needs.{needs}
 use Rattle.json_text.proofs.words.scalar.Statement.{statement}
 use Rattle.json_text.proofs.words.scalar.Tie as tie
-use Rattle.json_text.proofs.words.scalar.Reads as reads
-use Rattle.json_text.proofs.words.scalar.Lts as lts
-use Rattle.json_text.proofs.bytes.byte.Reads as byte-reads
-use Rattle.json_text.proofs.numbers.number.Reads as number-reads
-use Rattle.json_text.proofs.strings.string.Reads as string-reads
-use Rattle.json_text.proofs.words.four.Reads as four-reads
 
--- src/words.rt:34:9
 byte-requires : tie.Need-byte-requires
 byte-requires c κs = search needs
 
--- src/words.rt:36:9
 string-requires : tie.Need-string-requires
 string-requires c κs = search needs
 
--- src/words.rt:36:9
 returns : tie.Need-returns
 unfolding scalarAt
 returns c =
@@ -28,15 +19,12 @@ returns c =
       ← (c .string .ensures),
     )
 
--- src/words.rt:39:27
 add-four : tie.Need-add-four
 add-four c = search needs
 
--- src/words.rt:39:9
 four-requires : tie.Need-four-requires
 four-requires c κs = search needs
 
--- src/words.rt:39:9
 returns-2 : tie.Need-returns-2
 unfolding scalarAt
 returns-2 c =
@@ -47,11 +35,9 @@ returns-2 c =
       ← (c .four .ensures),
     )
 
--- src/words.rt:42:9
 four-requires-2 : tie.Need-four-requires-2
 four-requires-2 c κs = search needs
 
--- src/words.rt:42:9
 returns-3 : tie.Need-returns-3
 unfolding scalarAt
 returns-3 c =
@@ -63,11 +49,9 @@ returns-3 c =
       ← (c .four2 .ensures),
     )
 
--- src/words.rt:45:9
 four-requires-3 : tie.Need-four-requires-3
 four-requires-3 c κs = search needs
 
--- src/words.rt:45:9
 returns-4 : tie.Need-returns-4
 unfolding scalarAt
 returns-4 c =
@@ -80,11 +64,9 @@ returns-4 c =
       ← (c .four3 .ensures),
     )
 
--- src/words.rt:47:5
 number-requires : tie.Need-number-requires
 number-requires c κs = search needs
 
--- src/words.rt:31:1
 returns-5 : tie.Need-returns-5
 unfolding scalarAt
 returns-5 c =

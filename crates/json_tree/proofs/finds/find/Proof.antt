@@ -6,11 +6,6 @@ use borrow.Author.Needs.{needs}
 use mathlib.Core.Path.{_≡_}
 use Rattle.json_tree.proofs.finds.find.Statement.{statement}
 use Rattle.json_tree.proofs.finds.find.Tie as tie
-use Rattle.json_tree.proofs.finds.find.Reads as reads
-use Rattle.json_tree.proofs.finds.find.Lts as lts
-use Rattle.json_walk.proofs.objects.first_member.Reads as first-member-reads
-use Rattle.json_walk.proofs.objects.next_member.Reads as next-member-reads
-use Rattle.json_walk.proofs.strings.raw_is.Reads as raw-is-reads
 
 abbrev Inv-loop : tie.InvT-loop
 Inv-loop text at word step₀ n₀ step n = findIn text word (membersFrom n text step) ≡ findIn text word (membersOf text at)
@@ -18,24 +13,19 @@ Inv-loop text at word step₀ n₀ step n = findIn text word (membersFrom n text
 abbrev μ-loop : tie.MeasureT-loop
 μ-loop text at word step₀ n₀ step n = n
 
--- src/finds.rt:17:9
 first-member-requires : tie.Need-first-member-requires Inv-loop μ-loop
 first-member-requires c κs = search needs
 
--- src/finds.rt:19:5
 loop-holds : tie.Need-loop-holds Inv-loop μ-loop
 unfolding findIn membersOf
 loop-holds c = rw (← (c .first-member .ensures))
 
--- src/finds.rt:21:29
 enum-known-step : tie.Need-enum-known-step Inv-loop μ-loop
 enum-known-step c = search needs
 
--- src/finds.rt:22:20
 raw-is-requires : tie.Need-raw-is-requires Inv-loop μ-loop
 raw-is-requires c κs = search needs
 
--- src/finds.rt:23:21
 returns : tie.Need-returns Inv-loop μ-loop
 unfolding findIn membersOf
 returns c =
@@ -47,15 +37,12 @@ returns c =
       c .if1 .taken,
     )
 
--- src/finds.rt:25:17
 next-member-requires : tie.Need-next-member-requires Inv-loop μ-loop
 next-member-requires c κs = search needs
 
--- src/finds.rt:27:32
 enum-told : tie.Need-enum-told Inv-loop μ-loop
 enum-told c = search needs
 
--- src/finds.rt:27:32
 returns-2 : tie.Need-returns-2 Inv-loop μ-loop
 unfolding findIn membersOf
 returns-2 c =
@@ -65,15 +52,12 @@ returns-2 c =
       members-end,
     )
 
--- src/finds.rt:29:9
 sub-n : tie.Need-sub-n Inv-loop μ-loop
 sub-n c = search needs
 
--- src/finds.rt:19:5
 loop-less : tie.Need-loop-less Inv-loop μ-loop
 loop-less c = search needs
 
--- src/finds.rt:19:5
 loop-again : tie.Need-loop-again Inv-loop μ-loop
 unfolding findIn membersOf
 loop-again c =
@@ -86,7 +70,6 @@ loop-again c =
       ← (c .next-member .ensures),
     )
 
--- src/finds.rt:13:1
 returns-3 : tie.Need-returns-3 Inv-loop μ-loop
 unfolding findIn membersOf
 returns-3 c =

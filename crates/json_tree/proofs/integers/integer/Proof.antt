@@ -3,24 +3,16 @@ use borrow.Author.Tests.{eq-eqb, ne-eqb}
 use borrow.Author.Needs.{needs}
 use Rattle.json_tree.proofs.integers.integer.Statement.{statement}
 use Rattle.json_tree.proofs.integers.integer.Tie as tie
-use Rattle.json_tree.proofs.integers.integer.Reads as reads
-use Rattle.json_tree.proofs.integers.integer.Lts as lts
-use Rattle.json_text.proofs.bytes.byte.Reads as byte-reads
-use Rattle.json_tree.proofs.integers.unsigned.Reads as unsigned-reads
 
--- src/integers.rt:87:8
 byte-requires : tie.Need-byte-requires
 byte-requires c κs = search needs
 
--- src/integers.rt:88:31
 add-unsigned : tie.Need-add-unsigned
 add-unsigned c = search needs
 
--- src/integers.rt:88:9
 unsigned-requires : tie.Need-unsigned-requires
 unsigned-requires c κs = search needs
 
--- src/integers.rt:88:9
 returns : tie.Need-returns
 unfolding integerAt
 returns c =
@@ -30,11 +22,9 @@ returns c =
       ← (c .unsigned .ensures),
     )
 
--- src/integers.rt:90:5
 unsigned-requires-2 : tie.Need-unsigned-requires-2
 unsigned-requires-2 c κs = search needs
 
--- src/integers.rt:84:1
 returns-2 : tie.Need-returns-2
 unfolding integerAt
 returns-2 c =

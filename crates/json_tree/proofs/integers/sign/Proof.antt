@@ -2,15 +2,11 @@ use Rattle.json_tree.specs.Integers.{signed}
 use borrow.Author.Tests.{eq-eqb, ne-eqb}
 use Rattle.json_tree.proofs.integers.sign.Statement.{statement}
 use Rattle.json_tree.proofs.integers.sign.Tie as tie
-use Rattle.json_tree.proofs.integers.sign.Reads as reads
-use Rattle.json_tree.proofs.integers.sign.Lts as lts
 
--- src/integers.rt:55:9
 returns : tie.Need-returns
 unfolding signed
 returns c = rw (eq-eqb _ _ (c .if1 .taken))
 
--- src/integers.rt:51:1
 returns-2 : tie.Need-returns-2
 unfolding signed
 returns-2 c = rw (ne-eqb _ _ (c .if1 .left))

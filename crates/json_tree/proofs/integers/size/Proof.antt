@@ -9,11 +9,6 @@ use lib.ListN.{drop, length}
 use mathlib.Core.Path.{_≡_}
 use Rattle.json_tree.proofs.integers.size.Statement.{statement}
 use Rattle.json_tree.proofs.integers.size.Tie as tie
-use Rattle.json_tree.proofs.integers.size.Reads as reads
-use Rattle.json_tree.proofs.integers.size.Lts as lts
-use Rattle.json_text.proofs.bytes.byte.Reads as byte-reads
-use Rattle.json_text.proofs.bytes.is_digit.Reads as is-digit-reads
-use Rattle.json_tree.proofs.integers.digit.Reads as digit-reads
 
 abbrev Inv-loop : tie.InvT-loop
 Inv-loop text at i₀ v₀ i v = (decimal v (drop i text) ≡ decimal 0 (drop at text)) × (v ≤ 90071992547410117)
@@ -21,48 +16,37 @@ Inv-loop text at i₀ v₀ i v = (decimal v (drop i text) ≡ decimal 0 (drop at
 abbrev μ-loop : tie.MeasureT-loop
 μ-loop text at i₀ v₀ i v = length text - i
 
--- src/integers.rt:27:5
 loop-holds : tie.Need-loop-holds Inv-loop μ-loop
 unfolding decimal
 loop-holds c = (search needs, search needs)
 
--- src/integers.rt:27:20
 byte-requires : tie.Need-byte-requires Inv-loop μ-loop
 byte-requires c κs = search needs
 
--- src/integers.rt:27:11
 is-digit-requires : tie.Need-is-digit-requires Inv-loop μ-loop
 is-digit-requires c κs = search needs
 
--- src/integers.rt:29:13
 returns : tie.Need-returns Inv-loop μ-loop
 returns c = capped _ _ _ (c .before .before .before .before .loop .inv .0) (c .if2 .taken)
 
--- src/integers.rt:31:13
 mul-v : tie.Need-mul-v Inv-loop μ-loop
 mul-v c = search needs
 
--- src/integers.rt:31:28
 byte-requires-2 : tie.Need-byte-requires-2 Inv-loop μ-loop
 byte-requires-2 c κs = search needs
 
--- src/integers.rt:31:22
 digit-requires : tie.Need-digit-requires Inv-loop μ-loop
 digit-requires c κs = search needs
 
--- src/integers.rt:31:13
 add-v : tie.Need-add-v Inv-loop μ-loop
 add-v c = search needs
 
--- src/integers.rt:32:9
 add-i : tie.Need-add-i Inv-loop μ-loop
 add-i c = omega (arith, some-digit _ _ (c .before .before .before .before .is-digit .ensures) (c .before .before .before .if1 .taken))
 
--- src/integers.rt:27:5
 loop-less : tie.Need-loop-less Inv-loop μ-loop
 loop-less c = omega (arith, some-digit _ _ (c .before .before .before .before .is-digit .ensures) (c .before .before .before .if1 .taken))
 
--- src/integers.rt:27:5
 loop-again : tie.Need-loop-again Inv-loop μ-loop
 loop-again c = (
   rw (← (c .before .before .before .before .before .before .loop .inv .0), c .digit .ensures .is, c .before .byte2 .ensures .is)
@@ -70,7 +54,6 @@ loop-again c = (
   omega arith,
 )
 
--- src/integers.rt:22:1
 returns-2 : tie.Need-returns-2 Inv-loop μ-loop
 returns-2 c =
     exact _ _ (sym (decimal-stop (c .before .before .before .loop .v) (c .before .before .before .before .before .args .text .now) (c .before .before .before .loop .i) (rw (← (c .before .before .byte .ensures .is), ← (c .before .is-digit .ensures)) (c .if1 .left))) ∙ c .before .before .before .loop .inv .0)

@@ -2,25 +2,16 @@ use Rattle.json_tree.specs.Integers.{wholeAt}
 use borrow.Author.Needs.{needs}
 use Rattle.json_tree.proofs.integers.unsigned.Statement.{statement}
 use Rattle.json_tree.proofs.integers.unsigned.Tie as tie
-use Rattle.json_tree.proofs.integers.unsigned.Reads as reads
-use Rattle.json_tree.proofs.integers.unsigned.Lts as lts
-use Rattle.json_text.proofs.bytes.byte.Reads as byte-reads
-use Rattle.json_text.proofs.bytes.is_digit.Reads as is-digit-reads
-use Rattle.json_tree.proofs.integers.sized.Reads as sized-reads
 
--- src/integers.rt:77:17
 byte-requires : tie.Need-byte-requires
 byte-requires c κs = search needs
 
--- src/integers.rt:77:8
 is-digit-requires : tie.Need-is-digit-requires
 is-digit-requires c κs = search needs
 
--- src/integers.rt:78:9
 sized-requires : tie.Need-sized-requires
 sized-requires c κs = search needs
 
--- src/integers.rt:78:9
 returns : tie.Need-returns
 unfolding wholeAt
 returns c =
@@ -31,7 +22,6 @@ returns c =
       ← (c .sized .ensures),
     )
 
--- src/integers.rt:74:1
 returns-2 : tie.Need-returns-2
 unfolding wholeAt
 returns-2 c =

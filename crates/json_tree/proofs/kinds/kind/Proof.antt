@@ -3,15 +3,10 @@ use borrow.Author.Tests.{eq-eqb, ne-eqb}
 use borrow.Author.Needs.{needs}
 use Rattle.json_tree.proofs.kinds.kind.Statement.{statement}
 use Rattle.json_tree.proofs.kinds.kind.Tie as tie
-use Rattle.json_tree.proofs.kinds.kind.Reads as reads
-use Rattle.json_tree.proofs.kinds.kind.Lts as lts
-use Rattle.json_text.proofs.bytes.byte.Reads as byte-reads
 
--- src/kinds.rt:11:9
 byte-requires : tie.Need-byte-requires
 byte-requires c κs = search needs
 
--- src/kinds.rt:13:9
 returns : tie.Need-returns
 unfolding kindAt
 returns c =
@@ -20,7 +15,6 @@ returns c =
       eq-eqb _ _ (c .if1 .taken),
     )
 
--- src/kinds.rt:16:9
 returns-2 : tie.Need-returns-2
 unfolding kindAt
 returns-2 c =
@@ -30,7 +24,6 @@ returns-2 c =
       eq-eqb _ _ (c .if2 .taken),
     )
 
--- src/kinds.rt:19:9
 returns-3 : tie.Need-returns-3
 unfolding kindAt
 returns-3 c =
@@ -41,7 +34,6 @@ returns-3 c =
       eq-eqb _ _ (c .if3 .taken),
     )
 
--- src/kinds.rt:22:9
 returns-4 : tie.Need-returns-4
 unfolding kindAt
 returns-4 c =
@@ -53,7 +45,6 @@ returns-4 c =
       eq-eqb _ _ (c .if4 .taken),
     )
 
--- src/kinds.rt:25:9
 returns-5 : tie.Need-returns-5
 unfolding kindAt
 returns-5 c =
@@ -66,7 +57,6 @@ returns-5 c =
       eq-eqb _ _ (c .if5 .taken),
     )
 
--- src/kinds.rt:28:9
 returns-6 : tie.Need-returns-6
 unfolding kindAt
 returns-6 c =
@@ -80,7 +70,6 @@ returns-6 c =
       eq-eqb _ _ (c .if6 .taken),
     )
 
--- src/kinds.rt:8:1
 returns-7 : tie.Need-returns-7
 unfolding kindAt
 returns-7 c =

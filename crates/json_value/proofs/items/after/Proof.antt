@@ -3,28 +3,19 @@ use borrow.Author.Tests.{eq-eqb, ne-eqb}
 use borrow.Author.Needs.{needs}
 use Rattle.json_value.proofs.items.after.Statement.{statement}
 use Rattle.json_value.proofs.items.after.Tie as tie
-use Rattle.json_value.proofs.items.after.Reads as reads
-use Rattle.json_value.proofs.items.after.Lts as lts
-use Rattle.json_text.proofs.bytes.byte.Reads as byte-reads
-use Rattle.json_text.proofs.bytes.space.Reads as space-reads
 
--- src/items.rt:16:9
 space-requires : tie.Need-space-requires
 space-requires c κs = search needs
 
--- src/items.rt:17:9
 byte-requires : tie.Need-byte-requires
 byte-requires c κs = search needs
 
--- src/items.rt:19:39
 add-space : tie.Need-add-space
 add-space c = search needs
 
--- src/items.rt:19:27
 space-requires-2 : tie.Need-space-requires-2
 space-requires-2 c κs = search needs
 
--- src/items.rt:19:9
 returns : tie.Need-returns
 unfolding afterAt
 returns c =
@@ -35,11 +26,9 @@ returns c =
       ← (c .space2 .ensures),
     )
 
--- src/items.rt:22:27
 add-t9 : tie.Need-add-t9
 add-t9 c = search needs
 
--- src/items.rt:22:9
 returns-2 : tie.Need-returns-2
 unfolding afterAt
 returns-2 c =
@@ -50,7 +39,6 @@ returns-2 c =
       eq-eqb _ _ (c .if2 .taken),
     )
 
--- src/items.rt:12:1
 returns-3 : tie.Need-returns-3
 unfolding afterAt
 returns-3 c =

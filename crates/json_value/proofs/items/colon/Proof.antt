@@ -3,28 +3,19 @@ use borrow.Author.Tests.{eq-eqb, ne-eqb}
 use borrow.Author.Needs.{needs}
 use Rattle.json_value.proofs.items.colon.Statement.{statement}
 use Rattle.json_value.proofs.items.colon.Tie as tie
-use Rattle.json_value.proofs.items.colon.Reads as reads
-use Rattle.json_value.proofs.items.colon.Lts as lts
-use Rattle.json_text.proofs.bytes.byte.Reads as byte-reads
-use Rattle.json_text.proofs.bytes.space.Reads as space-reads
 
--- src/items.rt:43:9
 space-requires : tie.Need-space-requires
 space-requires c κs = search needs
 
--- src/items.rt:44:8
 byte-requires : tie.Need-byte-requires
 byte-requires c κs = search needs
 
--- src/items.rt:45:37
 add-space : tie.Need-add-space
 add-space c = search needs
 
--- src/items.rt:45:25
 space-requires-2 : tie.Need-space-requires-2
 space-requires-2 c κs = search needs
 
--- src/items.rt:45:9
 returns : tie.Need-returns
 unfolding colonAt
 returns c =
@@ -35,7 +26,6 @@ returns c =
       ← (c .space2 .ensures),
     )
 
--- src/items.rt:40:1
 returns-2 : tie.Need-returns-2
 unfolding colonAt
 returns-2 c =

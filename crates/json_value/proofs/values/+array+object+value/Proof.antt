@@ -57,7 +57,6 @@ array-Inv-loop text at left i₀ n₀ i n = elementsAt (λ v. valueAt (left - 1)
 abbrev array-μ-loop : array-lts.MeasureT-loop
 array-μ-loop text at left i₀ n₀ i n = n
 
--- src/values.rt:35:9
 array-returns : (t : ℕ) → array-lts.Need-returns (
   first-reads.Asked,
   first-reads.Learnt,
@@ -69,7 +68,6 @@ array-returns : (t : ℕ) → array-lts.Need-returns (
 unfolding arrayAt arrayOf
 array-returns t c = rw (array-none _ (c .if1 .taken))
 
--- src/values.rt:37:17
 array-add-i : (t : ℕ) → array-lts.Need-add-i (
   first-reads.Asked,
   first-reads.Learnt,
@@ -80,7 +78,6 @@ array-add-i : (t : ℕ) → array-lts.Need-add-i (
 ) (array-at t) array.Post array-Inv-loop array-μ-loop
 array-add-i t c = search needs
 
--- src/values.rt:38:11
 array-first-requires : (t : ℕ) → array-lts.Need-first-requires (
   first-reads.Asked,
   first-reads.Learnt,
@@ -91,7 +88,6 @@ array-first-requires : (t : ℕ) → array-lts.Need-first-requires (
 ) (array-at t) array.Post array-Inv-loop array-μ-loop
 array-first-requires t c κs = search needs
 
--- src/values.rt:39:20
 array-enum-known-k : (t : ℕ) → array-lts.Need-enum-known-k (
   first-reads.Asked,
   first-reads.Learnt,
@@ -102,7 +98,6 @@ array-enum-known-k : (t : ℕ) → array-lts.Need-enum-known-k (
 ) (array-at t) array.Post array-Inv-loop array-μ-loop
 array-enum-known-k t c = search needs
 
--- src/values.rt:40:20
 array-enum-known-e : (t : ℕ) → array-lts.Need-enum-known-e (
   first-reads.Asked,
   first-reads.Learnt,
@@ -113,7 +108,6 @@ array-enum-known-e : (t : ℕ) → array-lts.Need-enum-known-e (
 ) (array-at t) array.Post array-Inv-loop array-μ-loop
 array-enum-known-e t c = search needs
 
--- src/values.rt:40:26
 array-returns-2 : (t : ℕ) → array-lts.Need-returns-2 (
   first-reads.Asked,
   first-reads.Learnt,
@@ -130,7 +124,6 @@ array-returns-2 t c =
       c .before .e .given .1,
     )
 
--- src/values.rt:41:24
 array-enum-told : (t : ℕ) → array-lts.Need-enum-told (
   first-reads.Asked,
   first-reads.Learnt,
@@ -141,7 +134,6 @@ array-enum-told : (t : ℕ) → array-lts.Need-enum-told (
 ) (array-at t) array.Post array-Inv-loop array-μ-loop
 array-enum-told t c = search needs
 
--- src/values.rt:41:24
 array-returns-3 : (t : ℕ) → array-lts.Need-returns-3 (
   first-reads.Asked,
   first-reads.Learnt,
@@ -158,7 +150,6 @@ array-returns-3 t c =
       c .enum-told .given .1,
     )
 
--- src/values.rt:44:5
 array-loop-holds : (t : ℕ) → array-lts.Need-loop-holds (
   first-reads.Asked,
   first-reads.Learnt,
@@ -175,7 +166,6 @@ array-loop-holds t c =
       c .before .k .given .1,
     )
 
--- src/values.rt:45:30
 array-sub-value : (t : ℕ) → array-lts.Need-sub-value (
   first-reads.Asked,
   first-reads.Learnt,
@@ -186,7 +176,6 @@ array-sub-value : (t : ℕ) → array-lts.Need-sub-value (
 ) (array-at t) array.Post array-Inv-loop array-μ-loop
 array-sub-value t c = search needs
 
--- src/values.rt:45:15
 array-value-requires : (t : ℕ) → array-lts.Need-value-requires (
   first-reads.Asked,
   first-reads.Learnt,
@@ -197,7 +186,6 @@ array-value-requires : (t : ℕ) → array-lts.Need-value-requires (
 ) (array-at t) array.Post array-Inv-loop array-μ-loop
 array-value-requires t c κs = search needs
 
--- src/values.rt:46:22
 array-enum-known-j : (t : ℕ) → array-lts.Need-enum-known-j (
   first-reads.Asked,
   first-reads.Learnt,
@@ -208,7 +196,6 @@ array-enum-known-j : (t : ℕ) → array-lts.Need-enum-known-j (
 ) (array-at t) array.Post array-Inv-loop array-μ-loop
 array-enum-known-j t c = search needs
 
--- src/values.rt:47:26
 array-enum-told-2 : (t : ℕ) → array-lts.Need-enum-told-2 (
   first-reads.Asked,
   first-reads.Learnt,
@@ -219,7 +206,6 @@ array-enum-told-2 : (t : ℕ) → array-lts.Need-enum-told-2 (
 ) (array-at t) array.Post array-Inv-loop array-μ-loop
 array-enum-told-2 t c = search needs
 
--- src/values.rt:47:26
 array-returns-4 : (t : ℕ) → array-lts.Need-returns-4 (
   first-reads.Asked,
   first-reads.Learnt,
@@ -237,7 +223,6 @@ array-returns-4 t c =
       c .enum-told2 .given .1,
     )
 
--- src/values.rt:48:27
 array-enum-told-3 : (t : ℕ) → array-lts.Need-enum-told-3 (
   first-reads.Asked,
   first-reads.Learnt,
@@ -248,7 +233,6 @@ array-enum-told-3 : (t : ℕ) → array-lts.Need-enum-told-3 (
 ) (array-at t) array.Post array-Inv-loop array-μ-loop
 array-enum-told-3 t c = search needs
 
--- src/values.rt:48:27
 array-returns-5 : (t : ℕ) → array-lts.Need-returns-5 (
   first-reads.Asked,
   first-reads.Learnt,
@@ -266,7 +250,6 @@ array-returns-5 t c =
       c .enum-told3 .given .1,
     )
 
--- src/values.rt:50:15
 array-after-requires : (t : ℕ) → array-lts.Need-after-requires (
   first-reads.Asked,
   first-reads.Learnt,
@@ -277,7 +260,6 @@ array-after-requires : (t : ℕ) → array-lts.Need-after-requires (
 ) (array-at t) array.Post array-Inv-loop array-μ-loop
 array-after-requires t c κs = search needs
 
--- src/values.rt:51:24
 array-enum-known-k-2 : (t : ℕ) → array-lts.Need-enum-known-k-2 (
   first-reads.Asked,
   first-reads.Learnt,
@@ -288,7 +270,6 @@ array-enum-known-k-2 : (t : ℕ) → array-lts.Need-enum-known-k-2 (
 ) (array-at t) array.Post array-Inv-loop array-μ-loop
 array-enum-known-k-2 t c = search needs
 
--- src/values.rt:52:24
 array-enum-known-e-2 : (t : ℕ) → array-lts.Need-enum-known-e-2 (
   first-reads.Asked,
   first-reads.Learnt,
@@ -299,7 +280,6 @@ array-enum-known-e-2 : (t : ℕ) → array-lts.Need-enum-known-e-2 (
 ) (array-at t) array.Post array-Inv-loop array-μ-loop
 array-enum-known-e-2 t c = search needs
 
--- src/values.rt:52:30
 array-returns-6 : (t : ℕ) → array-lts.Need-returns-6 (
   first-reads.Asked,
   first-reads.Learnt,
@@ -319,7 +299,6 @@ array-returns-6 t c =
       c .before .e2 .given .1,
     )
 
--- src/values.rt:53:28
 array-enum-told-4 : (t : ℕ) → array-lts.Need-enum-told-4 (
   first-reads.Asked,
   first-reads.Learnt,
@@ -330,7 +309,6 @@ array-enum-told-4 : (t : ℕ) → array-lts.Need-enum-told-4 (
 ) (array-at t) array.Post array-Inv-loop array-μ-loop
 array-enum-told-4 t c = search needs
 
--- src/values.rt:53:28
 array-returns-7 : (t : ℕ) → array-lts.Need-returns-7 (
   first-reads.Asked,
   first-reads.Learnt,
@@ -350,7 +328,6 @@ array-returns-7 t c =
       c .enum-told4 .given .1,
     )
 
--- src/values.rt:55:9
 array-sub-n : (t : ℕ) → array-lts.Need-sub-n (
   first-reads.Asked,
   first-reads.Learnt,
@@ -361,7 +338,6 @@ array-sub-n : (t : ℕ) → array-lts.Need-sub-n (
 ) (array-at t) array.Post array-Inv-loop array-μ-loop
 array-sub-n t c = search needs
 
--- src/values.rt:44:5
 array-loop-less : (t : ℕ) → array-lts.Need-loop-less (
   first-reads.Asked,
   first-reads.Learnt,
@@ -372,7 +348,6 @@ array-loop-less : (t : ℕ) → array-lts.Need-loop-less (
 ) (array-at t) array.Post array-Inv-loop array-μ-loop
 array-loop-less t c = search needs
 
--- src/values.rt:44:5
 array-loop-again : (t : ℕ) → array-lts.Need-loop-again (
   first-reads.Asked,
   first-reads.Learnt,
@@ -392,7 +367,6 @@ array-loop-again t c =
       c .before .k2 .given .1,
     )
 
--- src/values.rt:30:1
 array-returns-8 : (t : ℕ) → array-lts.Need-returns-8 (
   first-reads.Asked,
   first-reads.Learnt,
@@ -414,7 +388,6 @@ object-Inv-loop text at left i₀ n₀ i n = membersAt (λ v. valueAt (left - 1)
 abbrev object-μ-loop : object-lts.MeasureT-loop
 object-μ-loop text at left i₀ n₀ i n = n
 
--- src/values.rt:66:9
 object-returns : (t : ℕ) → object-lts.Need-returns (
   first-reads.Asked,
   first-reads.Learnt,
@@ -428,7 +401,6 @@ object-returns : (t : ℕ) → object-lts.Need-returns (
 unfolding objectAt objectOf
 object-returns t c = rw (object-none _ (c .if1 .taken))
 
--- src/values.rt:68:17
 object-add-i : (t : ℕ) → object-lts.Need-add-i (
   first-reads.Asked,
   first-reads.Learnt,
@@ -441,7 +413,6 @@ object-add-i : (t : ℕ) → object-lts.Need-add-i (
 ) (object-at t) object.Post object-Inv-loop object-μ-loop
 object-add-i t c = search needs
 
--- src/values.rt:69:11
 object-first-requires : (t : ℕ) → object-lts.Need-first-requires (
   first-reads.Asked,
   first-reads.Learnt,
@@ -454,7 +425,6 @@ object-first-requires : (t : ℕ) → object-lts.Need-first-requires (
 ) (object-at t) object.Post object-Inv-loop object-μ-loop
 object-first-requires t c κs = search needs
 
--- src/values.rt:70:20
 object-enum-known-k : (t : ℕ) → object-lts.Need-enum-known-k (
   first-reads.Asked,
   first-reads.Learnt,
@@ -467,7 +437,6 @@ object-enum-known-k : (t : ℕ) → object-lts.Need-enum-known-k (
 ) (object-at t) object.Post object-Inv-loop object-μ-loop
 object-enum-known-k t c = search needs
 
--- src/values.rt:71:20
 object-enum-known-e : (t : ℕ) → object-lts.Need-enum-known-e (
   first-reads.Asked,
   first-reads.Learnt,
@@ -480,7 +449,6 @@ object-enum-known-e : (t : ℕ) → object-lts.Need-enum-known-e (
 ) (object-at t) object.Post object-Inv-loop object-μ-loop
 object-enum-known-e t c = search needs
 
--- src/values.rt:71:26
 object-returns-2 : (t : ℕ) → object-lts.Need-returns-2 (
   first-reads.Asked,
   first-reads.Learnt,
@@ -499,7 +467,6 @@ object-returns-2 t c =
       c .before .e .given .1,
     )
 
--- src/values.rt:72:24
 object-enum-told : (t : ℕ) → object-lts.Need-enum-told (
   first-reads.Asked,
   first-reads.Learnt,
@@ -512,7 +479,6 @@ object-enum-told : (t : ℕ) → object-lts.Need-enum-told (
 ) (object-at t) object.Post object-Inv-loop object-μ-loop
 object-enum-told t c = search needs
 
--- src/values.rt:72:24
 object-returns-3 : (t : ℕ) → object-lts.Need-returns-3 (
   first-reads.Asked,
   first-reads.Learnt,
@@ -531,7 +497,6 @@ object-returns-3 t c =
       c .enum-told .given .1,
     )
 
--- src/values.rt:75:5
 object-loop-holds : (t : ℕ) → object-lts.Need-loop-holds (
   first-reads.Asked,
   first-reads.Learnt,
@@ -550,7 +515,6 @@ object-loop-holds t c =
       c .before .k .given .1,
     )
 
--- src/values.rt:76:15
 object-name-requires : (t : ℕ) → object-lts.Need-name-requires (
   first-reads.Asked,
   first-reads.Learnt,
@@ -563,7 +527,6 @@ object-name-requires : (t : ℕ) → object-lts.Need-name-requires (
 ) (object-at t) object.Post object-Inv-loop object-μ-loop
 object-name-requires t c κs = search needs
 
--- src/values.rt:77:22
 object-enum-known-v : (t : ℕ) → object-lts.Need-enum-known-v (
   first-reads.Asked,
   first-reads.Learnt,
@@ -576,7 +539,6 @@ object-enum-known-v : (t : ℕ) → object-lts.Need-enum-known-v (
 ) (object-at t) object.Post object-Inv-loop object-μ-loop
 object-enum-known-v t c = search needs
 
--- src/values.rt:78:26
 object-enum-told-2 : (t : ℕ) → object-lts.Need-enum-told-2 (
   first-reads.Asked,
   first-reads.Learnt,
@@ -589,7 +551,6 @@ object-enum-told-2 : (t : ℕ) → object-lts.Need-enum-told-2 (
 ) (object-at t) object.Post object-Inv-loop object-μ-loop
 object-enum-told-2 t c = search needs
 
--- src/values.rt:78:26
 object-returns-4 : (t : ℕ) → object-lts.Need-returns-4 (
   first-reads.Asked,
   first-reads.Learnt,
@@ -609,7 +570,6 @@ object-returns-4 t c =
       c .enum-told2 .given .1,
     )
 
--- src/values.rt:79:27
 object-enum-told-3 : (t : ℕ) → object-lts.Need-enum-told-3 (
   first-reads.Asked,
   first-reads.Learnt,
@@ -622,7 +582,6 @@ object-enum-told-3 : (t : ℕ) → object-lts.Need-enum-told-3 (
 ) (object-at t) object.Post object-Inv-loop object-μ-loop
 object-enum-told-3 t c = search needs
 
--- src/values.rt:79:27
 object-returns-5 : (t : ℕ) → object-lts.Need-returns-5 (
   first-reads.Asked,
   first-reads.Learnt,
@@ -642,7 +601,6 @@ object-returns-5 t c =
       c .enum-told3 .given .1,
     )
 
--- src/values.rt:81:30
 object-sub-value : (t : ℕ) → object-lts.Need-sub-value (
   first-reads.Asked,
   first-reads.Learnt,
@@ -655,7 +613,6 @@ object-sub-value : (t : ℕ) → object-lts.Need-sub-value (
 ) (object-at t) object.Post object-Inv-loop object-μ-loop
 object-sub-value t c = search needs
 
--- src/values.rt:81:15
 object-value-requires : (t : ℕ) → object-lts.Need-value-requires (
   first-reads.Asked,
   first-reads.Learnt,
@@ -668,7 +625,6 @@ object-value-requires : (t : ℕ) → object-lts.Need-value-requires (
 ) (object-at t) object.Post object-Inv-loop object-μ-loop
 object-value-requires t c κs = search needs
 
--- src/values.rt:82:22
 object-enum-known-j : (t : ℕ) → object-lts.Need-enum-known-j (
   first-reads.Asked,
   first-reads.Learnt,
@@ -681,7 +637,6 @@ object-enum-known-j : (t : ℕ) → object-lts.Need-enum-known-j (
 ) (object-at t) object.Post object-Inv-loop object-μ-loop
 object-enum-known-j t c = search needs
 
--- src/values.rt:83:26
 object-enum-told-4 : (t : ℕ) → object-lts.Need-enum-told-4 (
   first-reads.Asked,
   first-reads.Learnt,
@@ -694,7 +649,6 @@ object-enum-told-4 : (t : ℕ) → object-lts.Need-enum-told-4 (
 ) (object-at t) object.Post object-Inv-loop object-μ-loop
 object-enum-told-4 t c = search needs
 
--- src/values.rt:83:26
 object-returns-6 : (t : ℕ) → object-lts.Need-returns-6 (
   first-reads.Asked,
   first-reads.Learnt,
@@ -716,7 +670,6 @@ object-returns-6 t c =
       c .enum-told4 .given .1,
     )
 
--- src/values.rt:84:27
 object-enum-told-5 : (t : ℕ) → object-lts.Need-enum-told-5 (
   first-reads.Asked,
   first-reads.Learnt,
@@ -729,7 +682,6 @@ object-enum-told-5 : (t : ℕ) → object-lts.Need-enum-told-5 (
 ) (object-at t) object.Post object-Inv-loop object-μ-loop
 object-enum-told-5 t c = search needs
 
--- src/values.rt:84:27
 object-returns-7 : (t : ℕ) → object-lts.Need-returns-7 (
   first-reads.Asked,
   first-reads.Learnt,
@@ -751,7 +703,6 @@ object-returns-7 t c =
       c .enum-told5 .given .1,
     )
 
--- src/values.rt:86:15
 object-after-requires : (t : ℕ) → object-lts.Need-after-requires (
   first-reads.Asked,
   first-reads.Learnt,
@@ -764,7 +715,6 @@ object-after-requires : (t : ℕ) → object-lts.Need-after-requires (
 ) (object-at t) object.Post object-Inv-loop object-μ-loop
 object-after-requires t c κs = search needs
 
--- src/values.rt:87:24
 object-enum-known-k-2 : (t : ℕ) → object-lts.Need-enum-known-k-2 (
   first-reads.Asked,
   first-reads.Learnt,
@@ -777,7 +727,6 @@ object-enum-known-k-2 : (t : ℕ) → object-lts.Need-enum-known-k-2 (
 ) (object-at t) object.Post object-Inv-loop object-μ-loop
 object-enum-known-k-2 t c = search needs
 
--- src/values.rt:88:24
 object-enum-known-e-2 : (t : ℕ) → object-lts.Need-enum-known-e-2 (
   first-reads.Asked,
   first-reads.Learnt,
@@ -790,7 +739,6 @@ object-enum-known-e-2 : (t : ℕ) → object-lts.Need-enum-known-e-2 (
 ) (object-at t) object.Post object-Inv-loop object-μ-loop
 object-enum-known-e-2 t c = search needs
 
--- src/values.rt:88:30
 object-returns-8 : (t : ℕ) → object-lts.Need-returns-8 (
   first-reads.Asked,
   first-reads.Learnt,
@@ -814,7 +762,6 @@ object-returns-8 t c =
       c .before .e2 .given .1,
     )
 
--- src/values.rt:89:28
 object-enum-told-6 : (t : ℕ) → object-lts.Need-enum-told-6 (
   first-reads.Asked,
   first-reads.Learnt,
@@ -827,7 +774,6 @@ object-enum-told-6 : (t : ℕ) → object-lts.Need-enum-told-6 (
 ) (object-at t) object.Post object-Inv-loop object-μ-loop
 object-enum-told-6 t c = search needs
 
--- src/values.rt:89:28
 object-returns-9 : (t : ℕ) → object-lts.Need-returns-9 (
   first-reads.Asked,
   first-reads.Learnt,
@@ -851,7 +797,6 @@ object-returns-9 t c =
       c .enum-told6 .given .1,
     )
 
--- src/values.rt:91:9
 object-sub-n : (t : ℕ) → object-lts.Need-sub-n (
   first-reads.Asked,
   first-reads.Learnt,
@@ -864,7 +809,6 @@ object-sub-n : (t : ℕ) → object-lts.Need-sub-n (
 ) (object-at t) object.Post object-Inv-loop object-μ-loop
 object-sub-n t c = search needs
 
--- src/values.rt:75:5
 object-loop-less : (t : ℕ) → object-lts.Need-loop-less (
   first-reads.Asked,
   first-reads.Learnt,
@@ -877,7 +821,6 @@ object-loop-less : (t : ℕ) → object-lts.Need-loop-less (
 ) (object-at t) object.Post object-Inv-loop object-μ-loop
 object-loop-less t c = search needs
 
--- src/values.rt:75:5
 object-loop-again : (t : ℕ) → object-lts.Need-loop-again (
   first-reads.Asked,
   first-reads.Learnt,
@@ -901,7 +844,6 @@ object-loop-again t c =
       c .before .k2 .given .1,
     )
 
--- src/values.rt:61:1
 object-returns-10 : (t : ℕ) → object-lts.Need-returns-10 (
   first-reads.Asked,
   first-reads.Learnt,
@@ -919,7 +861,6 @@ object-returns-10 t c =
       members-none _ (c .loop-test .left),
     )
 
--- src/values.rt:19:9
 value-byte-requires : (t : ℕ) → value-lts.Need-byte-requires (
   byte-reads.Asked,
   byte-reads.Learnt,
@@ -932,7 +873,6 @@ value-byte-requires : (t : ℕ) → value-lts.Need-byte-requires (
 ) (value-at t) value.Post
 value-byte-requires t c κs = search needs
 
--- src/values.rt:21:9
 value-object-requires : (t : ℕ) → value-lts.Need-object-requires (
   byte-reads.Asked,
   byte-reads.Learnt,
@@ -945,7 +885,6 @@ value-object-requires : (t : ℕ) → value-lts.Need-object-requires (
 ) (value-at t) value.Post
 value-object-requires t c κs = search needs
 
--- src/values.rt:21:9
 value-returns : (t : ℕ) → value-lts.Need-returns (
   byte-reads.Asked,
   byte-reads.Learnt,
@@ -965,7 +904,6 @@ value-returns t c =
       ← (c .object .ensures),
     )
 
--- src/values.rt:24:9
 value-array-requires : (t : ℕ) → value-lts.Need-array-requires (
   byte-reads.Asked,
   byte-reads.Learnt,
@@ -978,7 +916,6 @@ value-array-requires : (t : ℕ) → value-lts.Need-array-requires (
 ) (value-at t) value.Post
 value-array-requires t c κs = search needs
 
--- src/values.rt:24:9
 value-returns-2 : (t : ℕ) → value-lts.Need-returns-2 (
   byte-reads.Asked,
   byte-reads.Learnt,
@@ -999,7 +936,6 @@ value-returns-2 t c =
       ← (c .array .ensures),
     )
 
--- src/values.rt:26:5
 value-scalar-requires : (t : ℕ) → value-lts.Need-scalar-requires (
   byte-reads.Asked,
   byte-reads.Learnt,
@@ -1012,7 +948,6 @@ value-scalar-requires : (t : ℕ) → value-lts.Need-scalar-requires (
 ) (value-at t) value.Post
 value-scalar-requires t c κs = search needs
 
--- src/values.rt:16:1
 value-returns-3 : (t : ℕ) → value-lts.Need-returns-3 (
   byte-reads.Asked,
   byte-reads.Learnt,

@@ -3,28 +3,19 @@ use borrow.Author.Tests.{eq-eqb, ne-eqb}
 use borrow.Author.Needs.{needs}
 use Rattle.json_value.proofs.whole.whole.Statement.{statement}
 use Rattle.json_value.proofs.whole.whole.Tie as tie
-use Rattle.json_value.proofs.whole.whole.Reads as reads
-use Rattle.json_value.proofs.whole.whole.Lts as lts
-use Rattle.json_text.proofs.bytes.space.Reads as space-reads
-use Rattle.json_value.proofs.values.value.Reads as value-reads
 
--- src/whole.rt:14:23
 space-requires : tie.Need-space-requires
 space-requires c κs = search needs
 
--- src/whole.rt:14:11
 value-requires : tie.Need-value-requires
 value-requires c κs = search needs
 
--- src/whole.rt:15:18
 enum-known-j : tie.Need-enum-known-j
 enum-known-j c = search needs
 
--- src/whole.rt:16:17
 space-requires-2 : tie.Need-space-requires-2
 space-requires-2 c κs = search needs
 
--- src/whole.rt:18:17
 returns : tie.Need-returns
 unfolding textAt endAt
 returns c =
@@ -36,15 +27,12 @@ returns c =
       eq-eqb _ _ (c .if1 .taken),
     )
 
--- src/whole.rt:22:22
 enum-told : tie.Need-enum-told
 enum-told c = search needs
 
--- src/whole.rt:23:23
 enum-told-2 : tie.Need-enum-told-2
 enum-told-2 c = search needs
 
--- src/whole.rt:11:1
 returns-2 : tie.Need-returns-2
 unfolding textAt endAt
 returns-2 c =
@@ -56,7 +44,6 @@ returns-2 c =
       ne-eqb _ _ (c .if1 .left),
     )
 
--- src/whole.rt:11:1
 returns-3 : tie.Need-returns-3
 unfolding textAt endAt
 returns-3 c =
@@ -66,7 +53,6 @@ returns-3 c =
       c .enum-told .given .1,
     )
 
--- src/whole.rt:11:1
 returns-4 : tie.Need-returns-4
 unfolding textAt endAt
 returns-4 c =

@@ -2,27 +2,19 @@ use Rattle.json_walk.specs.Walk.{elementAt}
 use borrow.Author.Needs.{needs}
 use Rattle.json_walk.proofs.arrays.element.Statement.{statement}
 use Rattle.json_walk.proofs.arrays.element.Tie as tie
-use Rattle.json_walk.proofs.arrays.element.Reads as reads
-use Rattle.json_walk.proofs.arrays.element.Lts as lts
-use Rattle.json_value.proofs.values.value.Reads as value-reads
 
--- src/arrays.rt:19:11
 value-requires : tie.Need-value-requires
 value-requires c κs = search needs
 
--- src/arrays.rt:20:18
 enum-known-e : tie.Need-enum-known-e
 enum-known-e c = search needs
 
--- src/arrays.rt:24:22
 enum-told : tie.Need-enum-told
 enum-told c = search needs
 
--- src/arrays.rt:25:23
 enum-told-2 : tie.Need-enum-told-2
 enum-told-2 c = search needs
 
--- src/arrays.rt:16:1
 returns : tie.Need-returns
 unfolding elementAt
 returns c =
@@ -31,7 +23,6 @@ returns c =
       c .before .e .given .1,
     )
 
--- src/arrays.rt:16:1
 returns-2 : tie.Need-returns-2
 unfolding elementAt
 returns-2 c =
@@ -40,7 +31,6 @@ returns-2 c =
       c .enum-told .given .1,
     )
 
--- src/arrays.rt:16:1
 returns-3 : tie.Need-returns-3
 unfolding elementAt
 returns-3 c =

@@ -2,32 +2,22 @@ use Rattle.json_walk.specs.Walk.{nextMemberAt}
 use borrow.Author.Needs.{needs}
 use Rattle.json_walk.proofs.objects.next_member.Statement.{statement}
 use Rattle.json_walk.proofs.objects.next_member.Tie as tie
-use Rattle.json_walk.proofs.objects.next_member.Reads as reads
-use Rattle.json_walk.proofs.objects.next_member.Lts as lts
-use Rattle.json_value.proofs.items.after.Reads as after-reads
-use Rattle.json_walk.proofs.objects.member.Reads as member-reads
 
--- src/objects.rt:45:11
 after-requires : tie.Need-after-requires
 after-requires c κs = search needs
 
--- src/objects.rt:46:20
 enum-known-k : tie.Need-enum-known-k
 enum-known-k c = search needs
 
--- src/objects.rt:46:26
 member-requires : tie.Need-member-requires
 member-requires c κs = search needs
 
--- src/objects.rt:47:26
 enum-told : tie.Need-enum-told
 enum-told c = search needs
 
--- src/objects.rt:48:24
 enum-told-2 : tie.Need-enum-told-2
 enum-told-2 c = search needs
 
--- src/objects.rt:42:1
 returns : tie.Need-returns
 unfolding nextMemberAt
 returns c =
@@ -37,7 +27,6 @@ returns c =
       ← (c .member .ensures),
     )
 
--- src/objects.rt:42:1
 returns-2 : tie.Need-returns-2
 unfolding nextMemberAt
 returns-2 c =
@@ -46,7 +35,6 @@ returns-2 c =
       c .enum-told .given .1,
     )
 
--- src/objects.rt:42:1
 returns-3 : tie.Need-returns-3
 unfolding nextMemberAt
 returns-3 c =

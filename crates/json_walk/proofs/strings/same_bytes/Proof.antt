@@ -5,10 +5,6 @@ use borrow.Author.Tests.{eq-eqb, ne-eqb}
 use mathlib.Core.Path.{_≡_}
 use Rattle.json_walk.proofs.strings.same_bytes.Statement.{statement}
 use Rattle.json_walk.proofs.strings.same_bytes.Tie as tie
-use Rattle.json_walk.proofs.strings.same_bytes.Reads as reads
-use Rattle.json_walk.proofs.strings.same_bytes.Lts as lts
-use Rattle.json_text.proofs.bytes.byte.Reads as byte-reads
-use Rattle.json_walk.proofs.strings.step.Reads as step-reads
 
 abbrev Inv-loop : tie.InvT-loop
 Inv-loop text a other b count i₀ j₀ n₀ i j n = same (bytesAt n text i) (bytesAt n other j) ≡ same (bytesAt count text a) (bytesAt count other b)
@@ -16,20 +12,16 @@ Inv-loop text a other b count i₀ j₀ n₀ i j n = same (bytesAt n text i) (by
 abbrev μ-loop : tie.MeasureT-loop
 μ-loop text a other b count i₀ j₀ n₀ i j n = n
 
--- src/strings.rt:37:5
 loop-holds : tie.Need-loop-holds Inv-loop μ-loop
 unfolding bytesAt same
 loop-holds c = search needs
 
--- src/strings.rt:38:12
 byte-requires : tie.Need-byte-requires Inv-loop μ-loop
 byte-requires c κs = search needs
 
--- src/strings.rt:38:29
 byte-requires-2 : tie.Need-byte-requires-2 Inv-loop μ-loop
 byte-requires-2 c κs = search needs
 
--- src/strings.rt:39:13
 returns : tie.Need-returns Inv-loop μ-loop
 unfolding bytesAt same
 returns c =
@@ -41,23 +33,18 @@ returns c =
       ne-eqb _ _ (c .if1 .taken),
     )
 
--- src/strings.rt:41:9
 step-requires : tie.Need-step-requires Inv-loop μ-loop
 step-requires c κs = search needs
 
--- src/strings.rt:42:9
 step-requires-2 : tie.Need-step-requires-2 Inv-loop μ-loop
 step-requires-2 c κs = search needs
 
--- src/strings.rt:43:9
 sub-n : tie.Need-sub-n Inv-loop μ-loop
 sub-n c = search needs
 
--- src/strings.rt:37:5
 loop-less : tie.Need-loop-less Inv-loop μ-loop
 loop-less c = search needs
 
--- src/strings.rt:37:5
 loop-again : tie.Need-loop-again Inv-loop μ-loop
 unfolding bytesAt same
 loop-again c =
@@ -71,7 +58,6 @@ loop-again c =
       ← (c .step2 .ensures),
     )
 
--- src/strings.rt:31:1
 returns-2 : tie.Need-returns-2 Inv-loop μ-loop
 unfolding bytesAt same
 returns-2 c =

@@ -4,38 +4,26 @@ use mathlib.Core.Path.{sym}
 use borrow.Author.Needs.{needs}
 use Rattle.json_walk.proofs.strings.same_raw.Statement.{statement}
 use Rattle.json_walk.proofs.strings.same_raw.Tie as tie
-use Rattle.json_walk.proofs.strings.same_raw.Reads as reads
-use Rattle.json_walk.proofs.strings.same_raw.Lts as lts
-use Rattle.json_walk.proofs.strings.inside.Reads as inside-reads
-use Rattle.json_walk.proofs.strings.same_bytes.Reads as same-bytes-reads
-use Rattle.json_walk.proofs.strings.step.Reads as step-reads
 
--- src/strings.rt:52:9
 inside-requires : tie.Need-inside-requires
 inside-requires c κs = search needs
 
--- src/strings.rt:53:9
 inside-requires-2 : tie.Need-inside-requires-2
 inside-requires-2 c κs = search needs
 
--- src/strings.rt:55:9
 returns : tie.Need-returns
 unfolding rawAt
 returns c = rw (← (c .before .before .inside .ensures), ← (c .before .inside2 .ensures)) (sym (same-lengths _ _ (c .if1 .taken) _ _ _))
 
--- src/strings.rt:57:22
 step-requires : tie.Need-step-requires
 step-requires c κs = search needs
 
--- src/strings.rt:57:37
 step-requires-2 : tie.Need-step-requires-2
 step-requires-2 c κs = search needs
 
--- src/strings.rt:57:5
 same-bytes-requires : tie.Need-same-bytes-requires
 same-bytes-requires c κs = search needs
 
--- src/strings.rt:49:1
 returns-2 : tie.Need-returns-2
 unfolding rawAt
 returns-2 c =

@@ -5,10 +5,6 @@ use borrow.Author.Tests.{eq-eqb, ne-eqb}
 use mathlib.Core.Path.{_≡_}
 use Rattle.json_walk.proofs.strings.slash_in.Statement.{statement}
 use Rattle.json_walk.proofs.strings.slash_in.Tie as tie
-use Rattle.json_walk.proofs.strings.slash_in.Reads as reads
-use Rattle.json_walk.proofs.strings.slash_in.Lts as lts
-use Rattle.json_text.proofs.bytes.byte.Reads as byte-reads
-use Rattle.json_walk.proofs.strings.step.Reads as step-reads
 
 abbrev Inv-loop : tie.InvT-loop
 Inv-loop text a count i₀ n₀ i n = slashed (bytesAt n text i) ≡ slashed (bytesAt count text a)
@@ -16,16 +12,13 @@ Inv-loop text a count i₀ n₀ i n = slashed (bytesAt n text i) ≡ slashed (by
 abbrev μ-loop : tie.MeasureT-loop
 μ-loop text a count i₀ n₀ i n = n
 
--- src/strings.rt:66:5
 loop-holds : tie.Need-loop-holds Inv-loop μ-loop
 unfolding bytesAt slashed
 loop-holds c = search needs
 
--- src/strings.rt:67:12
 byte-requires : tie.Need-byte-requires Inv-loop μ-loop
 byte-requires c κs = search needs
 
--- src/strings.rt:68:13
 returns : tie.Need-returns Inv-loop μ-loop
 unfolding bytesAt slashed
 returns c =
@@ -36,19 +29,15 @@ returns c =
       eq-eqb _ _ (c .if1 .taken),
     )
 
--- src/strings.rt:70:9
 step-requires : tie.Need-step-requires Inv-loop μ-loop
 step-requires c κs = search needs
 
--- src/strings.rt:71:9
 sub-n : tie.Need-sub-n Inv-loop μ-loop
 sub-n c = search needs
 
--- src/strings.rt:66:5
 loop-less : tie.Need-loop-less Inv-loop μ-loop
 loop-less c = search needs
 
--- src/strings.rt:66:5
 loop-again : tie.Need-loop-again Inv-loop μ-loop
 unfolding bytesAt slashed
 loop-again c =
@@ -60,7 +49,6 @@ loop-again c =
       ← (c .step .ensures),
     )
 
--- src/strings.rt:61:1
 returns-2 : tie.Need-returns-2 Inv-loop μ-loop
 unfolding bytesAt slashed
 returns-2 c =

@@ -3,19 +3,14 @@ use borrow.Author.Tests.{le-ltb, lt-ltb}
 use borrow.Author.Needs.{needs}
 use Rattle.json_walk.proofs.strings.step.Statement.{statement}
 use Rattle.json_walk.proofs.strings.step.Tie as tie
-use Rattle.json_walk.proofs.strings.step.Reads as reads
-use Rattle.json_walk.proofs.strings.step.Lts as lts
 
--- src/strings.rt:12:16
 add-result : tie.Need-add-result
 add-result c = search needs
 
--- src/strings.rt:12:9
 returns : tie.Need-returns
 unfolding ahead
 returns c = rw (lt-ltb _ _ (c .if1 .taken))
 
--- src/strings.rt:8:1
 returns-2 : tie.Need-returns-2
 unfolding ahead
 returns-2 c = rw (le-ltb _ _ (c .if1 .left))
