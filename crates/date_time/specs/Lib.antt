@@ -1,0 +1,4 @@
+pub mod Picture
+pub mod Parts
+pub mod Local
+pub mod Utc

@@ -1,0 +1,9 @@
+-- Words of the papers as bytes.
+use Prim.Native.Nat.{ℕ}
+use Prim.Native.Char.{code}
+use Prim.Native.String.{String, [], _∷_}
+use mathlib.Core.List.{List, [] as none, _∷_ as _then_}
+
+abbrev pub ascii : String → List ℕ
+ascii [] = none
+ascii (c ∷ s) = _then_ (code c) (ascii s)

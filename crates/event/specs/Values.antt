@@ -1,0 +1,104 @@
+-- A value of the tree as one of the kinds that a property asks for.
+use Prim.Native.Nat.{ℕ, zero, suc, _+_}
+use mathlib.Core.Bool.{Bool, true, false}
+use mathlib.Core.List.{List, [], _∷_}
+use mathlib.Core.Option.{Option, none, some}
+use lib.IntN.{ℤ, pos, negsuc}
+use Rattle.signed.specs.Choose.{if_then_else_}
+use Rattle.json_walk.specs.Strings.{slashed}
+use Rattle.event.specs.Types.{Text}
+use Rattle.json_tree.specs.declared.Integer.{Integer}
+use Rattle.json_tree.specs.declared.Integer.the-variants.{Is, No}
+use Rattle.json_tree.specs.Integers.{integerAt}
+use Rattle.json_tree.specs.Finds
+use Rattle.json_tree.specs.Finds.{Value?, lookUp}
+use Rattle.json_tree.specs.Tree.{Json, Items, Fields, nullAt, falseAt, trueAt, numberOf, stringOf, arrayOf, objectOf, noItem, item, noField, field}
+
+abbrev pub isNull : Json → Bool
+isNull (nullAt i) = true
+isNull (falseAt i) = false
+isNull (trueAt i) = false
+isNull (numberOf i raw) = false
+isNull (stringOf i raw) = false
+isNull (arrayOf i items) = false
+isNull (objectOf i fields) = false
+
+abbrev pub boolean : Json → Option Bool
+boolean (nullAt i) = none
+boolean (falseAt i) = some false
+boolean (trueAt i) = some true
+boolean (numberOf i raw) = none
+boolean (stringOf i raw) = none
+boolean (arrayOf i items) = none
+boolean (objectOf i fields) = none
+
+-- The raw bytes of a number.
+abbrev pub number : Json → Option (List ℕ)
+number (nullAt i) = none
+number (falseAt i) = none
+number (trueAt i) = none
+number (numberOf i raw) = some raw
+number (stringOf i raw) = none
+number (arrayOf i items) = none
+number (objectOf i fields) = none
+
+abbrev pub string : Json → Option Text
+string (nullAt i) = none
+string (falseAt i) = none
+string (trueAt i) = none
+string (numberOf i raw) = none
+string (stringOf i raw) = some (record { at = i + 1; raw = raw })
+string (arrayOf i items) = none
+string (objectOf i fields) = none
+
+-- "A read string other than `title` and `description` that has a backslash answers 6."
+unfoldable pub plain : Option Text → Option (List ℕ)
+plain none = none
+plain (some t) = if slashed (t .raw) then none else some (t .raw)
+
+unfoldable pub word : Json → Option (List ℕ)
+word v = plain (string v)
+
+unfoldable pub listOf : Items → List Json
+listOf noItem = []
+listOf (item v items) = v ∷ listOf items
+
+abbrev pub array : Json → Option (List Json)
+array (nullAt i) = none
+array (falseAt i) = none
+array (trueAt i) = none
+array (numberOf i raw) = none
+array (stringOf i raw) = none
+array (arrayOf i items) = some (listOf items)
+array (objectOf i fields) = none
+
+abbrev pub object : Json → Option Fields
+object (nullAt i) = none
+object (falseAt i) = none
+object (trueAt i) = none
+object (numberOf i raw) = none
+object (stringOf i raw) = none
+object (arrayOf i items) = none
+object (objectOf i fields) = some fields
+
+-- "Integers: optional minus and digits by JSON's grammar, no fraction or exponent, from -(2^53-1) to 2^53-1."
+abbrev pub asInteger : Integer → Option ℤ
+asInteger (Is false n) = some (pos n)
+asInteger (Is true zero) = some (pos 0)
+asInteger (Is true (suc n)) = some (negsuc n)
+asInteger No = none
+
+unfoldable pub integerIn : Option (List ℕ) → Option ℤ
+integerIn none = none
+integerIn (some raw) = asInteger (integerAt raw 0)
+
+unfoldable pub integer : Json → Option ℤ
+integer v = integerIn (number v)
+
+-- The member of that name.
+abbrev pub asOption : Value? → Option Json
+asOption Finds.none = none
+asOption (Finds.some v) = some v
+
+unfoldable pub member : List ℕ → Fields → Option Json
+member name fields = asOption (lookUp name fields)

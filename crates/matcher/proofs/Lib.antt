@@ -1,0 +1,10 @@
+pub mod FirstLaws
+mod WalkLaws
+mod MarkLaws
+mod WeekdayLaws
+pub mod RowLaws
+mod ImpliedLaws
+mod MadeLaws
+mod TermLaws
+pub mod GiveLaws
+pub mod PickLaws

@@ -1,0 +1,5 @@
+pub mod Flags
+pub mod Walk
+pub mod Marks
+pub mod Rows
+pub mod Member

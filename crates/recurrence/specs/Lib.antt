@@ -1,0 +1,4 @@
+pub mod Event
+pub mod Occurs
+pub mod Order
+pub mod Ids

@@ -1,0 +1,5 @@
+pub mod Bools
+pub mod Counting
+pub mod DayLaws
+pub mod PeriodLaws
+pub mod GivesLaws

@@ -1,0 +1,5 @@
+pub mod Same
+pub mod DemandThree
+pub mod Starred
+pub mod DemandTwo
+pub mod DemandOne
