@@ -1,4 +1,6 @@
+-- Faults of worked texts, of the definitions themselves, by computation: one list with a single statement.
 use Prim.Native.Nat.{ℕ}
+use Prim.Native.String.{String}
 use mathlib.Core.List.{List, [], _∷_, map}
 use mathlib.Core.Path.{_≡_, refl}
 use Rattle.event.specs.Ascii.{ascii}
@@ -10,6 +12,7 @@ use Rattle.json_text.specs.Words.{fourAt, scalarAt}
 use Rattle.json_value.specs.Values.{afterAt, firstAt, colonAt, nameAt, elementsAt, membersAt, arrayOf, objectOf, valueOf, valueAt, arrayAt, objectAt, endAt, textAt}
 use Rattle.json_walk.specs.Strings.{bytesAt, rawAt, same, slashed, ahead}
 use Rattle.json_walk.specs.Walk.{memberAt, firstMemberAt, nextMemberAt, membersFrom, membersOf, elementAt, firstElementAt, nextElementAt, elementsFrom, elementsOf}
+use Rattle.json_tree.specs.Faults.{fieldNamed, fieldsRepeat, fieldsSlashed, fieldsBad}
 use Rattle.json_tree.specs.Finds.{findIn, lookUp}
 use Rattle.json_tree.specs.Integers.{decimal, goesOn, signed, sizeAt, wholeAt, integerAt}
 use Rattle.json_tree.specs.Tree.{scalarTree, fieldsOf, itemsOf, treeBy, treeAt, textTree, kindAt}
@@ -39,7 +42,49 @@ use Rattle.event.specs.Reading.{orWrong, optional, unsupported, readAll,
 use Rattle.event.specs.Rules.{required, readFrequency, typed, atLeastOne, readCount, signedUpTo, readSigned, readWeekday, readNth, ndayIn, readNDay, readMonth, entriesOf, byList, readScale, readSkip, unsupportedLists, bothEnds, anyNth, nthUnder, maybe, ruleIn, readRule, readRules}
 use Rattle.event.specs.Values.{plain, word, listOf, integerIn, integer, member}
 
-pub faults : map eventFault (ascii "{\"@type\":\"Event\",\"uid\":\"a\",\"updated\":\"2020-01-01T00:00:00Z\",\"start\":\"2018-01-15T13:00:00\"}" ∷ ascii "[]" ∷ ascii "{\"@type\":\"event\",\"uid\":\"a\",\"updated\":\"2020-01-01T00:00:00Z\",\"start\":\"2018-01-15T13:00:00\"}" ∷ ascii "{\"@type\":1,\"uid\":\"a\",\"updated\":\"2020-01-01T00:00:00Z\",\"start\":\"2018-01-15T13:00:00\"}" ∷ ascii "{\"uid\":\"a\",\"updated\":\"2020-01-01T00:00:00Z\",\"start\":\"2018-01-15T13:00:00\"}" ∷ ascii "{\"@type\":\"Event\",\"updated\":\"2020-01-01T00:00:00Z\",\"start\":\"2018-01-15T13:00:00\"}" ∷ ascii "{\"@type\":\"Event\",\"uid\":\"a\",\"start\":\"2018-01-15T13:00:00\"}" ∷ ascii "{\"@type\":\"Event\",\"uid\":\"a\",\"updated\":\"2020-01-01T00:00:00Z\"}" ∷ ascii "{\"@type\":\"Event\",\"uid\":\"\",\"updated\":\"2020-01-01T00:00:00Z\",\"start\":\"2018-01-15T13:00:00\"}" ∷ ascii "{\"@type\":\"Event\",\"uid\":null,\"updated\":\"2020-01-01T00:00:00Z\",\"start\":\"2018-01-15T13:00:00\"}" ∷ ascii "{\"@type\":\"Event\",\"uid\":\"a\",\"updated\":\"2020-01-01T00:00:00Z\",\"start\":null}" ∷ ascii "{\"@type\":\"Event\",\"uid\":\"a\",\"updated\":\"2020-01-01T00:00:00Z\",\"start\":\"2018-02-30T00:00:00\"}" ∷ [])
-    ≡ (0 ∷ 5 ∷ 5 ∷ 5 ∷ 5 ∷ 5 ∷ 5 ∷ 5 ∷ 6 ∷ 6 ∷ 6 ∷ 6 ∷ [])
-unfolding run past isSpace isDigit spaceAt digitsAt someDigitsAt intAt fracAt powerAt expAt unsignedAt numberAt isHex hexAt isEscaped escapeAt charAt charsAt stringAt isTail tailsAt secondAt multiAt fourAt scalarAt afterAt firstAt colonAt nameAt elementsAt membersAt arrayOf objectOf valueOf valueAt arrayAt objectAt endAt textAt bytesAt rawAt same slashed ahead memberAt firstMemberAt nextMemberAt membersFrom membersOf elementAt firstElementAt nextElementAt elementsFrom elementsOf findIn lookUp decimal goesOn signed sizeAt wholeAt integerAt scalarTree fieldsOf itemsOf treeBy treeAt textTree kindAt freeBusyOf privacyOf monthWritten monthOf frequencyOf weekdayOf skipFault rscaleFault isEvent isRule isNDay isLocal fractionFault secondsAt localOf dateAt isTime isReal secondOfDay meets follows endsInZ isUtc twoAt fourAt-digits allDigits nonZero lastOf endsInZero legalFraction judged before amountOf capped pointAt daysOf secondsOf wholeOf fractionOf lengthOf letterAt unitAt secondAt-duration-grammar minuteAt hourAt clockAt timeAt dayAt weekAt calAt datedAt durationAt isDuration upper lower isDate dayOf fromMonth fromYear dateOf weekdayOf-gregorian lengthIn startIn monthLength monthStart monthDay isLeap yearLength leapYears firstOfYear isType isEvent-event missing noEvent detailsIn eventIn objectFault eventFault eventOf patched patchedStart hasMark nameFault nameFaults alone excludedFault patchIn overrideOf overridesIn readOverrides filled readUid readUpdated dateTime readStart readUntil named readZone readLength readBusy readBoolean readPrivacy readText orWrong optional unsupported readAll atMost limited required readFrequency typed atLeastOne readCount signedUpTo readSigned readWeekday readNth ndayIn readNDay readMonth entriesOf byList readScale readSkip unsupportedLists bothEnds anyNth nthUnder maybe ruleIn readRule readRules plain word listOf integerIn integer member
-faults = refl
+pub record Case : Type 0 where
+  pub text : String
+  pub fault : ℕ
+
+pub cases : List Case
+cases =
+    -- an event with what it must have
+    record { text = "{\"@type\":\"Event\",\"uid\":\"a\",\"updated\":\"2020-01-01T00:00:00Z\",\"start\":\"2018-01-15T13:00:00\"}"; fault = 0 }
+    -- no object
+    ∷ record { text = "[]"; fault = 5 }
+    -- another type
+    ∷ record { text = "{\"@type\":\"event\",\"uid\":\"a\",\"updated\":\"2020-01-01T00:00:00Z\",\"start\":\"2018-01-15T13:00:00\"}"; fault = 5 }
+    -- no uid
+    ∷ record { text = "{\"@type\":\"Event\",\"updated\":\"2020-01-01T00:00:00Z\",\"start\":\"2018-01-15T13:00:00\"}"; fault = 5 }
+    -- an empty uid
+    ∷ record { text = "{\"@type\":\"Event\",\"uid\":\"\",\"updated\":\"2020-01-01T00:00:00Z\",\"start\":\"2018-01-15T13:00:00\"}"; fault = 6 }
+    -- only timeZone may be null
+    ∷ record { text = "{\"@type\":\"Event\",\"uid\":\"a\",\"updated\":\"2020-01-01T00:00:00Z\",\"start\":null}"; fault = 6 }
+    ∷ record { text = "{\"@type\":\"Event\",\"uid\":\"a\",\"updated\":\"2020-01-01T00:00:00Z\",\"start\":\"2018-01-15T13:00:00\",\"timeZone\":null}"; fault = 0 }
+    -- a fraction
+    ∷ record { text = "{\"@type\":\"Event\",\"uid\":\"a\",\"updated\":\"2020-01-01T00:00:00Z\",\"start\":\"2018-01-15T13:00:00.5\"}"; fault = 8 }
+    ∷ record { text = "{\"@type\":\"Event\",\"uid\":\"a\",\"updated\":\"2020-01-01T00:00:00Z\",\"start\":\"2018-01-15T13:00:00.50\"}"; fault = 6 }
+    -- durations
+    ∷ record { text = "{\"@type\":\"Event\",\"uid\":\"a\",\"updated\":\"2020-01-01T00:00:00Z\",\"start\":\"2018-01-15T13:00:00\",\"duration\":\"P1W2D\"}"; fault = 0 }
+    ∷ record { text = "{\"@type\":\"Event\",\"uid\":\"a\",\"updated\":\"2020-01-01T00:00:00Z\",\"start\":\"2018-01-15T13:00:00\",\"duration\":\"P\"}"; fault = 6 }
+    ∷ record { text = "{\"@type\":\"Event\",\"uid\":\"a\",\"updated\":\"2020-01-01T00:00:00Z\",\"start\":\"2018-01-15T13:00:00\",\"duration\":\"P366DT1S\"}"; fault = 6 }
+    -- an unsupported frequency
+    ∷ record { text = "{\"@type\":\"Event\",\"uid\":\"a\",\"updated\":\"2020-01-01T00:00:00Z\",\"start\":\"2018-01-15T13:00:00\",\"recurrenceRules\":[{\"@type\":\"RecurrenceRule\",\"frequency\":\"hourly\"}]}"; fault = 8 }
+    -- count with until
+    ∷ record { text = "{\"@type\":\"Event\",\"uid\":\"a\",\"updated\":\"2020-01-01T00:00:00Z\",\"start\":\"2018-01-15T13:00:00\",\"recurrenceRules\":[{\"@type\":\"RecurrenceRule\",\"frequency\":\"daily\",\"count\":1,\"until\":\"2020-01-01T00:00:00\"}]}"; fault = 7 }
+    -- nthOfPeriod under daily
+    ∷ record { text = "{\"@type\":\"Event\",\"uid\":\"a\",\"updated\":\"2020-01-01T00:00:00Z\",\"start\":\"2018-01-15T13:00:00\",\"recurrenceRules\":[{\"@type\":\"RecurrenceRule\",\"frequency\":\"daily\",\"byDay\":[{\"@type\":\"NDay\",\"day\":\"mo\",\"nthOfPeriod\":1}]}]}"; fault = 7 }
+    -- nine rules; and one of them wrong
+    ∷ record { text = "{\"@type\":\"Event\",\"uid\":\"a\",\"updated\":\"2020-01-01T00:00:00Z\",\"start\":\"2018-01-15T13:00:00\",\"recurrenceRules\":[{\"@type\":\"RecurrenceRule\",\"frequency\":\"daily\"},{\"@type\":\"RecurrenceRule\",\"frequency\":\"daily\"},{\"@type\":\"RecurrenceRule\",\"frequency\":\"daily\"},{\"@type\":\"RecurrenceRule\",\"frequency\":\"daily\"},{\"@type\":\"RecurrenceRule\",\"frequency\":\"daily\"},{\"@type\":\"RecurrenceRule\",\"frequency\":\"daily\"},{\"@type\":\"RecurrenceRule\",\"frequency\":\"daily\"},{\"@type\":\"RecurrenceRule\",\"frequency\":\"daily\"},{\"@type\":\"RecurrenceRule\",\"frequency\":\"daily\"}]}"; fault = 9 }
+    ∷ record { text = "{\"@type\":\"Event\",\"uid\":\"a\",\"updated\":\"2020-01-01T00:00:00Z\",\"start\":\"2018-01-15T13:00:00\",\"recurrenceRules\":[{\"@type\":\"RecurrenceRule\",\"frequency\":\"daily\"},{\"@type\":\"RecurrenceRule\",\"frequency\":\"daily\"},{\"@type\":\"RecurrenceRule\",\"frequency\":\"daily\"},{\"@type\":\"RecurrenceRule\",\"frequency\":\"daily\"},{\"@type\":\"RecurrenceRule\",\"frequency\":\"daily\"},{\"@type\":\"RecurrenceRule\",\"frequency\":\"daily\"},{\"@type\":\"RecurrenceRule\",\"frequency\":\"daily\"},{\"@type\":\"RecurrenceRule\",\"frequency\":\"daily\"},1]}"; fault = 6 }
+    -- an override, excluded, and excluded beside another member
+    ∷ record { text = "{\"@type\":\"Event\",\"uid\":\"a\",\"updated\":\"2020-01-01T00:00:00Z\",\"start\":\"2018-01-15T13:00:00\",\"recurrenceOverrides\":{\"2018-01-16T13:00:00\":{}}}"; fault = 0 }
+    ∷ record { text = "{\"@type\":\"Event\",\"uid\":\"a\",\"updated\":\"2020-01-01T00:00:00Z\",\"start\":\"2018-01-15T13:00:00\",\"recurrenceOverrides\":{\"2018-01-16T13:00:00\":{\"excluded\":true}}}"; fault = 0 }
+    ∷ record { text = "{\"@type\":\"Event\",\"uid\":\"a\",\"updated\":\"2020-01-01T00:00:00Z\",\"start\":\"2018-01-15T13:00:00\",\"recurrenceOverrides\":{\"2018-01-16T13:00:00\":{\"excluded\":true,\"uid\":1}}}"; fault = 7 }
+    -- a patch by a pointer
+    ∷ record { text = "{\"@type\":\"Event\",\"uid\":\"a\",\"updated\":\"2020-01-01T00:00:00Z\",\"start\":\"2018-01-15T13:00:00\",\"recurrenceOverrides\":{\"2018-01-16T13:00:00\":{\"a/b\":1}}}"; fault = 8 }
+    ∷ []
+
+pub worked : map (λ (c : Case). eventFault (ascii (c .text))) cases ≡ map (λ (c : Case). c .fault) cases
+unfolding cases run past isSpace isDigit spaceAt digitsAt someDigitsAt intAt fracAt powerAt expAt unsignedAt numberAt isHex hexAt isEscaped escapeAt charAt charsAt stringAt isTail tailsAt secondAt multiAt fourAt scalarAt afterAt firstAt colonAt nameAt elementsAt membersAt arrayOf objectOf valueOf valueAt arrayAt objectAt endAt textAt bytesAt rawAt same slashed ahead memberAt firstMemberAt nextMemberAt membersFrom membersOf elementAt firstElementAt nextElementAt elementsFrom elementsOf fieldNamed fieldsRepeat fieldsSlashed fieldsBad findIn lookUp decimal goesOn signed sizeAt wholeAt integerAt scalarTree fieldsOf itemsOf treeBy treeAt textTree kindAt freeBusyOf privacyOf monthWritten monthOf frequencyOf weekdayOf skipFault rscaleFault isEvent isRule isNDay isLocal fractionFault secondsAt localOf dateAt isTime isReal secondOfDay meets follows endsInZ isUtc twoAt fourAt-digits allDigits nonZero lastOf endsInZero legalFraction judged before amountOf capped pointAt daysOf secondsOf wholeOf fractionOf lengthOf letterAt unitAt secondAt-duration-grammar minuteAt hourAt clockAt timeAt dayAt weekAt calAt datedAt durationAt isDuration upper lower isDate dayOf fromMonth fromYear dateOf weekdayOf-gregorian lengthIn startIn monthLength monthStart monthDay isLeap yearLength leapYears firstOfYear isType isEvent-event missing noEvent detailsIn eventIn objectFault eventFault eventOf patched patchedStart hasMark nameFault nameFaults alone excludedFault patchIn overrideOf overridesIn readOverrides filled readUid readUpdated dateTime readStart readUntil named readZone readLength readBusy readBoolean readPrivacy readText orWrong optional unsupported readAll atMost limited required readFrequency typed atLeastOne readCount signedUpTo readSigned readWeekday readNth ndayIn readNDay readMonth entriesOf byList readScale readSkip unsupportedLists bothEnds anyNth nthUnder maybe ruleIn readRule readRules plain word listOf integerIn integer member
+worked = refl
