@@ -9,7 +9,6 @@ use Rattle.json_walk.specs.Strings.{slashed}
 use Rattle.event.specs.Types.{Text}
 use Rattle.json_tree.specs.declared.Integer.{Integer}
 use Rattle.json_tree.specs.declared.Integer.the-variants.{Is, No}
-use Rattle.json_tree.specs.Integers.{integerAt}
 use Rattle.json_tree.specs.Finds
 use Rattle.json_tree.specs.Finds.{Value?, lookUp}
 use Rattle.json_tree.specs.Tree.{Json, Items, Fields, nullAt, falseAt, trueAt, numberOf, stringOf, arrayOf, objectOf, noItem, item, noField, field}
@@ -18,7 +17,7 @@ abbrev pub isNull : Json → Bool
 isNull (nullAt i) = true
 isNull (falseAt i) = false
 isNull (trueAt i) = false
-isNull (numberOf i raw) = false
+isNull (numberOf i n) = false
 isNull (stringOf i raw) = false
 isNull (arrayOf i items) = false
 isNull (objectOf i fields) = false
@@ -27,26 +26,16 @@ abbrev pub boolean : Json → Option Bool
 boolean (nullAt i) = none
 boolean (falseAt i) = some false
 boolean (trueAt i) = some true
-boolean (numberOf i raw) = none
+boolean (numberOf i n) = none
 boolean (stringOf i raw) = none
 boolean (arrayOf i items) = none
 boolean (objectOf i fields) = none
-
--- The raw bytes of a number.
-abbrev pub number : Json → Option (List ℕ)
-number (nullAt i) = none
-number (falseAt i) = none
-number (trueAt i) = none
-number (numberOf i raw) = some raw
-number (stringOf i raw) = none
-number (arrayOf i items) = none
-number (objectOf i fields) = none
 
 abbrev pub string : Json → Option Text
 string (nullAt i) = none
 string (falseAt i) = none
 string (trueAt i) = none
-string (numberOf i raw) = none
+string (numberOf i n) = none
 string (stringOf i raw) = some (record { at = i + 1; raw = raw })
 string (arrayOf i items) = none
 string (objectOf i fields) = none
@@ -67,7 +56,7 @@ abbrev pub array : Json → Option (List Json)
 array (nullAt i) = none
 array (falseAt i) = none
 array (trueAt i) = none
-array (numberOf i raw) = none
+array (numberOf i n) = none
 array (stringOf i raw) = none
 array (arrayOf i items) = some (listOf items)
 array (objectOf i fields) = none
@@ -76,7 +65,7 @@ abbrev pub object : Json → Option Fields
 object (nullAt i) = none
 object (falseAt i) = none
 object (trueAt i) = none
-object (numberOf i raw) = none
+object (numberOf i n) = none
 object (stringOf i raw) = none
 object (arrayOf i items) = none
 object (objectOf i fields) = some fields
@@ -88,12 +77,14 @@ asInteger (Is true zero) = some (pos 0)
 asInteger (Is true (suc n)) = some (negsuc n)
 asInteger No = none
 
-unfoldable pub integerIn : Option (List ℕ) → Option ℤ
-integerIn none = none
-integerIn (some raw) = asInteger (integerAt raw 0)
-
-unfoldable pub integer : Json → Option ℤ
-integer v = integerIn (number v)
+abbrev pub integer : Json → Option ℤ
+integer (nullAt i) = none
+integer (falseAt i) = none
+integer (trueAt i) = none
+integer (numberOf i n) = asInteger n
+integer (stringOf i raw) = none
+integer (arrayOf i items) = none
+integer (objectOf i fields) = none
 
 -- The member of that name.
 abbrev pub asOption : Value? → Option Json

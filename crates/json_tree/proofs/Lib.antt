@@ -3,3 +3,4 @@ pub mod Levels
 pub mod Numbers
 pub mod Trees
 pub mod Walked
+mod RawLaws

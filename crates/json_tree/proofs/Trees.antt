@@ -10,7 +10,8 @@ use Rattle.json_text.specs.Strings.{stringAt}
 use Rattle.json_walk.specs.Walk.{membersOf, elementsOf}
 use Rattle.json_walk.specs.Strings.{rawAt, same}
 use Rattle.json_walk.specs.declared.Member.{Member}
-use Rattle.json_tree.specs.Tree.{Json, Fields, Items, noField, noItem, objectOf, arrayOf, stringOf, endOf, scalarTree, fieldsOf, itemsOf, treeBy, treeAt, kindOf, placeOf, kindAt}
+use Rattle.json_tree.specs.Tree.{Json, Fields, Items, noField, noItem, objectOf, arrayOf, stringOf, numberOf, endOf, scalarTree, fieldsOf, itemsOf, treeBy, treeAt, kindOf, placeOf, kindAt}
+use Rattle.json_tree.specs.Integers.{integerAt}
 use Rattle.json_tree.specs.Finds.{findIn, lookUp, valueFound}
 
 -- A function goes into a choice.
@@ -59,3 +60,16 @@ find-tree tree s x (m ∷ ms) = rw (find-tree tree s x ms) (both (same (rawAt s 
     both : (c : Bool) → (if c then Rattle.json_tree.specs.Finds.some (tree (m .value)) else valueFound tree (findIn s x ms)) ≡ valueFound tree (if c then Rattle.json_tree.specs.declared.Found.the-variants.Here m else findIn s x ms)
     both true = refl
     both false = refl
+
+-- A string's raw bytes are those between its quotes, a number's integer is the one that is read at its place.
+pub string-tree : (l : ℕ) (s : List ℕ) (i : ℕ) → eqb (byte s i) 0x7B ≡ false → eqb (byte s i) 0x5B ≡ false → eqb (byte s i) 0x22 ≡ true
+    → treeAt l s i ≡ stringOf i (rawAt s i (endOf (stringAt s i)))
+unfolding treeAt treeBy scalarTree
+string-tree zero s i c d e = rw (c, d, e)
+string-tree (suc l) s i c d e = rw (c, d, e)
+
+pub integer-tree : (l : ℕ) (s : List ℕ) (i : ℕ) → eqb (byte s i) 0x7B ≡ false → eqb (byte s i) 0x5B ≡ false → eqb (byte s i) 0x22 ≡ false
+    → eqb (byte s i) 0x66 ≡ false → eqb (byte s i) 0x6E ≡ false → eqb (byte s i) 0x74 ≡ false → treeAt l s i ≡ numberOf i (integerAt s i)
+unfolding treeAt treeBy scalarTree
+integer-tree zero s i a b c d e f = rw (a, b, c, d, e, f)
+integer-tree (suc l) s i a b c d e f = rw (a, b, c, d, e, f)

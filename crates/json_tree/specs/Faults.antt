@@ -30,7 +30,7 @@ unfoldable mutual
   faulty (nullAt i) = false
   faulty (falseAt i) = false
   faulty (trueAt i) = false
-  faulty (numberOf i raw) = false
+  faulty (numberOf i n) = false
   faulty (stringOf i raw) = false
   faulty (arrayOf i items) = itemsFaulty items
   faulty (objectOf i fields) = if fieldsBad fields then true else fieldsFaulty fields

@@ -1,20 +1,21 @@
 -- A JSON text as a tree of values. Each value has its kind and its place; a string and a name have the raw bytes
--- between their quotes, a number its bytes.
-use Prim.Native.Nat.{ℕ, zero, suc, _+_, _-_}
+-- between their quotes, a number its integer where it is one that is read.
+use Prim.Native.Nat.{ℕ, zero, suc}
 use mathlib.Core.Bool.{Bool, true, false}
 use mathlib.Core.List.{List, [], _∷_}
 use lib.Dec.{eqb}
 use Rattle.json_text.specs.Choice.{if_then_else_}
 use Rattle.json_text.specs.Bytes.{byte, spaceAt}
 use Rattle.json_text.specs.Strings.{stringAt}
-use Rattle.json_text.specs.Numbers.{numberAt}
 use Rattle.json_text.specs.declared.Read.{Read}
 use Rattle.json_text.specs.declared.Read.the-variants.{To, Bad, Deep}
 use Rattle.json_value.specs.Values.{levels}
 use Rattle.json_walk.specs.Walk.{membersOf, elementsOf}
-use Rattle.json_walk.specs.Strings.{bytesAt, rawAt}
+use Rattle.json_walk.specs.Strings.{rawAt}
 use Rattle.json_walk.specs.declared.Member.{Member}
 use Rattle.json_walk.specs.declared.Element.{Element}
+use Rattle.json_tree.specs.Integers.{integerAt}
+use Rattle.json_tree.specs.declared.Integer.{Integer}
 use Rattle.json_tree.specs.declared.Kind.{Kind}
 use Rattle.json_tree.specs.declared.Kind.the-variants as kind
 
@@ -24,7 +25,7 @@ mutual
     nullAt : ℕ → Json
     falseAt : ℕ → Json
     trueAt : ℕ → Json
-    numberOf : ℕ → List ℕ → Json
+    numberOf : ℕ → Integer → Json
     stringOf : ℕ → List ℕ → Json
     arrayOf : ℕ → Items → Json
     objectOf : ℕ → Fields → Json
@@ -50,7 +51,7 @@ scalarTree s i =
     if eqb (byte s i) 0x66 then falseAt i else
     if eqb (byte s i) 0x6E then nullAt i else
     if eqb (byte s i) 0x74 then trueAt i else
-    numberOf i (bytesAt (endOf (numberAt s i) - i) s i)
+    numberOf i (integerAt s i)
 
 -- The fields and items of members and elements, whose values are trees by their places.
 unfoldable pub fieldsOf : (ℕ → Json) → List ℕ → List Member → Fields
@@ -82,7 +83,7 @@ abbrev pub kindOf : Json → Kind
 kindOf (nullAt i) = kind.Null
 kindOf (falseAt i) = kind.False
 kindOf (trueAt i) = kind.True
-kindOf (numberOf i raw) = kind.Number
+kindOf (numberOf i n) = kind.Number
 kindOf (stringOf i raw) = kind.String
 kindOf (arrayOf i items) = kind.Array
 kindOf (objectOf i fields) = kind.Object
@@ -91,7 +92,7 @@ abbrev pub placeOf : Json → ℕ
 placeOf (nullAt i) = i
 placeOf (falseAt i) = i
 placeOf (trueAt i) = i
-placeOf (numberOf i raw) = i
+placeOf (numberOf i n) = i
 placeOf (stringOf i raw) = i
 placeOf (arrayOf i items) = i
 placeOf (objectOf i fields) = i

@@ -1,7 +1,8 @@
-// What the layers above read of a value: its kind, its members by name, its integer.
+// What the layers above read of a value: its kind, its members by name, its integer, its raw bytes.
 pub mod finds;
 pub mod integers;
 pub mod kinds;
+pub mod raws;
 
 // The kind of a value.
 pub enum Kind {
