@@ -1,10 +1,12 @@
--- The look-up in a valid table may stop at the first mark beyond the local time; the offset it gives is one of the table's.
-use Prim.Native.Nat.{ℕ, zero, suc, _+_, _<_, _≤_}
+-- The look-up in a valid table finds the first mark beyond the local time by halving; the offset it gives is one of the table's.
+use Prim.Native.Nat.{ℕ, zero, suc, _+_, _-_, _<_, _≤_}
 use mathlib.Core.Bool.{Bool, true, false}
 use mathlib.Core.List.{List, [], _∷_, map}
 use mathlib.Core.Path.{_≡_, refl, sym, _∙_}
 use native.Mathlib.Numerals.{add-one}
 use native.Mathlib.Omega.{arith}
+use lib.Dec.{ltb}
+use borrow.Author.Tests.{ltb-true, ltb-false}
 use lib.IntN.{ℤ, pos, natAbs}
 use lib.ListN.{length, getD, drop, drop-of-length-le}
 use lib.Signed.{leZ, ltZ}
@@ -13,8 +15,8 @@ use Rattle.zone.specs.Table.{Transition, transitions, mark, within, allW
 use Rattle.zone.specs.Places.{markAt}
 use Rattle.zone.specs.Lookup.{lastAfter, offsetAt, utcAt}
 use Rattle.zone.proofs.RangeLaws.{and-left, and-right, range-abs, difference-abs}
-use Rattle.zone.proofs.OrderLaws.{lt-not-le, not-lt-le, lt-trans, increasing-drop}
-use Rattle.zone.proofs.TableLaws.{transitionAt, transitions-drop, transitions-length, marks, valid-gives}
+use Rattle.zone.proofs.OrderLaws.{lt-not-le, not-lt-le, not-lt-smaller, lt-trans, increasing-drop, neighbours}
+use Rattle.zone.proofs.TableLaws.{transitionAt, transitions-drop, transitions-length, marks, marks-length, marks-at, valid-gives}
 
 -- beyond the first mark all are beyond
 beyond : (found : ℤ) (t : Transition) (ts : List Transition) (x : ℤ) → increasing (map mark (t ∷ ts)) ≡ true → ltZ x (mark t) ≡ true → lastAfter found (t ∷ ts) x ≡ found
@@ -40,15 +42,26 @@ map-drop (suc i) (t ∷ ts) = map-drop i ts
 abbrev pub Look : ℤ → List ℤ → List ℤ → ℤ → ℕ → Type 0
 Look b ts ns x i = lastAfter (getD (b ∷ ns) i (pos 0)) (drop i (transitions b ts ns)) x ≡ offsetAt b ts ns x
 
-pub look-start : (b : ℤ) (ts ns : List ℤ) (x : ℤ) → Look b ts ns x 0
+look-start : (b : ℤ) (ts ns : List ℤ) (x : ℤ) → Look b ts ns x 0
 unfolding offsetAt
 look-start b ts ns x = refl
+
+by : {P : Type 0} (t : Bool) → (t ≡ true → P) → (t ≡ false → P) → P
+by true f g = f refl
+by false f g = g refl
+
+-- Between `low` and `high` lies the first mark beyond the local time, or none does and `high` is the end.
+pub record Halves (b : ℤ) (ts ns : List ℤ) (x : ℤ) (low high : ℕ) : Type 0 where
+  pub order : low ≤ high
+  pub fits : high ≤ length ts
+  pub found : Look b ts ns x low
+  pub beyond : high < length ts → ltZ x (markAt b ts ns high) ≡ true
 
 module _ (b : ℤ) (ts ns : List ℤ) (v : validTable b ts ns ≡ true) (x : ℤ) where
   even : length ts ≡ length ns
   even = valid-gives b ts ns v .ranges .even
 
-  pub look-stop : (i : ℕ) → i < length ts → Look b ts ns x i → ltZ x (markAt b ts ns i) ≡ true → getD (b ∷ ns) i (pos 0) ≡ offsetAt b ts ns x
+  look-stop : (i : ℕ) → i < length ts → Look b ts ns x i → ltZ x (markAt b ts ns i) ≡ true → getD (b ∷ ns) i (pos 0) ≡ offsetAt b ts ns x
   unfolding markAt
   look-stop i h inv e =
       let split = transitions-drop b ts ns even i h in
@@ -57,7 +70,7 @@ module _ (b : ℤ) (ts ns : List ℤ) (v : validTable b ts ns ≡ true) (x : ℤ
       sym (beyond (getD (b ∷ ns) i (pos 0)) (transitionAt b ts ns i) rest x (rw (← map-drop i (transitions b ts ns), split) at up) e)
       ∙ (rw split at inv)
 
-  pub look-next : (i : ℕ) → i < length ts → Look b ts ns x i → ltZ x (markAt b ts ns i) ≡ false → Look b ts ns x (i + 1)
+  look-next : (i : ℕ) → i < length ts → Look b ts ns x i → ltZ x (markAt b ts ns i) ≡ false → Look b ts ns x (i + 1)
   unfolding markAt
   look-next i h inv e =
       let split = transitions-drop b ts ns even i h in
@@ -65,11 +78,51 @@ module _ (b : ℤ) (ts ns : List ℤ) (v : validTable b ts ns ≡ true) (x : ℤ
       let passes = passed (getD (b ∷ ns) i (pos 0)) (transitionAt b ts ns i) rest x (not-lt-le x (markAt b ts ns i) e) in
       rw add-one (sym passes ∙ (rw split at inv))
 
-  pub look-end : (i : ℕ) → length ts ≤ i → Look b ts ns x i → getD (b ∷ ns) i (pos 0) ≡ offsetAt b ts ns x
+  look-end : (i : ℕ) → length ts ≤ i → Look b ts ns x i → getD (b ∷ ns) i (pos 0) ≡ offsetAt b ts ns x
   unfolding lastAfter
   look-end i h inv =
       let none = drop-of-length-le (transitions b ts ns) {i = i} (omega (arith, transitions-length b ts ns even)) in
       rw none at inv
+
+  mark-before : (i : ℕ) → suc i < length ts → ltZ x (markAt b ts ns (suc i)) ≡ false → ltZ x (markAt b ts ns i) ≡ false
+  mark-before i h e =
+      let up = neighbours (marks b ts ns) i (omega (arith, marks-length b ts ns even)) (valid-gives b ts ns v .marks-up) in
+      not-lt-smaller x (markAt b ts ns i) (markAt b ts ns (suc i)) (rw (marks-at b ts ns even i (omega arith), marks-at b ts ns even (suc i) h) at up) e
+
+  -- a mark at or before the local time has all before it there
+  look-over : (d i j : ℕ) → j ≡ d + i → j < length ts → Look b ts ns x i → ltZ x (markAt b ts ns j) ≡ false → Look b ts ns x (j + 1)
+  look-over zero i j q h inv e = let none : j ≡ i = omega arith in look-next j h (rw none inv) e
+  look-over (suc d) i zero q h inv e = absurd (omega arith)
+  look-over (suc d) i (suc j) q h inv e =
+      let same : j + 1 ≡ suc j = omega arith in
+      look-next (suc j) h (rw same at (look-over d i j (omega arith) (omega arith) inv (mark-before j h e))) e
+
+  -- ---- by halving
+
+  pub halves-start : Halves b ts ns x 0 (length ts)
+  halves-start = record { order = omega arith; fits = omega arith; found = look-start b ts ns x; beyond = λ h. absurd (omega arith) }
+
+  pub halves-high : (low high middle : ℕ) → low ≤ middle → middle < high → Halves b ts ns x low high → ltZ x (markAt b ts ns middle) ≡ true → Halves b ts ns x low middle
+  halves-high low high middle p q w e = record { order = p; fits = omega (arith, w .fits); found = w .found; beyond = λ h. e }
+
+  pub halves-low : (low high middle : ℕ) → low ≤ middle → middle < high → Halves b ts ns x low high → ltZ x (markAt b ts ns middle) ≡ false
+      → Halves b ts ns x (middle + 1) high
+  halves-low low high middle p q w e =
+      record {
+        order = omega arith;
+        fits = w .fits;
+        found = look-over (middle - low) low middle (omega arith) (omega (arith, w .fits)) (w .found) e;
+        beyond = w .beyond;
+      }
+
+  pub halves-end : (low high : ℕ) → high ≤ low → Halves b ts ns x low high → getD (b ∷ ns) low (pos 0) ≡ offsetAt b ts ns x
+  halves-end low high h w =
+      let same : high ≡ low = omega (arith, w .order) in
+      decide (λ g. look-stop low g (w .found) (rw same at (w .beyond) g)) (λ g. look-end low g (w .found))
+    where
+      decide : (low < length ts → getD (b ∷ ns) low (pos 0) ≡ offsetAt b ts ns x) → (length ts ≤ low → getD (b ∷ ns) low (pos 0) ≡ offsetAt b ts ns x)
+          → getD (b ∷ ns) low (pos 0) ≡ offsetAt b ts ns x
+      decide f g = by (ltb low (length ts)) (λ e. f (ltb-true _ _ e)) (λ e. g (ltb-false _ _ e))
 
 -- ---- for callers: the offset is within ±86,399
 

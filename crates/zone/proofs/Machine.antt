@@ -18,7 +18,7 @@ use Rattle.zone.specs.Places.{InRange, markAt}
 use Rattle.zone.proofs.RangeLaws.{range-more, sum-abs, difference-abs, abs-fits}
 use Rattle.zone.proofs.OrderLaws.{walk-stop, walk-next}
 use Rattle.zone.proofs.TableLaws.{marks, marks-length, marks-at, valid-gives}
-use Rattle.zone.proofs.LookupLaws.{Look, look-stop, look-next, look-end}
+use Rattle.zone.proofs.LookupLaws.{Halves, halves-high, halves-low, halves-end}
 
 abbrev pub again : ℤ → ℤ
 again z = toZ w64 (ofZ w64 z)
@@ -122,7 +122,7 @@ pub passed-offset : (b : ℤ) (ts ns : List ℤ) (x : ℤ) → SFits w64 b → S
 passed-offset b ts ns x f g r e = rw (toZ-ofZ f, toZ-ofZ g) at e
 
 module _ (b : ℤ) (ts ns : List ℤ) (x : ℤ) (f : SFits w64 b) (g : SFits w64 x) (v : validTable b ts ns ≡ true) where
-  valid-again : validTable (again b) ts ns ≡ true
+  pub valid-again : validTable (again b) ts ns ≡ true
   valid-again = passed-valid b ts ns f v
 
   pub valid-range : InRange (again b) ts ns
@@ -134,16 +134,16 @@ module _ (b : ℤ) (ts ns : List ℤ) (x : ℤ) (f : SFits w64 b) (g : SFits w64
   found : (R y : ℤ) → mag R < 2 ^ 63 → R ≡ y → y ≡ offsetAt (again b) ts ns (again x) → again R ≡ offsetAt b ts ns x
   found R y k e h = back R k ∙ e ∙ (rw (toZ-ofZ f, toZ-ofZ g) at h)
 
-  module _ (i : ℕ) (inv : Look (again b) ts ns (again x) i) where
-    pub offset-end : length ts ≤ i → (R : ℤ) → mag R < 2 ^ 63 → R ≡ getD (again b ∷ ns) i (pos 0) → again R ≡ offsetAt b ts ns x
-    offset-end h R k e = found R _ k e (look-end (again b) ts ns valid-again (again x) i h inv)
+  module _ (low high : ℕ) (w : Halves (again b) ts ns (again x) low high) where
+    pub offset-end : high ≤ low → (R : ℤ) → mag R < 2 ^ 63 → R ≡ getD (again b ∷ ns) low (pos 0) → again R ≡ offsetAt b ts ns x
+    offset-end h R k e = found R _ k e (halves-end (again b) ts ns valid-again (again x) low high h w)
 
-    module _ (h : i < length ts) (M : ℤ) (m : mag M < 2 ^ 63) (me : M ≡ markAt (again b) ts ns i) where
-      beyond : (t : Bool) → ltZ (again x) (again M) ≡ t → ltZ (again x) (markAt (again b) ts ns i) ≡ t
-      beyond t e = rw (back M m, me) at e
+    module _ (middle : ℕ) (p : low ≤ middle) (q : middle < high) (M : ℤ) (m : mag M < 2 ^ 63) (me : M ≡ markAt (again b) ts ns middle) where
+      judged : (t : Bool) → ltZ (again x) (again M) ≡ t → ltZ (again x) (markAt (again b) ts ns middle) ≡ t
+      judged t e = rw (back M m, me) at e
 
-      pub offset-stop : ltZ (again x) (again M) ≡ true → (R : ℤ) → mag R < 2 ^ 63 → R ≡ getD (again b ∷ ns) i (pos 0) → again R ≡ offsetAt b ts ns x
-      offset-stop t R k e = found R _ k e (look-stop (again b) ts ns valid-again (again x) i h inv (beyond true t))
+      pub offset-high : ltZ (again x) (again M) ≡ true → Halves (again b) ts ns (again x) low middle
+      offset-high t = halves-high (again b) ts ns valid-again (again x) low high middle p q w (judged true t)
 
-      pub offset-next : ltZ (again x) (again M) ≡ false → Look (again b) ts ns (again x) (i + 1)
-      offset-next t = look-next (again b) ts ns valid-again (again x) i h inv (beyond false t)
+      pub offset-low : ltZ (again x) (again M) ≡ false → Halves (again b) ts ns (again x) (middle + 1) high
+      offset-low t = halves-low (again b) ts ns valid-again (again x) low high middle p q w (judged false t)

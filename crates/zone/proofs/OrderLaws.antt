@@ -10,7 +10,7 @@ use lib.Signed.{leZ, ltZ}
 use lib.Seq.{drop-cons}
 use Rattle.signed.proofs.Parts.{le-parts, not-le-parts, lt-parts, not-lt-parts, parts-lt, parts-not-lt, parts-not-le, parts-le}
 use Rattle.zone.specs.Table.{increasing}
-use Rattle.zone.proofs.RangeLaws.{and-right}
+use Rattle.zone.proofs.RangeLaws.{and-left, and-right}
 
 pub le-not-lt : (a b : ℤ) → leZ b a ≡ true → ltZ a b ≡ false
 le-not-lt a b e = parts-not-lt a b (omega (arith, le-parts b a e))
@@ -64,3 +64,11 @@ pub increasing-drop : (i : ℕ) (s : List ℤ) → increasing s ≡ true → inc
 increasing-drop zero s e = e
 increasing-drop (suc i) [] e = e
 increasing-drop (suc i) (a ∷ s) e = increasing-drop i s (tail a s e)
+
+-- each is below the next
+pub neighbours : (s : List ℤ) (i : ℕ) → suc i < length s → increasing s ≡ true → ltZ (getD s i (pos 0)) (getD s (suc i) (pos 0)) ≡ true
+neighbours s i h up = and-left _ _ (rw (pair s i h) at (increasing-drop i s up))
+
+-- what is not below the larger of two is not below the smaller
+pub not-lt-smaller : (x a b : ℤ) → ltZ a b ≡ true → ltZ x b ≡ false → ltZ x a ≡ false
+not-lt-smaller x a b p q = parts-not-lt x a (omega (arith, lt-parts a b p, not-lt-parts x b q))

@@ -35,20 +35,24 @@ pub fn valid(initial: i64, instants: &[i64], offsets: &[i64]) -> bool
     mark::increasing(initial, instants, offsets)
 }
 
-// Marks increase, so nothing behind the first mark beyond the local time is at or before it.
+// Marks increase, so the first one beyond the local time is found by halving: what stands before `low` is at or before it, and the mark at
+// `high`, where there is one, is beyond it.
 pub fn offset(initial: i64, instants: &[i64], offsets: &[i64], local: i64) -> i64
     requires { ⌜ validTable initial (now instants) (now offsets) ≡ true ⌝ }
     ensures { λ r. ⌜ r ≡ offsetAt initial (now (instants .entry)) (now (offsets .entry)) local ⌝ }
 {
-    let mut i = 0;
-    while i < instants.len() {
-        let next = mark::at(initial, instants, offsets, i);
+    let mut low = 0;
+    let mut high = instants.len();
+    while low < high {
+        let middle = low + (high - low) / 2;
+        let next = mark::at(initial, instants, offsets, middle);
         if local < next {
-            return mark::before(initial, offsets, i);
+            high = middle;
+        } else {
+            low = middle + 1;
         }
-        i += 1;
     }
-    mark::before(initial, offsets, i)
+    mark::before(initial, offsets, low)
 }
 
 pub fn utc(initial: i64, instants: &[i64], offsets: &[i64], local: i64) -> i64

@@ -1,41 +1,34 @@
--- `zone::offset` meets its contract. The loop's invariant: each mark passed is at or before the local time, so the offset before the next
--- transition is what was found.
-use Prim.Native.Nat.{_≤_, _-_}
+-- `zone::offset` meets its contract: what lies between `low` and `high` is halved at each turn.
+use Prim.Native.Nat.{_≤_, _-_, _+_, _/_}
 use native.Mathlib.Omega.{arith}
 use lib.ListN.{length}
 use mir.Syntax.{w64}
 use mir.Val.{toZ}
-use Rattle.zone.proofs.LookupLaws.{Look, look-start}
-use Rattle.zone.proofs.Machine.{valid-range, as-many, offset-stop, offset-next, offset-end}
+use Rattle.zone.proofs.LookupLaws.{Halves, halves-start}
+use Rattle.zone.proofs.Machine.{valid-again, valid-range, as-many, offset-high, offset-low, offset-end}
 use borrow.Author.Needs.{needs}
 use Rattle.zone.proofs.offset.Statement.{statement}
 use Rattle.zone.proofs.offset.Tie as tie
 
 abbrev Inv-loop : tie.InvT-loop
-Inv-loop initial instants offsets local i₀ i = (i ≤ length instants) × Look (toZ w64 initial) instants offsets (toZ w64 local) i
+Inv-loop initial instants offsets local low₀ high₀ low high = Halves (toZ w64 initial) instants offsets (toZ w64 local) low high
 
 abbrev μ-loop : tie.MeasureT-loop
-μ-loop initial instants offsets local i₀ i = length instants - i
+μ-loop initial instants offsets local low₀ high₀ low high = high - low
 
 loop-holds : tie.Need-loop-holds Inv-loop μ-loop
-loop-holds c = (omega arith, look-start _ (c .args .instants .now) (c .args .offsets .now) _)
+loop-holds c = halves-start _ (c .args .instants .now) (c .args .offsets .now) (valid-again _ (c .args .instants .now) (c .args .offsets .now) _ (c .fits .initial) (c .fits .local) (c .pre)) _
+
+sub-middle : tie.Need-sub-middle Inv-loop μ-loop
+sub-middle c = search needs
+
+add-middle : tie.Need-add-middle Inv-loop μ-loop
+add-middle c = search needs
 
 at-requires : tie.Need-at-requires Inv-loop μ-loop
-at-requires c κs = let q = c .before .before in (valid-range _ (q .args .instants .now) (q .args .offsets .now) _ (q .fits .initial) (q .fits .local) (q .pre), omega arith)
-
-before-requires : tie.Need-before-requires Inv-loop μ-loop
-before-requires c κs = let q = c .before .before .before .before in as-many _ (q .args .instants .now) (q .args .offsets .now) _ (q .fits .initial) (q .fits .local) (q .pre) _ (omega arith)
-
-returns : tie.Need-returns Inv-loop μ-loop
-returns c =
-    let p = c .before .before .before .before in
-    let q = p .before in
-    offset-stop _ (q .args .instants .now) (q .args .offsets .now) _ (q .fits .initial) (q .fits .local) (q .pre)
-    (p .loop .i) (p .loop .inv .1) (c .before .before .before .loop-test .taken) _ (c .before .before .at .ok) (c .before .before .at .ensures)
-    (c .before .if1 .taken) _ (c .before2 .ok) (c .before2 .ensures)
-
-add-i : tie.Need-add-i Inv-loop μ-loop
-add-i c = search needs
+at-requires c κs =
+    let q = c .before .before in
+    (valid-range _ (q .args .instants .now) (q .args .offsets .now) _ (q .fits .initial) (q .fits .local) (q .pre), omega (arith, c .before .loop .inv .fits))
 
 loop-less : tie.Need-loop-less Inv-loop μ-loop
 loop-less c = search needs
@@ -43,21 +36,34 @@ loop-less c = search needs
 loop-again : tie.Need-loop-again Inv-loop μ-loop
 loop-again c =
     let p = c .before .before .before in
-    let q = p .before in (
-      omega arith,
-      offset-next _ (q .args .instants .now) (q .args .offsets .now) _ (q .fits .initial) (q .fits .local) (q .pre)
-          (p .loop .i) (p .loop .inv .1) (c .before .before .loop-test .taken) _ (c .before .at .ok) (c .before .at .ensures) (c .if1 .left),
-    )
+    let q = p .before in
+    offset-high _ (q .args .instants .now) (q .args .offsets .now) _ (q .fits .initial) (q .fits .local) (q .pre)
+    (p .loop .low) (p .loop .high) (p .loop .inv) _ (omega arith) (omega arith) _ (c .before .at .ok) (c .before .at .ensures) (c .if1 .taken)
 
-before-requires-2 : tie.Need-before-requires-2 Inv-loop μ-loop
-before-requires-2 c κs = let q = c .before .before in as-many _ (q .args .instants .now) (q .args .offsets .now) _ (q .fits .initial) (q .fits .local) (q .pre) _ (omega arith)
+add-low : tie.Need-add-low Inv-loop μ-loop
+add-low c = search needs
 
-returns-2 : tie.Need-returns-2 Inv-loop μ-loop
-returns-2 c =
+loop-less-2 : tie.Need-loop-less-2 Inv-loop μ-loop
+loop-less-2 c = search needs
+
+loop-again-2 : tie.Need-loop-again-2 Inv-loop μ-loop
+loop-again-2 c =
+    let p = c .before .before .before in
+    let q = p .before in
+    offset-low _ (q .args .instants .now) (q .args .offsets .now) _ (q .fits .initial) (q .fits .local) (q .pre)
+    (p .loop .low) (p .loop .high) (p .loop .inv) _ (omega arith) (omega arith) _ (c .before .at .ok) (c .before .at .ensures) (c .if1 .left)
+
+before-requires : tie.Need-before-requires Inv-loop μ-loop
+before-requires c κs =
+    let q = c .before .before in
+    as-many _ (q .args .instants .now) (q .args .offsets .now) _ (q .fits .initial) (q .fits .local) (q .pre) _ (omega (arith, c .before .loop .inv .order, c .before .loop .inv .fits))
+
+returns : tie.Need-returns Inv-loop μ-loop
+returns c =
     let p = c .before .before in
     let q = p .before in
     offset-end _ (q .args .instants .now) (q .args .offsets .now) _ (q .fits .initial) (q .fits .local) (q .pre)
-    (p .loop .i) (p .loop .inv .1) (c .before .loop-test .left) _ (c .before3 .ok) (c .before3 .ensures)
+    (p .loop .low) (p .loop .high) (p .loop .inv) (c .before .loop-test .left) _ (c .before2 .ok) (c .before2 .ensures)
 
 pub offset-spec : {M : Type 1} → statement M
 offset-spec =
@@ -66,11 +72,13 @@ offset-spec =
     Inv-loop
     μ-loop
     loop-holds
+    sub-middle
+    add-middle
     at-requires
-    before-requires
-    returns
-    add-i
     loop-less
     loop-again
-    before-requires-2
-    returns-2)
+    add-low
+    loop-less-2
+    loop-again-2
+    before-requires
+    returns)
