@@ -1,8 +1,6 @@
 // A zone table lent as a slice of entries, and the two runs of numbers that the library works over (01, "Zone table and UTC").
 ghost use mathlib.Core.Path.{_≡_};
-ghost use Prim.Native.Nat.{_≤_};
-ghost use lib.ListN.{length};
-ghost use Rattle.entries.specs.Gather.{lesser, noEntries, added, gathered, Whole};
+ghost use Rattle.entries.specs.Gather.{lesser, noEntries, added, gathered};
 
 // "a run of entries, each an instant and an offset from then on"
 #[repr(C)]
@@ -31,21 +29,15 @@ pub fn empty() -> Entries
 }
 
 // One entry more; a full table stays as it is.
-pub fn add(t: Entries, x: i64, y: i64) -> Entries
-    requires { ⌜ Whole t ⌝ }
+pub fn add(mut t: Entries, x: i64, y: i64) -> Entries
     ensures { λ r. ⌜ r ≡ added t x y ⌝ }
 {
     let n = t.n;
-    let mut instants = t.instants;
-    let mut offsets = t.offsets;
     if n < 1025 {
-        instants[n] = x;
-        offsets[n] = y;
-        return Entries {
-            instants,
-            offsets,
-            n: n + 1,
-        };
+        t.instants[n] = x;
+        t.offsets[n] = y;
+        t.n = n + 1;
+        return t;
     }
     t
 }

@@ -6,27 +6,27 @@ use Rattle.entries.proofs.add.Tie as tie
 use Rattle.entries.proofs.add.Reads as reads
 use Rattle.entries.proofs.add.Lts as lts
 
--- src/lib.rt:42:9
-mul-instants : tie.Need-mul-instants
-mul-instants c = search needs
+-- src/lib.rt:40:9
+mul-x : tie.Need-mul-x
+mul-x c = search needs
 
--- src/lib.rt:42:9
-array-set-from-instants : tie.Need-array-set-from-instants
-array-set-from-instants c = search needs
+-- src/lib.rt:40:9
+element-set-from-x : tie.Need-element-set-from-x
+element-set-from-x c = search needs
+
+-- src/lib.rt:41:9
+mul-y : tie.Need-mul-y
+mul-y c = search needs
+
+-- src/lib.rt:41:9
+element-set-from-y : tie.Need-element-set-from-y
+element-set-from-y c = search needs
+
+-- src/lib.rt:42:15
+add-t : tie.Need-add-t
+add-t c = search needs
 
 -- src/lib.rt:43:9
-mul-offsets : tie.Need-mul-offsets
-mul-offsets c = search needs
-
--- src/lib.rt:43:9
-array-set-from-offsets : tie.Need-array-set-from-offsets
-array-set-from-offsets c = search needs
-
--- src/lib.rt:47:16
-add-t8 : tie.Need-add-t8
-add-t8 c = search needs
-
--- src/lib.rt:44:9
 returns : tie.Need-returns
 unfolding added
 returns c = rw (lt-ltb _ _ (c .if1 .taken)) (search needs)
@@ -38,12 +38,4 @@ returns-2 c = rw (le-ltb _ _ (c .if1 .left))
 
 pub add-spec : {M : Type 1} → statement M
 add-spec =
-    tie.close
-    (tie.spec
-    mul-instants
-    array-set-from-instants
-    mul-offsets
-    array-set-from-offsets
-    add-t8
-    returns
-    returns-2)
+    tie.close (tie.spec mul-x element-set-from-x mul-y element-set-from-y add-t returns returns-2)
