@@ -1,11 +1,11 @@
 -- The loop of `gather`: where it starts, one turn of it, and its end.
-use Prim.Native.Nat.{ℕ, suc, _+_, _<_}
+use Prim.Native.Nat.{ℕ, suc, _+_, _<_, _≤_}
 use mathlib.Core.Bool.{Bool, true, false}
 use mathlib.Core.Path.{_≡_, refl, sym, _∙_}
 use mathlib.Core.List.{List}
 use native.Mathlib.Numerals.{add-one}
 use native.Mathlib.Omega.{arith}
-use borrow.Author.Tests.{ltb-true}
+use borrow.Author.Tests.{ltb-true, ltb-false}
 use lib.Dec.{ltb}
 use lib.ListN.{length, getD, take, drop}
 use lib.Seq.{drop-cons, take-all, take-length}
@@ -32,3 +32,11 @@ pub all-next : (t : Entries) (k i : ℕ) (ys : List Transition) (d : Transition)
     → addedAll t (take (suc k) (drop i ys)) ≡ addedAll (added t (getD ys i d .instant) (getD ys i d .offset)) (take k (drop (i + 1) ys))
 unfolding addedAll
 all-next t k i ys d h = rw (drop-cons ys i d h, add-one)
+
+pub lesser-le : (a b : ℕ) → lesser a b ≤ a
+unfolding lesser
+lesser-le a b = by (ltb a b) refl
+  where
+    by : (t : Bool) → ltb a b ≡ t → (if t then a else b) ≤ a
+    by true e = omega arith
+    by false e = ltb-false a b e
