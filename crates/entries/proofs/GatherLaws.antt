@@ -17,11 +17,11 @@ use Rattle.entries.specs.Gather.{lesser, noEntries, added, addedAll, gat
 -- So many turns take what the limit leaves of the entries.
 pub take-lesser : (n : ℕ) (ys : List Transition) → take (lesser (length ys) n) ys ≡ take n ys
 unfolding lesser
-take-lesser n ys = by (ltb (length ys) n) refl
+take-lesser n ys = by (ltb n (length ys)) refl
   where
-    by : (b : Bool) → ltb (length ys) n ≡ b → take (if b then length ys else n) ys ≡ take n ys
-    by true e = take-length ys ∙ sym (take-all n ys (let h : length ys < n = ltb-true _ _ e in omega arith))
-    by false e = refl
+    by : (b : Bool) → ltb n (length ys) ≡ b → take (if b then n else length ys) ys ≡ take n ys
+    by true e = refl
+    by false e = take-length ys ∙ sym (take-all n ys (ltb-false _ _ e))
 
 pub all-start : (ys : List Transition) → addedAll noEntries (take (lesser (length ys) 1025) ys) ≡ gathered ys
 unfolding gathered
@@ -35,8 +35,8 @@ all-next t k i ys d h = rw (drop-cons ys i d h, add-one)
 
 pub lesser-le : (a b : ℕ) → lesser a b ≤ a
 unfolding lesser
-lesser-le a b = by (ltb a b) refl
+lesser-le a b = by (ltb b a) refl
   where
-    by : (t : Bool) → ltb a b ≡ t → (if t then a else b) ≤ a
-    by true e = omega arith
-    by false e = ltb-false a b e
+    by : (t : Bool) → ltb b a ≡ t → (if t then b else a) ≤ a
+    by true e = let h : b < a = ltb-true b a e in omega arith
+    by false e = omega arith

@@ -10,7 +10,7 @@ use lib.ListN.{length, take, set, length-set, length-append, length-replicate, l
 use lib.Seq.{take-suc-set, append-snoc}
 use Rattle.entries.specs.declared.Transition.{Transition}
 use Rattle.entries.specs.declared.Entries.{Entries}
-use Rattle.entries.specs.Gather.{noEntries, added, addedAll, gathered, instantsOf, offsetsOf, Holds}
+use Rattle.entries.specs.Gather.{noEntries, added, addedAll, gathered, instantsOf, offsetsOf, Holds, Reaching}
 
 map-snoc : (f : Transition → ℤ) (xs : List Transition) (e : Transition) → map f (xs ++ (e ∷ [])) ≡ map f xs ++ (f e ∷ [])
 map-snoc f [] e = refl
@@ -56,3 +56,11 @@ held-all (e ∷ es) t xs h room =
 pub gathered-holds : (ys : List Transition) → Holds (gathered ys) (take 1025 ys)
 unfolding gathered
 gathered-holds ys = held-all (take 1025 ys) noEntries [] held-none (omega (arith, length-take 1025 ys))
+
+pub gathered-reaches : (ys : List Transition) → Reaching (gathered ys)
+gathered-reaches ys =
+    let h : Holds (gathered ys) (take 1025 ys) = gathered-holds ys in
+    record {
+      instants-reach = rw (h .number, h .instants-whole) (omega (arith, length-take 1025 ys));
+      offsets-reach = rw (h .number, h .offsets-whole) (omega (arith, length-take 1025 ys));
+    }

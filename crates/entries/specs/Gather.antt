@@ -1,5 +1,5 @@
 -- The entries that a zone table is lent with, as the two runs of numbers that the library works over.
-use Prim.Native.Nat.{ℕ, _+_}
+use Prim.Native.Nat.{ℕ, _+_, _≤_}
 use mathlib.Core.Path.{_≡_}
 use mathlib.Core.List.{List, [], _∷_, map}
 use lib.Dec.{ltb}
@@ -10,7 +10,7 @@ use Rattle.entries.specs.declared.Transition.{Transition}
 use Rattle.entries.specs.declared.Entries.{Entries}
 
 unfoldable pub lesser : ℕ → ℕ → ℕ
-lesser a b = if ltb a b then a else b
+lesser a b = if ltb b a then b else a
 
 unfoldable pub noEntries : Entries
 noEntries = record { instants = replicate 1025 (pos 0); offsets = replicate 1025 (pos 0); n = 0 }
@@ -34,6 +34,11 @@ instantsOf entries = map (λ e. e .instant) entries
 
 unfoldable pub offsetsOf : List Transition → List ℤ
 offsetsOf entries = map (λ e. e .offset) entries
+
+-- Both arrays reach as far as the count; a struct's type does not say how long its arrays are.
+pub record Reaching (t : Entries) : Type 0 where
+  pub instants-reach : t .n ≤ length (t .instants)
+  pub offsets-reach : t .n ≤ length (t .offsets)
 
 -- The table holds these entries: their numbers are the first places of both arrays, which have all their places.
 pub record Holds (t : Entries) (entries : List Transition) : Type 0 where

@@ -45,10 +45,10 @@ pub fn add(mut t: Entries, x: i64, y: i64) -> Entries
 fn limit(n: usize) -> usize
     ensures { λ r. ⌜ r ≡ lesser n 1025 ⌝ }
 {
-    if n < 1025 {
-        return n;
+    if 1025 < n {
+        return 1025;
     }
-    1025
+    n
 }
 
 // The borrow checker does not cover a slice of structs: each number of an entry goes to `add` by itself.
