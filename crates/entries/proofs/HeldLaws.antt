@@ -1,5 +1,5 @@
 -- What the gathered table holds: the first 1,025 entries.
-use Prim.Native.Nat.{ℕ, zero, suc, _+_, _<_, _≤_}
+use Prim.Native.Nat.{ℕ, _+_, _<_, _≤_, min}
 use mathlib.Core.Path.{_≡_, refl, sym, ap, _∙_, subst}
 use mathlib.Core.List.{List, [], _∷_, _++_, map}
 use native.Mathlib.Numerals.{add-one}
@@ -56,6 +56,9 @@ held-all (e ∷ es) t xs h room =
 pub gathered-holds : (ys : List Transition) → Holds (gathered ys) (take 1025 ys)
 unfolding gathered
 gathered-holds ys = held-all (take 1025 ys) noEntries [] held-none (omega (arith, length-take 1025 ys))
+
+pub gathered-number : (ys : List Transition) → gathered ys .n ≡ min 1025 (length ys)
+gathered-number ys = gathered-holds ys .number ∙ length-take 1025 ys
 
 pub gathered-reaches : (ys : List Transition) → Reaching (gathered ys)
 gathered-reaches ys =

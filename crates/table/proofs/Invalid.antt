@@ -1,14 +1,14 @@
 -- 10 "zone table invalid": one invalid table gives what any other gives.
 use Prim.Native.Nat.{ℕ}
 use mathlib.Core.Bool.{false}
-use mathlib.Core.Path.{_≡_, refl, sym, _∙_}
+use mathlib.Core.Path.{_≡_}
 use mathlib.Core.List.{List}
 use lib.IntN.{ℤ}
 use Rattle.zone.specs.Table.{validTable}
 use Rattle.event.specs.Types.{Event}
 use Rattle.event.specs.Event.{eventOf}
 use Rattle.table.specs.Bytes.{ZoneTable}
-use Rattle.table.specs.Answer.{Outcome, answerFor, outcomeBy, expanded}
+use Rattle.table.specs.Answer.{answerFor, outcomeBy, expanded}
 use Rattle.table.specs.Call.{expandText}
 
 invalid-expanded : (zones : ZoneTable) (e : Event) (from to : ℤ) (buffer : List ℕ) → validTable (zones .initial) (zones .instants) (zones .offsets) ≡ false
