@@ -3,3 +3,4 @@ pub mod DemandThree
 pub mod Starred
 pub mod DemandTwo
 pub mod DemandOne
+pub mod Invalid
