@@ -32,7 +32,7 @@ and-none : (a : Bool) → (a && false) ≡ false
 and-none true = refl
 and-none false = refl
 
-early-day : (excluded : Bool) (r : Rule) (start d : ℕ) → d < start / 86400 → falls excluded (written r) start d ≡ false
+pub early-day : (excluded : Bool) (r : Rule) (start d : ℕ) → d < start / 86400 → falls excluded (written r) start d ≡ false
 unfolding falls picks
 early-day excluded r start d h =
     rw (ne-eqb d (start / 86400) (omega arith), lt-leb (start / 86400) d h) (go excluded)
@@ -68,7 +68,7 @@ module _ (excluded : Bool) (r : Rule) (start : ℕ) where
 
   module _ (t : Terms) (row : List Bool) (low : 366 ≤ start / 86400)
       (e : Termed (written r) (dayAt (start / 86400)) t) (m : Marked (written r) (dayAt (start / 86400)) row) where
-    picks-here : (n : ℕ) → start / 86400 ≤ n → n < endDay → picksBy t row (dayAt n) ≡ picks (written r) start n
+    pub picks-here : (n : ℕ) → start / 86400 ≤ n → n < endDay → picksBy t row (dayAt n) ≡ picks (written r) start n
     unfolding picks picksOnBy
     picks-here n after before =
         picks-same (written r) (dayAt (start / 86400)) t row e m n (omega arith) before ∙ rw (le-leb (start / 86400) n after)
@@ -80,7 +80,7 @@ module _ (excluded : Bool) (r : Rule) (start : ℕ) where
     first-picked from n after before =
         first-same (picksOnBy t row) (picks (written r) start) n from (λ j low high. picks-here j (omega arith) (omega arith))
 
-    falls-same : (n : ℕ) → start / 86400 ≤ n → n < endDay → fallsOnBy excluded (r .end) t row start n ≡ falls excluded (written r) start n
+    pub falls-same : (n : ℕ) → start / 86400 ≤ n → n < endDay → fallsOnBy excluded (r .end) t row start n ≡ falls excluded (written r) start n
     unfolding fallsOnBy fallsBy falls isFirst written
     falls-same n after before =
         rw (picks-here n after before, day-number n)
@@ -107,7 +107,7 @@ module _ (excluded : Bool) (r : Rule) (start : ℕ) where
 
 -- ---- the same of what the code makes: the start's day, the terms, and a row that was clear before
 
-clear-row : (n j : ℕ) → getD (replicate n false) j false ≡ false
+pub clear-row : (n j : ℕ) → getD (replicate n false) j false ≡ false
 clear-row zero j = refl
 clear-row (suc n) zero = refl
 clear-row (suc n) (suc j) = clear-row n j

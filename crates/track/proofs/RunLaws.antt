@@ -1,0 +1,90 @@
+-- Runs of days: marking one day after another, and the answers of tests.
+use Prim.Native.Nat.{ℕ, zero, suc, _+_, _-_, _<_, _≤_}
+use mathlib.Core.Bool.{Bool, true, false}
+use mathlib.Core.List.{List, [], _∷_, _++_, append-assoc, append-nil}
+use mathlib.Core.Path.{_≡_, refl, sym, ap, _∙_}
+use native.Mathlib.Omega.{arith}
+use native.Mathlib.Numerals.{add-one}
+use lib.ListN.{length, take, drop, getD, set, length-set}
+use lib.Seq.{drop-cons, take-suc, take-suc-set, drop-set-lt, append-snoc, take-all, drop-length}
+use Rattle.signed.specs.Choose.{if_then_else_}
+use Rattle.rule.specs.declared.Day.{Day}
+use Rattle.rule.specs.Day.{dayAt}
+use Rattle.matcher.proofs.WalkLaws.{number-is}
+use Rattle.track.specs.Runs.{marked, run}
+
+-- ---- the loop that marks: what is marked, and what is left to mark, make the whole
+
+pub record MarkAt (p : ℕ → Bool) (value : Bool) (first : ℕ) (before hits : List Bool) (x : Day) (i : ℕ) : Type 0 where
+  pub day : x ≡ dayAt (first + i)
+  pub within : i ≤ length hits
+  pub size : length hits ≡ length before
+  pub same : take i hits ++ marked p value (first + i) (drop i hits) ≡ marked p value first before
+
+marked-yes : (p : ℕ → Bool) (value : Bool) (d : ℕ) (h : Bool) (l : List Bool) → p d ≡ true
+    → marked p value d (h ∷ l) ≡ value ∷ marked p value (suc d) l
+unfolding marked
+marked-yes p value d h l e = rw e
+
+marked-no : (p : ℕ → Bool) (value : Bool) (d : ℕ) (h : Bool) (l : List Bool) → p d ≡ false
+    → marked p value d (h ∷ l) ≡ h ∷ marked p value (suc d) l
+unfolding marked
+marked-no p value d h l e = rw e
+
+module _ (p : ℕ → Bool) (value : Bool) (first : ℕ) (before : List Bool) where
+  pub mark-starts : (x : Day) → x ≡ dayAt first → MarkAt p value first before before x 0
+  mark-starts x e =
+      let here : first + 0 ≡ first = omega arith in
+      record { day = e ∙ ap dayAt (sym here); within = omega arith; size = refl; same = rw here }
+
+  module _ (hits : List Bool) (x : Day) (i : ℕ) (m : MarkAt p value first before hits x i) (more : i < length hits) (y : Day)
+      (e : y ≡ dayAt (first + i + 1)) where
+    next : first + suc i ≡ suc (first + i)
+    next = omega arith
+
+    day-after : y ≡ dayAt (first + suc i)
+    day-after = e ∙ ap dayAt (omega arith)
+
+    pub mark-yes : p (first + i) ≡ true → MarkAt p value first before (set hits i value) y (i + 1)
+    mark-yes yes-it-is =
+        let rest : drop i hits ≡ getD hits i false ∷ drop (suc i) hits = drop-cons hits i false more in
+        rw (add-one i)
+        (record {
+          day = day-after;
+          within = rw (length-set hits i value) more;
+          size = length-set hits i value ∙ m .size;
+          same =
+              rw (take-suc-set hits i value more, drop-set-lt (suc i) hits i value (omega arith), next)
+              (append-snoc (take i hits) value (marked p value (suc (first + i)) (drop (suc i) hits))
+              ∙ (ap (λ (l : List Bool). take i hits ++ l)
+              (sym (ap (marked p value (first + i)) rest ∙ marked-yes p value (first + i) (getD hits i false) (drop (suc i) hits) yes-it-is))
+              ∙ m .same));
+        })
+
+    pub mark-no : p (first + i) ≡ false → MarkAt p value first before hits y (i + 1)
+    mark-no no-it-is-not =
+        let rest : drop i hits ≡ getD hits i false ∷ drop (suc i) hits = drop-cons hits i false more in
+        rw (add-one i)
+        (record {
+          day = day-after;
+          within = more;
+          size = m .size;
+          same =
+              rw (take-suc hits i false more, next)
+              (append-snoc (take i hits) (getD hits i false) (marked p value (suc (first + i)) (drop (suc i) hits))
+              ∙ (ap (λ (l : List Bool). take i hits ++ l)
+              (sym (ap (marked p value (first + i)) rest ∙ marked-no p value (first + i) (getD hits i false) (drop (suc i) hits) no-it-is-not))
+              ∙ m .same));
+        })
+
+  pub mark-ends : (hits : List Bool) (x : Day) (i : ℕ) → MarkAt p value first before hits x i → length hits ≤ i
+      → hits ≡ marked p value first before
+  unfolding marked
+  mark-ends hits x i m over =
+      let all : i ≡ length hits = omega (arith, m .within) in
+      let none : drop i hits ≡ [] = rw all (drop-length hits) in
+      sym (take-all i hits over) ∙ (sym (append-nil (take i hits)) ∙ (rw none at (m .same)))
+
+-- the day after a day that is known by its number
+pub same-day : (x y : Day) (n : ℕ) → x ≡ dayAt n → y ≡ dayAt (x .number + 1) → y ≡ dayAt (n + 1)
+same-day x y n e f = f ∙ ap (λ (k : ℕ). dayAt (k + 1)) (number-is x n e)
