@@ -88,3 +88,32 @@ module _ (p : ℕ → Bool) (value : Bool) (first : ℕ) (before : List Bool) wh
 -- the day after a day that is known by its number
 pub same-day : (x y : Day) (n : ℕ) → x ≡ dayAt n → y ≡ dayAt (x .number + 1) → y ≡ dayAt (n + 1)
 same-day x y n e f = f ∙ ap (λ (k : ℕ). dayAt (k + 1)) (number-is x n e)
+
+-- ---- a marked run by its answers
+
+pub marked-length : (p : ℕ → Bool) (value : Bool) (d : ℕ) (l : List Bool) → length (marked p value d l) ≡ length l
+unfolding marked
+marked-length p value d [] = refl
+marked-length p value d (h ∷ l) = ap suc (marked-length p value (suc d) l)
+
+pub marked-run : (p q : ℕ → Bool) (value : Bool) (d n : ℕ) → marked p value d (run q d n) ≡ run (λ e. if p e then value else q e) d n
+unfolding marked run
+marked-run p q value d zero = refl
+marked-run p q value d (suc n) = ap (λ (l : List Bool). (if p d then value else q d) ∷ l) (marked-run p q value (suc d) n)
+
+pub run-same : (p q : ℕ → Bool) (d n : ℕ) → ((e : ℕ) → d ≤ e → e < d + n → p e ≡ q e) → run p d n ≡ run q d n
+unfolding run
+run-same p q d zero h = refl
+run-same p q d (suc n) h =
+    rw (h d (omega arith) (omega arith), run-same p q (suc d) n (λ e low high. h e (omega arith) (omega arith)))
+
+pub run-length : (p : ℕ → Bool) (d n : ℕ) → length (run p d n) ≡ n
+unfolding run
+run-length p d zero = refl
+run-length p d (suc n) = ap suc (run-length p (suc d) n)
+
+pub run-at : (p : ℕ → Bool) (d n i : ℕ) → i < n → getD (run p d n) i false ≡ p (d + i)
+unfolding run
+run-at p d zero i h = absurd (omega arith)
+run-at p d (suc n) zero h = ap p (omega arith)
+run-at p d (suc n) (suc i) h = run-at p (suc d) n i (omega arith) ∙ ap p (omega arith)
