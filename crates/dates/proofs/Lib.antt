@@ -1,1 +1,2 @@
 pub mod TrackLaws
+pub mod MarkLaws

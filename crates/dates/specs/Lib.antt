@@ -1,1 +1,3 @@
 pub mod Tracked
+pub mod Overrides
+pub mod Loaded

@@ -1,6 +1,6 @@
 -- Runs of days: marking one day after another, and the answers of tests.
 use Prim.Native.Nat.{ℕ, zero, suc, _+_, _-_, _<_, _≤_}
-use mathlib.Core.Bool.{Bool, true, false}
+use mathlib.Core.Bool.{Bool, true, false, _||_}
 use mathlib.Core.List.{List, [], _∷_, _++_, append-assoc, append-nil}
 use mathlib.Core.Path.{_≡_, refl, sym, ap, _∙_}
 use native.Mathlib.Omega.{arith}
@@ -117,3 +117,42 @@ unfolding run
 run-at p d zero i h = absurd (omega arith)
 run-at p d (suc n) zero h = ap p (omega arith)
 run-at p d (suc n) (suc i) h = run-at p (suc d) n i (omega arith) ∙ ap p (omega arith)
+
+-- ---- marking twice, marking nothing, marking one day
+
+pub marked-or : (p q : ℕ → Bool) (value : Bool) (d : ℕ) (l : List Bool)
+    → marked q value d (marked p value d l) ≡ marked (λ e. p e || q e) value d l
+unfolding marked
+marked-or p q value d [] = refl
+marked-or p q value d (h ∷ l) = rw (marked-or p q value (suc d) l) (ap (λ (b : Bool). b ∷ marked (λ e. p e || q e) value (suc d) l) (either (p d) (q d)))
+  where
+    either : (a b : Bool) → (if b then value else if a then value else h) ≡ (if a || b then value else h)
+    either true true = refl
+    either true false = refl
+    either false b = refl
+
+pub marked-same : (p q : ℕ → Bool) (value : Bool) (d : ℕ) (l : List Bool) → ((e : ℕ) → p e ≡ q e) → marked p value d l ≡ marked q value d l
+unfolding marked
+marked-same p q value d [] h = refl
+marked-same p q value d (x ∷ l) h = rw (h d, marked-same p q value (suc d) l h)
+
+pub marked-none : (p : ℕ → Bool) (value : Bool) (d : ℕ) (l : List Bool) → ((e : ℕ) → d ≤ e → e < d + length l → p e ≡ false) → marked p value d l ≡ l
+unfolding marked
+marked-none p value d [] h = refl
+marked-none p value d (x ∷ l) h =
+    rw (h d (omega arith) (omega arith), marked-none p value (suc d) l (λ e low high. h e (omega arith) (omega arith)))
+
+-- the i-th day alone passes
+pub marked-one : (p : ℕ → Bool) (value : Bool) (d : ℕ) (l : List Bool) (i : ℕ) → i < length l → p (d + i) ≡ true
+    → ((e : ℕ) → (e ≡ d + i → ⊥) → p e ≡ false) → marked p value d l ≡ set l i value
+unfolding marked
+marked-one p value d [] i h yes-it-is no-other = absurd (omega arith)
+marked-one p value d (x ∷ l) zero h yes-it-is no-other =
+    let here : d + 0 ≡ d = omega arith in
+    rw (ap p (sym here) ∙ yes-it-is, marked-none p value (suc d) l (λ e low high. no-other e (λ same. omega arith)))
+marked-one p value d (x ∷ l) (suc i) h yes-it-is no-other =
+    let here : suc d + i ≡ d + suc i = omega arith in
+    rw (
+      no-other d (λ same. omega arith),
+      marked-one p value (suc d) l i (omega arith) (ap p here ∙ yes-it-is) (λ e other. no-other e (λ same. other (omega arith))),
+    )
