@@ -9,7 +9,14 @@ ghost use Rattle.dates.specs.Overrides.{counts, isDate, namesDay};
 use super::Tracks;
 
 // The days of each rule of a list get the value; the event begins on the day `begin`.
-pub fn mark_tracks(tracks: Tracks, flags: &[bool], hits: &mut [bool], first: u32, begin: u32, value: bool)
+pub fn mark_tracks(
+    tracks: Tracks,
+    flags: &[bool],
+    hits: &mut [bool],
+    first: u32,
+    begin: u32,
+    value: bool,
+)
     requires { ⌜ Tracked tracks (length (now flags)) × Run first (length (now hits)) ⌝ }
     ensures { λ r. ⌜ now (hits .exit) ≡ markEach (tracksOf tracks) (now (flags .entry)) value first begin (now (hits .entry)) ⌝ }
 {
@@ -65,7 +72,15 @@ fn count_it(only: bool, gone: bool) -> bool
 }
 
 // The hits that overrides name, all of them or only those that are excluded, get the value.
-pub fn mark_ids(ids: &[u64], gone: &[bool], only: bool, hits: &mut [bool], first: u32, start: u64, value: bool)
+pub fn mark_ids(
+    ids: &[u64],
+    gone: &[bool],
+    only: bool,
+    hits: &mut [bool],
+    first: u32,
+    start: u64,
+    value: bool,
+)
     requires { ⌜ length (now ids) ≡ length (now gone) ⌝ }
     ensures { λ r. ⌜ now (hits .exit) ≡ marked (namesDay only (now (ids .entry)) (now (gone .entry)) start) value first (now (hits .entry)) ⌝ }
 {

@@ -1,15 +1,12 @@
+-- `dates::marks::count_it` meets its contract.
 use Rattle.dates.specs.Overrides.{counts}
 use Rattle.dates.proofs.marks.count_it.Statement.{statement}
 use Rattle.dates.proofs.marks.count_it.Tie as tie
-use Rattle.dates.proofs.marks.count_it.Reads as reads
-use Rattle.dates.proofs.marks.count_it.Lts as lts
 
--- src/marks.rt:62:9
 returns : tie.Need-returns
 unfolding counts
 returns c = rw (c .if1 .taken)
 
--- src/marks.rt:58:1
 returns-2 : tie.Need-returns-2
 unfolding counts
 returns-2 c = rw (c .if1 .left)

@@ -2,7 +2,6 @@
 use Rattle.dates.proofs.MarkLaws.{date-not-counted, date-not-timed, date-early, date-late, date-here}
 use borrow.Author.Tests.{not-true, not-false}
 use borrow.Author.Needs.{needs}
-use borrow.Author.Needs.{needs}
 use Rattle.dates.proofs.marks.mark_date.Statement.{statement}
 use Rattle.dates.proofs.marks.mark_date.Tie as tie
 

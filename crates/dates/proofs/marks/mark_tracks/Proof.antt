@@ -1,7 +1,5 @@
 -- `dates::marks::mark_tracks` meets its contract.
-use Rattle.dates.proofs.TrackLaws.{marking, row-is}
-use Rattle.dates.proofs.TrackLaws.{tracks-length, track-at, marking, row-is}
-use Rattle.dates.proofs.TrackLaws.{EachAt, each-starts, each-goes-on, each-ends, weeks-at}
+use Rattle.dates.proofs.TrackLaws.{marking, row-is, tracks-length, track-at, EachAt, each-starts, each-goes-on, each-ends, weeks-at}
 use lib.Seq.{getD-take, length-take-le}
 use lib.ListN.{length, take}
 use native.Mathlib.Omega.{arith}
