@@ -62,7 +62,7 @@ pub fn mark_date(hits: &mut [bool], first: u32, start: u64, x: u64, counted: boo
     }
 }
 
-fn count_it(only: bool, gone: bool) -> bool
+pub fn count_it(only: bool, gone: bool) -> bool
     ensures { λ r. ⌜ r ≡ counts only gone ⌝ }
 {
     if only {

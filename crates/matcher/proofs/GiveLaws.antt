@@ -12,6 +12,7 @@ use Rattle.rule.specs.declared.Day.{Day}
 use Rattle.rule.specs.declared.End.{End}
 use Rattle.rule.specs.declared.Rule.{Rule}
 use Rattle.rule.specs.Day.{dayAt}
+use Rattle.rule.specs.Written.{RecurrenceRule}
 use Rattle.rule.specs.Lists.{countIn, within, notAfter}
 use Rattle.rule.specs.Period.{inStep}
 use Rattle.rule.specs.Stays.{stays, picked}
@@ -32,7 +33,7 @@ and-none : (a : Bool) → (a && false) ≡ false
 and-none true = refl
 and-none false = refl
 
-pub early-day : (excluded : Bool) (r : Rule) (start d : ℕ) → d < start / 86400 → falls excluded (written r) start d ≡ false
+pub early-day : (excluded : Bool) (r : RecurrenceRule) (start d : ℕ) → d < start / 86400 → falls excluded r start d ≡ false
 unfolding falls picks
 early-day excluded r start d h =
     rw (ne-eqb d (start / 86400) (omega arith), lt-leb (start / 86400) d h) (go excluded)
@@ -49,23 +50,24 @@ joined false true c u = refl
 joined false false true u = refl
 joined false false false u = refl
 
-module _ (excluded : Bool) (r : Rule) (start : ℕ) where
+module _ (excluded : Bool) (r : RecurrenceRule) (start : ℕ) where
   -- whatever lies outside falls away
-  pub never-timed : (x : ℕ) → (x % 86400 ≡ start % 86400 → ⊥) → false ≡ gives excluded (written r) start x
+  pub never-timed : (x : ℕ) → (x % 86400 ≡ start % 86400 → ⊥) → false ≡ gives excluded r start x
   unfolding gives
   never-timed x h = rw (ne-eqb (x % 86400) (start % 86400) h)
 
-  pub never-after : (x : ℕ) → endDay ≤ x / 86400 → false ≡ gives excluded (written r) start x
+  pub never-after : (x : ℕ) → endDay ≤ x / 86400 → false ≡ gives excluded r start x
   unfolding gives
   never-after x h = rw (le-ltb (x / 86400) endDay h) (sym (and-none (eqb (x % 86400) (start % 86400))))
 
-  not-falling : (x : ℕ) → x / 86400 < endDay → falls excluded (written r) start (x / 86400) ≡ false → false ≡ gives excluded (written r) start x
+  pub not-falling : (x : ℕ) → x / 86400 < endDay → falls excluded r start (x / 86400) ≡ false → false ≡ gives excluded r start x
   unfolding gives
   not-falling x h e = rw (e, lt-ltb (x / 86400) endDay h) (sym (and-none (eqb (x % 86400) (start % 86400))))
 
-  pub never-early : (x : ℕ) → x % 86400 ≡ start % 86400 → x / 86400 < endDay → x < start → false ≡ gives excluded (written r) start x
+  pub never-early : (x : ℕ) → x % 86400 ≡ start % 86400 → x / 86400 < endDay → x < start → false ≡ gives excluded r start x
   never-early x t within-end h = not-falling x within-end (early-day excluded r start (x / 86400) (omega arith))
 
+module _ (excluded : Bool) (r : Rule) (start : ℕ) where
   module _ (t : Terms) (row : List Bool) (low : 366 ≤ start / 86400)
       (e : Termed (written r) (dayAt (start / 86400)) t) (m : Marked (written r) (dayAt (start / 86400)) row) where
     pub picks-here : (n : ℕ) → start / 86400 ≤ n → n < endDay → picksBy t row (dayAt n) ≡ picks (written r) start n
@@ -92,7 +94,7 @@ module _ (excluded : Bool) (r : Rule) (start : ℕ) where
 
       pub given-no : fallsBy excluded (r .end) t row start (dayAt (x / 86400)) ≡ false → false ≡ gives excluded (written r) start x
       unfolding fallsOnBy
-      given-no f = not-falling x before (sym (falls-same (x / 86400) in-order before) ∙ f)
+      given-no f = not-falling excluded (written r) start x before (sym (falls-same (x / 86400) in-order before) ∙ f)
 
       pub given-yes : fallsBy excluded (r .end) t row start (dayAt (x / 86400)) ≡ true → (earlier : ℕ)
           → earlier ≡ countIn (fallsOnBy excluded (r .end) t row start) (start / 86400) (x / 86400 - start / 86400)
