@@ -67,7 +67,7 @@ from-day start at =
     rw e (record { reached = omega arith; earliest = λ d k. omega arith; close = omega arith }))
 
 module _ (hits : List Bool) (first start at to : ℕ) (s : Stretch first (length hits) at to) where
-  day-low : first ≤ dayFrom start at
+  pub day-low : first ≤ dayFrom start at
   day-low =
       let f = from-day start at in
       let reached = f .reached in
@@ -88,6 +88,13 @@ module _ (hits : List Bool) (first start at to : ℕ) (s : Stretch first (length
       (is-i : i ≡ firstFrom (atHit hits) (length hits - from) from) where
     found : First (atHit hits) (length hits - from) from i
     found = subst (First (atHit hits) (length hits - from) from) (sym is-i) (first-is (atHit hits) (length hits - from) from)
+
+    pub hit-index : first + i ≤ 3067672
+    hit-index =
+        let high = found .high in
+        let most = day-high in
+        let last = s .days in
+        omega (arith, is-day, is-from)
 
     abbrev pub x : ℕ
     x = 86400 * (first + i) + start % 86400
