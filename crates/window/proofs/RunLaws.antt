@@ -103,28 +103,44 @@ module _ (l : Loaded) (hits : List Bool) (first n : ℕ) (is : hits ≡ run (isO
       ap (λ (h : List Bool). getD h (x / 86400 - first) false) is
       ∙ (run-at (isOn l) first n (x / 86400 - first) (omega arith) ∙ (ap (isOn l) day ∙ ap (isIn l) here))
 
+  absorbed : (isIn l x || isKept (l .ids) (l .gone) x) ≡ isIn l x
+  unfolding isIn isKept
+  absorbed = go (isNamed true (l .ids) (l .gone) x) (isNamed false (l .ids) (l .gone) x) (if eqb (x % 86400) (l .start % 86400) then byRules l (x / 86400) else false)
+    where
+      go : (a b c : Bool) → ((if a then false else if b then true else c) || (if a then false else b)) ≡ (if a then false else if b then true else c)
+      go true b c = refl
+      go false true c = refl
+      go false false true = refl
+      go false false false = refl
+
+  untimed : eqb (x % 86400) (l .start % 86400) ≡ false → isKept (l .ids) (l .gone) x ≡ isIn l x
+  unfolding isIn isKept
+  untimed e = rw e (go (isNamed true (l .ids) (l .gone) x) (isNamed false (l .ids) (l .gone) x))
+    where
+      go : (a b : Bool) → (if a then false else b) ≡ (if a then false else if b then true else false)
+      go true b = refl
+      go false true = refl
+      go false false = refl
+
   pub run-there : isThere hits first (l .start) (l .ids) (l .gone) x ≡ isIn l x
   unfolding isThere isHit
   run-there =
       by (eqb (x % 86400) (l .start % 86400))
       (λ e. rw (e, timed-hit (eqb-true (x % 86400) (l .start % 86400) e)) absorbed)
       (λ e. rw e (untimed e))
-    where
-      absorbed : (isIn l x || isKept (l .ids) (l .gone) x) ≡ isIn l x
-      unfolding isIn isKept
-      absorbed = go (isNamed true (l .ids) (l .gone) x) (isNamed false (l .ids) (l .gone) x) (if eqb (x % 86400) (l .start % 86400) then byRules l (x / 86400) else false)
-        where
-          go : (a b c : Bool) → ((if a then false else if b then true else c) || (if a then false else b)) ≡ (if a then false else if b then true else c)
-          go true b c = refl
-          go false true c = refl
-          go false false true = refl
-          go false false false = refl
 
-      untimed : eqb (x % 86400) (l .start % 86400) ≡ false → isKept (l .ids) (l .gone) x ≡ isIn l x
-      unfolding isIn isKept
-      untimed e = rw e (go (isNamed true (l .ids) (l .gone) x) (isNamed false (l .ids) (l .gone) x))
-        where
-          go : (a b : Bool) → (if a then false else b) ≡ (if a then false else if b then true else false)
-          go true b = refl
-          go false true = refl
-          go false false = refl
+-- what is counted and what is next in a run that is filled
+module _ (l : Loaded) (hits : List Bool) (first n : ℕ) (is : hits ≡ run (isOn l) first n) (at to : ℕ) (s : Stretch first n at to) where
+  same-there : (j : ℕ) → at ≤ j → j < to → isThere hits first (l .start) (l .ids) (l .gone) j ≡ isIn l j
+  same-there j low high =
+      let below = s .low in
+      let above = s .high in
+      run-there l hits first n is j (omega arith) (omega arith)
+
+  pub run-counted : (r : ℕ) → r ≡ countIn (isThere hits first (l .start) (l .ids) (l .gone)) at (to - at) → r ≡ countIn (isIn l) at (to - at)
+  run-counted r e =
+      let order = s .order in
+      e ∙ count-same (isThere hits first (l .start) (l .ids) (l .gone)) (isIn l) at (to - at) (λ j low high. same-there j low (omega arith))
+
+  pub run-next : (r : ℕ) → r ≡ nextOf (isThere hits first (l .start) (l .ids) (l .gone)) at to → r ≡ nextOf (isIn l) at to
+  run-next r e = e ∙ next-same (isThere hits first (l .start) (l .ids) (l .gone)) (isIn l) at to same-there (s .order)
