@@ -1,19 +1,24 @@
 -- The day that ends a rule: before it, and only there, fewer than `count` days came before and `until` is not past.
 use Prim.Native.Nat.{ℕ, zero, suc, _+_, _-_, _*_, _/_, _%_, _<_, _≤_}
 use mathlib.Core.Bool.{Bool, true, false, not, _&&_, _||_}
+use mathlib.Core.List.{List}
 use mathlib.Core.Path.{_≡_, refl, sym, ap, _∙_, subst}
 use native.Mathlib.Omega.{arith}
 use native.Mathlib.Numerals.{add-one}
 use lib.Dec.{eqb, leb, ltb}
 use borrow.Author.Tests.{eqb-true, eqb-false, ltb-true, ltb-false, leb-true, leb-false, lt-ltb, le-ltb, le-leb, lt-leb, ne-eqb}
 use Rattle.signed.specs.Choose.{if_then_else_}
-use Rattle.rule.specs.declared.Day.{Day}
-use Rattle.rule.specs.Day.{dayAt}
 use Rattle.rule.specs.Lists.{countIn}
 use Rattle.rule.specs.Gives.{endDay, onDay}
 use Rattle.rule.proofs.Bools.{by, same-tests}
 use Rattle.rule.proofs.Counting.{count-more, count-less, count-none}
-use Rattle.matcher.proofs.WalkLaws.{number-is, day-again}
+use Rattle.rule.specs.declared.End.{End}
+use Rattle.rule.specs.Lists.{notAfter}
+use Rattle.rule.specs.Read.{untilFrom}
+use Rattle.rule.proofs.PeriodLaws.{day-number}
+use Rattle.matcher.specs.declared.Terms.{Terms}
+use Rattle.matcher.specs.Walk.{picksBy, picksOnBy}
+use Rattle.matcher.specs.Member.{isFirst, fallsBy, fallsOnBy}
 use Rattle.track.specs.Last.{untilDay, endOf}
 
 -- ---- one turn
@@ -43,47 +48,40 @@ end-no p (suc k) d n h some-left e =
 
 -- ---- the walk: from here on it ends where it ends from the start on
 
-pub record EndAt (p : ℕ → Bool) (first limit count : ℕ) (x : Day) (left more : ℕ) : Type 0 where
-  pub day : x ≡ dayAt (x .number)
-  pub low : first ≤ x .number
-  pub ends : x .number + left ≡ limit
-  pub same : endOf p left (x .number) more ≡ endOf p (limit - first) first count
+pub record EndAt (p : ℕ → Bool) (first limit count d left more : ℕ) : Type 0 where
+  pub low : first ≤ d
+  pub ends : d + left ≡ limit
+  pub same : endOf p left d more ≡ endOf p (limit - first) first count
 
 module _ (p : ℕ → Bool) (first limit count : ℕ) where
-  pub end-starts : (x : Day) → x ≡ dayAt first → first < limit → EndAt p first limit count x (limit - first) count
-  end-starts x e h =
-      let at = number-is x first e in
-      record { day = day-again x first e; low = omega arith; ends = omega arith; same = rw at }
+  pub end-starts : (d : ℕ) → d ≡ first → first < limit → EndAt p first limit count d (limit - first) count
+  end-starts d e h = record { low = omega arith; ends = omega arith; same = rw e }
 
-  module _ (x : Day) (left more : ℕ) (w : EndAt p first limit count x left more) where
-    pub end-found : more ≡ 0 → x .number ≡ endOf p (limit - first) first count
-    end-found none = sym (end-here p left (x .number)) ∙ (sym (ap (endOf p left (x .number)) none) ∙ w .same)
+  module _ (d left more : ℕ) (w : EndAt p first limit count d left more) where
+    pub end-found : more ≡ 0 → d ≡ endOf p (limit - first) first count
+    end-found none = sym (end-here p left d) ∙ (sym (ap (endOf p left d) none) ∙ w .same)
 
     pub end-over : left ≤ 0 → limit ≡ endOf p (limit - first) first count
     end-over h =
         let none : left ≡ 0 = omega arith in
-        let here : endOf p left (x .number) more ≡ x .number = rw none (end-none p (x .number) more) in
+        let here : endOf p left d more ≡ d = rw none (end-none p d more) in
         omega (arith, w .same, w .ends)
 
-    module _ (y : Day) (f : y ≡ dayAt (x .number + 1)) (h : 0 < left) (some-left : more ≡ 0 → ⊥) where
-      pub end-goes-on : p (x .number) ≡ true → EndAt p first limit count y (left - 1) (more - 1)
+    module _ (next : ℕ) (f : next ≡ d + 1) (h : 0 < left) (some-left : more ≡ 0 → ⊥) where
+      pub end-goes-on : p d ≡ true → EndAt p first limit count next (left - 1) (more - 1)
       end-goes-on e =
-          let at = number-is y (x .number + 1) f in
           record {
-            day = day-again y (x .number + 1) f;
             low = omega (arith, w .low);
             ends = omega (arith, w .ends);
-            same = rw at (sym (end-yes p left (x .number) more h some-left e) ∙ w .same);
+            same = rw f (sym (end-yes p left d more h some-left e) ∙ w .same);
           }
 
-      pub end-goes-by : p (x .number) ≡ false → EndAt p first limit count y (left - 1) more
+      pub end-goes-by : p d ≡ false → EndAt p first limit count next (left - 1) more
       end-goes-by e =
-          let at = number-is y (x .number + 1) f in
           record {
-            day = day-again y (x .number + 1) f;
             low = omega (arith, w .low);
             ends = omega (arith, w .ends);
-            same = rw at (sym (end-no p left (x .number) more h some-left e) ∙ w .same);
+            same = rw f (sym (end-no p left d more h some-left e) ∙ w .same);
           }
 
 -- ---- what it says
@@ -173,3 +171,10 @@ until-ends start until d h =
     (same-tests (leb (onDay start d) until) (ltb d ((until - start % 86400) / 86400 + 1))
     (λ g. lt-ltb d ((until - start % 86400) / 86400 + 1) (omega (arith, leb-true (onDay start d) until g)))
     (λ g. le-leb (onDay start d) until (omega (arith, ltb-true d ((until - start % 86400) / 86400 + 1) g)))))))
+
+-- whether a rule has a day, its count apart, by the number of the day
+pub falls-by : (excluded : Bool) (end : End) (t : Terms) (row : List Bool) (start n : ℕ)
+    → (if isFirst excluded (start / 86400) n then true else if picksOnBy t row n then notAfter (onDay start n) (untilFrom end) else false)
+    ≡ fallsOnBy excluded end t row start n
+unfolding fallsOnBy fallsBy picksOnBy
+falls-by excluded end t row start n = rw (day-number n)

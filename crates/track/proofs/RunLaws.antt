@@ -7,16 +7,15 @@ use native.Mathlib.Omega.{arith}
 use native.Mathlib.Numerals.{add-one}
 use lib.ListN.{length, take, drop, getD, set, length-set}
 use lib.Seq.{drop-cons, take-suc, take-suc-set, drop-set-lt, append-snoc, take-all, drop-length}
+use lib.Dec.{ltb}
+use borrow.Author.Tests.{le-ltb}
 use Rattle.signed.specs.Choose.{if_then_else_}
-use Rattle.rule.specs.declared.Day.{Day}
-use Rattle.rule.specs.Day.{dayAt}
-use Rattle.matcher.proofs.WalkLaws.{number-is}
-use Rattle.track.specs.Runs.{marked, run}
+use Rattle.track.specs.declared.Track.{Track}
+use Rattle.track.specs.Runs.{hasDay, marked, run}
 
 -- ---- the loop that marks: what is marked, and what is left to mark, make the whole
 
-pub record MarkAt (p : ℕ → Bool) (value : Bool) (first : ℕ) (before hits : List Bool) (x : Day) (i : ℕ) : Type 0 where
-  pub day : x ≡ dayAt (first + i)
+pub record MarkAt (p : ℕ → Bool) (value : Bool) (first : ℕ) (before hits : List Bool) (i : ℕ) : Type 0 where
   pub within : i ≤ length hits
   pub size : length hits ≡ length before
   pub same : take i hits ++ marked p value (first + i) (drop i hits) ≡ marked p value first before
@@ -32,25 +31,20 @@ unfolding marked
 marked-no p value d h l e = rw e
 
 module _ (p : ℕ → Bool) (value : Bool) (first : ℕ) (before : List Bool) where
-  pub mark-starts : (x : Day) → x ≡ dayAt first → MarkAt p value first before before x 0
-  mark-starts x e =
+  pub mark-starts : MarkAt p value first before before 0
+  mark-starts =
       let here : first + 0 ≡ first = omega arith in
-      record { day = e ∙ ap dayAt (sym here); within = omega arith; size = refl; same = rw here }
+      record { within = omega arith; size = refl; same = rw here }
 
-  module _ (hits : List Bool) (x : Day) (i : ℕ) (m : MarkAt p value first before hits x i) (more : i < length hits) (y : Day)
-      (e : y ≡ dayAt (first + i + 1)) where
+  module _ (hits : List Bool) (i : ℕ) (m : MarkAt p value first before hits i) (more : i < length hits) where
     next : first + suc i ≡ suc (first + i)
     next = omega arith
 
-    day-after : y ≡ dayAt (first + suc i)
-    day-after = e ∙ ap dayAt (omega arith)
-
-    pub mark-yes : p (first + i) ≡ true → MarkAt p value first before (set hits i value) y (i + 1)
+    pub mark-yes : p (first + i) ≡ true → MarkAt p value first before (set hits i value) (i + 1)
     mark-yes yes-it-is =
         let rest : drop i hits ≡ getD hits i false ∷ drop (suc i) hits = drop-cons hits i false more in
         rw (add-one i)
         (record {
-          day = day-after;
           within = rw (length-set hits i value) more;
           size = length-set hits i value ∙ m .size;
           same =
@@ -61,12 +55,11 @@ module _ (p : ℕ → Bool) (value : Bool) (first : ℕ) (before : List Bool) wh
               ∙ m .same));
         })
 
-    pub mark-no : p (first + i) ≡ false → MarkAt p value first before hits y (i + 1)
+    pub mark-no : p (first + i) ≡ false → MarkAt p value first before hits (i + 1)
     mark-no no-it-is-not =
         let rest : drop i hits ≡ getD hits i false ∷ drop (suc i) hits = drop-cons hits i false more in
         rw (add-one i)
         (record {
-          day = day-after;
           within = more;
           size = m .size;
           same =
@@ -77,17 +70,13 @@ module _ (p : ℕ → Bool) (value : Bool) (first : ℕ) (before : List Bool) wh
               ∙ m .same));
         })
 
-  pub mark-ends : (hits : List Bool) (x : Day) (i : ℕ) → MarkAt p value first before hits x i → length hits ≤ i
+  pub mark-ends : (hits : List Bool) (i : ℕ) → MarkAt p value first before hits i → length hits ≤ i
       → hits ≡ marked p value first before
   unfolding marked
-  mark-ends hits x i m over =
+  mark-ends hits i m over =
       let all : i ≡ length hits = omega (arith, m .within) in
       let none : drop i hits ≡ [] = rw all (drop-length hits) in
       sym (take-all i hits over) ∙ (sym (append-nil (take i hits)) ∙ (rw none at (m .same)))
-
--- the day after a day that is known by its number
-pub same-day : (x y : Day) (n : ℕ) → x ≡ dayAt n → y ≡ dayAt (x .number + 1) → y ≡ dayAt (n + 1)
-same-day x y n e f = f ∙ ap (λ (k : ℕ). dayAt (k + 1)) (number-is x n e)
 
 -- ---- a marked run by its answers
 
@@ -156,3 +145,14 @@ marked-one p value d (x ∷ l) (suc i) h yes-it-is no-other =
       no-other d (λ same. omega arith),
       marked-one p value (suc d) l i (omega arith) (ap p here ∙ yes-it-is) (λ e other. no-other e (λ same. other (omega arith))),
     )
+
+-- a rule that ended before the run marks nothing
+pub run-ended : (t : Track) (row : List Bool) (begin : ℕ) (value : Bool) (first : ℕ) (hits : List Bool) → t .last ≤ first
+    → hits ≡ marked (hasDay t row begin) value first hits
+unfolding hasDay
+run-ended t row begin value first hits h =
+    sym (marked-none (hasDay t row begin) value first hits (λ e low high. rw (le-ltb e (t .last) (omega arith)) (go (ltb e begin))))
+  where
+    go : (b : Bool) → (if b then false else false) ≡ false
+    go true = refl
+    go false = refl

@@ -18,6 +18,7 @@ use Rattle.rule.specs.Period.{sinceFirst, daysOf}
 use Rattle.rule.specs.Gives.{endDay}
 use Rattle.rule.proofs.Bools.{by}
 use Rattle.rule.proofs.Counting.{count-more, count-less, count-none, count-split, count-most}
+use Rattle.rule.proofs.PeriodLaws.{day-number}
 use Rattle.rule.proofs.DayLaws.{InCalendar, of-day, step-month, step-year, step-next-year}
 use Rattle.matcher.specs.declared.Terms.{Terms}
 use Rattle.matcher.specs.Flags.{Places, named, staysBy}
@@ -267,3 +268,16 @@ module _ (t : Terms) (row : List Bool) (c : Cursor) (hold : Holding t row (lengt
           ∙ seen-same t row (c .day) y y-number (asked-early t (length row) (c .day) held-asked) period (stays-on row (t .inyear) (c .day) false held-day e))
           (held-total next-placed ∙ total-carried t row (c .day) y y-number (asked-early t (length row) (c .day) held-asked) period)
           ∙ cursor-at-day t row y (c .day .number + 1) next
+
+-- ---- on the way
+
+pub at-number : (t : Terms) (row : List Bool) (c : Cursor) (n : ℕ) → c ≡ cursorAt t row n → c .day .number ≡ n
+unfolding cursorAt cursorOn
+at-number t row c n e = ap (λ (k : Cursor). k .day .number) e ∙ day-number n
+
+pub at-again : (t : Terms) (row : List Bool) (c : Cursor) (n : ℕ) → c ≡ cursorAt t row n → c ≡ cursorAt t row (c .day .number)
+at-again t row c n e = e ∙ ap (cursorAt t row) (sym (at-number t row c n e))
+
+pub at-next : (t : Terms) (row : List Bool) (c next : Cursor) (n : ℕ) → c ≡ cursorAt t row n → next ≡ cursorAt t row (c .day .number + 1)
+    → next ≡ cursorAt t row (n + 1)
+at-next t row c next n e f = f ∙ ap (λ (k : ℕ). cursorAt t row (k + 1)) (at-number t row c n e)

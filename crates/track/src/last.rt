@@ -5,6 +5,8 @@ ghost use lib.ListN.{length};
 ghost use Rattle.rule.specs.Gives.{endDay};
 ghost use Rattle.matcher.specs.Member.{fallsOnBy};
 ghost use Rattle.track.specs.Last.{untilDay, endOf, lastBy, Ending};
+ghost use Rattle.track.specs.Steps.{Holding};
+use super::Cursor;
 use matcher::Terms;
 use rule::End;
 
@@ -20,6 +22,23 @@ fn until_day(start: u64, until: u64) -> u32
         return 3067672;
     }
     day as u32 + 1
+}
+
+// Whether the rule has a day, its `count` apart.
+fn falls(excluded: bool, end: End, terms: Terms, flags: &[bool], start: u64, c: Cursor) -> bool
+    requires { ⌜ Holding terms (now flags) (length (now flags)) c × (start / 86400 < endDay) ⌝ }
+    ensures { λ r. ⌜ r ≡ fallsOnBy excluded end terms (now (flags .entry)) start (c .day .number) ⌝ }
+{
+    let x = c.day;
+    let day = x.number;
+    let first = (start / 86400) as u32;
+    if matcher::member::is_first(excluded, first, day) {
+        return true;
+    }
+    if !super::steps::picks(terms, flags, c) {
+        return false;
+    }
+    matcher::member::not_after(end, 86400 * day as u64 + start % 86400)
 }
 
 // The day that has `count` of the rule's days before it, or the limit.
@@ -39,17 +58,18 @@ fn count_day(
     if limit <= first {
         return first;
     }
-    let mut x = rule::days::day_of(first);
+    let mut c = super::steps::cursor_at(terms, flags, first);
     let mut left = limit - first;
     let mut more = count;
     while 0 < left {
         if more == 0 {
+            let x = c.day;
             return x.number;
         }
         left -= 1;
-        let here = x;
-        x = rule::days::next_day(here);
-        if matcher::member::falls(excluded, end, terms, flags, start, here) {
+        let here = c;
+        c = super::steps::advance(terms, flags, here);
+        if falls(excluded, end, terms, flags, start, here) {
             more -= 1;
         }
     }

@@ -2,22 +2,23 @@
 ghost use mathlib.Core.Path.{_≡_};
 ghost use Prim.Native.Nat.{_<_, _≤_};
 ghost use lib.ListN.{length};
-ghost use Rattle.matcher.specs.Walk.{Asked};
 ghost use Rattle.track.specs.Runs.{hasDay, marked, Marking};
+ghost use Rattle.track.specs.Steps.{Holding};
+use super::Cursor;
 use super::Track;
-use rule::Day;
 
-fn has_day(track: Track, flags: &[bool], begin: u32, x: Day) -> bool
-    requires { ⌜ Asked (track .terms) (length (now flags)) x ⌝ }
-    ensures { λ r. ⌜ r ≡ hasDay track (now (flags .entry)) begin (x .number) ⌝ }
+fn has_day(track: Track, flags: &[bool], begin: u32, c: Cursor) -> bool
+    requires { ⌜ Holding (track .terms) (now flags) (length (now flags)) c ⌝ }
+    ensures { λ r. ⌜ r ≡ hasDay track (now (flags .entry)) begin (c .day .number) ⌝ }
 {
+    let x = c.day;
     let day = x.number;
     if day < begin {
         return false;
     }
     let last = track.last;
     if day < last {
-        return matcher::walk::picks(track.terms, flags, x);
+        return super::steps::picks(track.terms, flags, c);
     }
     false
 }
@@ -34,14 +35,19 @@ pub fn mark_run(
     requires { ⌜ Marking track (length (now flags)) first (length (now hits)) ⌝ }
     ensures { λ r. ⌜ now (hits .exit) ≡ marked (hasDay track (now (flags .entry)) begin) value first (now (hits .entry)) ⌝ }
 {
-    let mut x = rule::days::day_of(first);
+    let last = track.last;
+    if last <= first {
+        return;
+    }
+    let terms = track.terms;
+    let mut c = super::steps::cursor_at(terms, flags, first);
     let mut i = 0;
     while i < hits.len() {
         let here = i;
-        let day = x;
+        let held = c;
         i += 1;
-        x = rule::days::next_day(day);
-        if has_day(track, flags, begin, day) {
+        c = super::steps::advance(terms, flags, held);
+        if has_day(track, flags, begin, held) {
             hits[here] = value;
         }
     }
