@@ -13,7 +13,7 @@ use rule::End;
 use rule::Rule;
 
 // The start's own day, which a rule has even unmatched and an excluded rule has not.
-fn is_first(excluded: bool, first: u32, day: u32) -> bool
+pub fn is_first(excluded: bool, first: u32, day: u32) -> bool
     ensures { λ r. ⌜ r ≡ isFirst excluded first day ⌝ }
 {
     if excluded {
@@ -22,7 +22,7 @@ fn is_first(excluded: bool, first: u32, day: u32) -> bool
     day == first
 }
 
-fn not_after(end: End, at: u64) -> bool
+pub fn not_after(end: End, at: u64) -> bool
     ensures { λ r. ⌜ r ≡ notAfter at (untilFrom end) ⌝ }
 {
     match end {
@@ -45,7 +45,7 @@ fn is_within(end: End, earlier: u32) -> bool
     }
 }
 
-fn falls(excluded: bool, end: End, terms: Terms, flags: &[bool], start: u64, x: Day) -> bool
+pub fn falls(excluded: bool, end: End, terms: Terms, flags: &[bool], start: u64, x: Day) -> bool
     requires { ⌜ Asked terms (length (now flags)) x × (start / 86400 < endDay) ⌝ }
     ensures { λ r. ⌜ r ≡ fallsBy excluded end terms (now (flags .entry)) start x ⌝ }
 {

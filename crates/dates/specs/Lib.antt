@@ -1,0 +1,5 @@
+pub mod Tracked
+pub mod Overrides
+pub mod Loaded
+pub mod Stands
+pub mod Load

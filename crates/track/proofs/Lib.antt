@@ -1,0 +1,4 @@
+pub mod StepLaws
+pub mod RunLaws
+pub mod LastLaws
+pub mod SettleLaws

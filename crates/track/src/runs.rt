@@ -1,0 +1,54 @@
+// The days of a settled rule in a run of days.
+ghost use mathlib.Core.Path.{_≡_};
+ghost use Prim.Native.Nat.{_<_, _≤_};
+ghost use lib.ListN.{length};
+ghost use Rattle.track.specs.Runs.{hasDay, marked, Marking};
+ghost use Rattle.track.specs.Steps.{Holding};
+use super::Cursor;
+use super::Track;
+
+fn has_day(track: Track, flags: &[bool], begin: u32, c: Cursor) -> bool
+    requires { ⌜ Holding (track .terms) (now flags) (length (now flags)) c ⌝ }
+    ensures { λ r. ⌜ r ≡ hasDay track (now (flags .entry)) begin (c .day .number) ⌝ }
+{
+    let x = c.day;
+    let day = x.number;
+    if day < begin {
+        return false;
+    }
+    let last = track.last;
+    if day < last {
+        return super::steps::picks(track.terms, flags, c);
+    }
+    false
+}
+
+// Hit i of the run stands for day first + i: where the rule has that day, it gets the value.
+pub fn mark_run(
+    track: Track,
+    flags: &[bool],
+    hits: &mut [bool],
+    first: u32,
+    begin: u32,
+    value: bool,
+)
+    requires { ⌜ Marking track (length (now flags)) first (length (now hits)) ⌝ }
+    ensures { λ r. ⌜ now (hits .exit) ≡ marked (hasDay track (now (flags .entry)) begin) value first (now (hits .entry)) ⌝ }
+{
+    let last = track.last;
+    if last <= first {
+        return;
+    }
+    let terms = track.terms;
+    let mut c = super::steps::cursor_at(terms, flags, first);
+    let mut i = 0;
+    while i < hits.len() {
+        let here = i;
+        let held = c;
+        i += 1;
+        c = super::steps::advance(terms, flags, held);
+        if has_day(track, flags, begin, held) {
+            hits[here] = value;
+        }
+    }
+}

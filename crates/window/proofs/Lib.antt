@@ -1,0 +1,6 @@
+pub mod NextLaws
+pub mod OverrideLaws
+pub mod HitLaws
+pub mod RunLaws
+pub mod ChunkLaws
+pub mod ListLaws
