@@ -12,6 +12,7 @@ use Rattle.rule.specs.declared.Day.{Day}
 use Rattle.rule.specs.declared.End.{End}
 use Rattle.rule.specs.declared.Rule.{Rule}
 use Rattle.rule.specs.Day.{dayAt}
+use Rattle.rule.specs.Written.{RecurrenceRule}
 use Rattle.rule.specs.Lists.{countIn, within, notAfter}
 use Rattle.rule.specs.Period.{inStep}
 use Rattle.rule.specs.Stays.{stays, picked}
@@ -32,7 +33,7 @@ and-none : (a : Bool) → (a && false) ≡ false
 and-none true = refl
 and-none false = refl
 
-early-day : (excluded : Bool) (r : Rule) (start d : ℕ) → d < start / 86400 → falls excluded (written r) start d ≡ false
+pub early-day : (excluded : Bool) (r : RecurrenceRule) (start d : ℕ) → d < start / 86400 → falls excluded r start d ≡ false
 unfolding falls picks
 early-day excluded r start d h =
     rw (ne-eqb d (start / 86400) (omega arith), lt-leb (start / 86400) d h) (go excluded)
@@ -49,26 +50,27 @@ joined false true c u = refl
 joined false false true u = refl
 joined false false false u = refl
 
-module _ (excluded : Bool) (r : Rule) (start : ℕ) where
+module _ (excluded : Bool) (r : RecurrenceRule) (start : ℕ) where
   -- whatever lies outside falls away
-  pub never-timed : (x : ℕ) → (x % 86400 ≡ start % 86400 → ⊥) → false ≡ gives excluded (written r) start x
+  pub never-timed : (x : ℕ) → (x % 86400 ≡ start % 86400 → ⊥) → false ≡ gives excluded r start x
   unfolding gives
   never-timed x h = rw (ne-eqb (x % 86400) (start % 86400) h)
 
-  pub never-after : (x : ℕ) → endDay ≤ x / 86400 → false ≡ gives excluded (written r) start x
+  pub never-after : (x : ℕ) → endDay ≤ x / 86400 → false ≡ gives excluded r start x
   unfolding gives
   never-after x h = rw (le-ltb (x / 86400) endDay h) (sym (and-none (eqb (x % 86400) (start % 86400))))
 
-  not-falling : (x : ℕ) → x / 86400 < endDay → falls excluded (written r) start (x / 86400) ≡ false → false ≡ gives excluded (written r) start x
+  pub not-falling : (x : ℕ) → x / 86400 < endDay → falls excluded r start (x / 86400) ≡ false → false ≡ gives excluded r start x
   unfolding gives
   not-falling x h e = rw (e, lt-ltb (x / 86400) endDay h) (sym (and-none (eqb (x % 86400) (start % 86400))))
 
-  pub never-early : (x : ℕ) → x % 86400 ≡ start % 86400 → x / 86400 < endDay → x < start → false ≡ gives excluded (written r) start x
+  pub never-early : (x : ℕ) → x % 86400 ≡ start % 86400 → x / 86400 < endDay → x < start → false ≡ gives excluded r start x
   never-early x t within-end h = not-falling x within-end (early-day excluded r start (x / 86400) (omega arith))
 
+module _ (excluded : Bool) (r : Rule) (start : ℕ) where
   module _ (t : Terms) (row : List Bool) (low : 366 ≤ start / 86400)
       (e : Termed (written r) (dayAt (start / 86400)) t) (m : Marked (written r) (dayAt (start / 86400)) row) where
-    picks-here : (n : ℕ) → start / 86400 ≤ n → n < endDay → picksBy t row (dayAt n) ≡ picks (written r) start n
+    pub picks-here : (n : ℕ) → start / 86400 ≤ n → n < endDay → picksBy t row (dayAt n) ≡ picks (written r) start n
     unfolding picks picksOnBy
     picks-here n after before =
         picks-same (written r) (dayAt (start / 86400)) t row e m n (omega arith) before ∙ rw (le-leb (start / 86400) n after)
@@ -80,7 +82,7 @@ module _ (excluded : Bool) (r : Rule) (start : ℕ) where
     first-picked from n after before =
         first-same (picksOnBy t row) (picks (written r) start) n from (λ j low high. picks-here j (omega arith) (omega arith))
 
-    falls-same : (n : ℕ) → start / 86400 ≤ n → n < endDay → fallsOnBy excluded (r .end) t row start n ≡ falls excluded (written r) start n
+    pub falls-same : (n : ℕ) → start / 86400 ≤ n → n < endDay → fallsOnBy excluded (r .end) t row start n ≡ falls excluded (written r) start n
     unfolding fallsOnBy fallsBy falls isFirst written
     falls-same n after before =
         rw (picks-here n after before, day-number n)
@@ -92,7 +94,7 @@ module _ (excluded : Bool) (r : Rule) (start : ℕ) where
 
       pub given-no : fallsBy excluded (r .end) t row start (dayAt (x / 86400)) ≡ false → false ≡ gives excluded (written r) start x
       unfolding fallsOnBy
-      given-no f = not-falling x before (sym (falls-same (x / 86400) in-order before) ∙ f)
+      given-no f = not-falling excluded (written r) start x before (sym (falls-same (x / 86400) in-order before) ∙ f)
 
       pub given-yes : fallsBy excluded (r .end) t row start (dayAt (x / 86400)) ≡ true → (earlier : ℕ)
           → earlier ≡ countIn (fallsOnBy excluded (r .end) t row start) (start / 86400) (x / 86400 - start / 86400)
@@ -107,7 +109,7 @@ module _ (excluded : Bool) (r : Rule) (start : ℕ) where
 
 -- ---- the same of what the code makes: the start's day, the terms, and a row that was clear before
 
-clear-row : (n j : ℕ) → getD (replicate n false) j false ≡ false
+pub clear-row : (n j : ℕ) → getD (replicate n false) j false ≡ false
 clear-row zero j = refl
 clear-row (suc n) zero = refl
 clear-row (suc n) (suc j) = clear-row n j

@@ -1,5 +1,5 @@
 pub mod FirstLaws
-mod WalkLaws
+pub mod WalkLaws
 mod MarkLaws
 mod WeekdayLaws
 pub mod RowLaws

@@ -45,7 +45,7 @@ fn is_within(end: End, earlier: u32) -> bool
     }
 }
 
-fn falls(excluded: bool, end: End, terms: Terms, flags: &[bool], start: u64, x: Day) -> bool
+pub fn falls(excluded: bool, end: End, terms: Terms, flags: &[bool], start: u64, x: Day) -> bool
     requires { ⌜ Asked terms (length (now flags)) x × (start / 86400 < endDay) ⌝ }
     ensures { λ r. ⌜ r ≡ fallsBy excluded end terms (now (flags .entry)) start x ⌝ }
 {

@@ -1,0 +1,4 @@
+pub mod TrackLaws
+pub mod MarkLaws
+pub mod FillLaws
+pub mod SetLaws

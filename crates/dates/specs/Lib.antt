@@ -1,0 +1,4 @@
+pub mod Tracked
+pub mod Overrides
+pub mod Loaded
+pub mod Stands

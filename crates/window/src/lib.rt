@@ -1,0 +1,2 @@
+// The date-times of an event in a window, one after the other: the next one, how many there are, and whether one is among them.
+pub mod next;
