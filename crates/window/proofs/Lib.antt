@@ -1,0 +1,4 @@
+pub mod NextLaws
+pub mod OverrideLaws
+pub mod HitLaws
+pub mod RunLaws

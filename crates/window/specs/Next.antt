@@ -1,4 +1,4 @@
--- The next date-time of a run of days that is filled, and the date-times of a stretch of time, as a list and as a number.
+-- The next date-time of a run of days that is filled, and the date-times of a stretch of time, as a list.
 use Prim.Native.Nat.{ℕ, zero, suc, _+_, _-_, _*_, _/_, _%_, _<_, _≤_}
 use mathlib.Core.Bool.{Bool, true, false, _||_}
 use mathlib.Core.List.{List, [], _∷_}
@@ -9,32 +9,43 @@ use Rattle.signed.specs.Choose.{if_then_else_}
 use Rattle.matcher.specs.Walk.{firstFrom}
 use Rattle.dates.specs.Overrides.{isNamed, isKept}
 
+-- The first second from a on, and before `to`, that passes; `to` where none does.
+unfoldable pub nextOf : (ℕ → Bool) → ℕ → ℕ → ℕ
+nextOf p a to = firstFrom p (to - a) a
+
+-- ---- in the hits of a run
+
 -- x has the start's time of day and its day's hit is set.
 unfoldable pub isHit : List Bool → ℕ → ℕ → ℕ → Bool
 isHit hits first start x = if eqb (x % 86400) (start % 86400) then getD hits (x / 86400 - first) false else false
+
+-- The first day that has the start's time of day not before a second.
+unfoldable pub dayFrom : ℕ → ℕ → ℕ
+dayFrom start at = if leb (at % 86400) (start % 86400) then at / 86400 else at / 86400 + 1
+
+-- ---- among the overrides
+
+-- The nearer of two: an id from `at` on that lies before `best` and that no override excludes.
+unfoldable pub nearer : List ℕ → List Bool → ℕ → ℕ → ℕ → ℕ
+nearer ids gone at best i =
+    if ltb i at then best else if ltb i best then (if isNamed true ids gone i then best else i) else best
+
+unfoldable pub leastOf : List ℕ → List Bool → ℕ → ℕ → List ℕ → ℕ
+leastOf ids gone at best [] = best
+leastOf ids gone at best (i ∷ l) = leastOf ids gone at (nearer ids gone at best i) l
+
+-- ---- in both
 
 -- x is in the set, over the hits of a run that has its day and the overrides.
 unfoldable pub isThere : List Bool → ℕ → ℕ → List ℕ → List Bool → ℕ → Bool
 isThere hits first start ids gone x = isHit hits first start x || isKept ids gone x
 
--- The first second of n from a on that passes; the one behind them where none does.
-unfoldable pub nextOf : (ℕ → Bool) → ℕ → ℕ → ℕ
-nextOf p a to = firstFrom p (to - a) a
+unfoldable pub lower : ℕ → ℕ → ℕ
+lower a b = if ltb b a then b else a
 
--- The least of the ids from `at` on that is below `best` and that no override excludes.
-unfoldable pub leastOf : List ℕ → List Bool → ℕ → ℕ → List ℕ → ℕ
-leastOf ids gone at best [] = best
-leastOf ids gone at best (i ∷ l) =
-    let kept = if isNamed true ids gone i then best else i in
-    let near = if ltb i best then kept else best in
-    leastOf ids gone at (if ltb i at then best else near) l
-
--- All of n seconds from a on that pass, in order.
-unfoldable pub listIn : (ℕ → Bool) → ℕ → ℕ → List ℕ
-listIn p a zero = []
-listIn p a (suc n) =
-    let later = listIn p (suc a) n in
-    if p a then a ∷ later else later
+-- What was next stays next until it is passed; then it is looked for again.
+unfoldable pub renewed : List ℕ → List Bool → ℕ → ℕ → ℕ → ℕ
+renewed ids gone pending at to = let again = nextOf (isKept ids gone) at to in if ltb pending at then again else pending
 
 -- A stretch of seconds from `at` to `to` lies in the days of a run.
 pub record Stretch (first n at to : ℕ) : Type 0 where

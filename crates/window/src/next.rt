@@ -5,7 +5,7 @@ ghost use Prim.Native.Nat.{_+_, _-_, _≤_};
 ghost use lib.ListN.{length, getD};
 ghost use Rattle.matcher.specs.Walk.{firstFrom};
 ghost use Rattle.dates.specs.Overrides.{isNamed, isKept};
-ghost use Rattle.window.specs.Next.{isHit, isThere, nextOf, Stretch};
+ghost use Rattle.window.specs.Next.{nextOf, isHit, dayFrom, nearer, leastOf, lower, renewed, Stretch};
 
 // Whether an override names x: any, or one that is excluded.
 pub fn is_named(only: bool, ids: &[u64], gone: &[bool], x: u64) -> bool
@@ -14,14 +14,31 @@ pub fn is_named(only: bool, ids: &[u64], gone: &[bool], x: u64) -> bool
 {
     let mut i = 0;
     while i < ids.len() {
-        if ids[i] == x {
-            if dates::marks::count_it(only, gone[i]) {
+        let here = i;
+        i += 1;
+        if dates::marks::count_it(only, gone[here]) {
+            if ids[here] == x {
                 return true;
             }
         }
-        i += 1;
     }
     false
+}
+
+fn nearer_of(ids: &[u64], gone: &[bool], at: u64, best: u64, id: u64) -> u64
+    requires { ⌜ length (now ids) ≡ length (now gone) ⌝ }
+    ensures { λ r. ⌜ r ≡ nearer (now (ids .entry)) (now (gone .entry)) at best id ⌝ }
+{
+    if id < at {
+        return best;
+    }
+    if id < best {
+        if is_named(true, ids, gone, id) {
+            return best;
+        }
+        return id;
+    }
+    best
 }
 
 // The first date-time from `at` on, and before `to`, that an override names and none excludes; `to` where there is none.
@@ -32,9 +49,69 @@ pub fn next_kept(ids: &[u64], gone: &[bool], at: u64, to: u64) -> u64
     let mut best = to;
     let mut i = 0;
     while i < ids.len() {
-        let id = ids[i];
-        best = nearer(ids, gone, at, best, id);
+        best = nearer_of(ids, gone, at, best, ids[i]);
         i += 1;
     }
     best
+}
+
+// What was next among the overrides, looked for again only where it was passed.
+pub fn renew(ids: &[u64], gone: &[bool], pending: u64, at: u64, to: u64) -> u64
+    requires { ⌜ (length (now ids) ≡ length (now gone)) × (at ≤ to) ⌝ }
+    ensures { λ r. ⌜ r ≡ renewed (now (ids .entry)) (now (gone .entry)) pending at to ⌝ }
+{
+    if pending < at {
+        return next_kept(ids, gone, at, to);
+    }
+    pending
+}
+
+fn next_true(hits: &[bool], from: usize) -> usize
+    requires { ⌜ from ≤ length (now hits) ⌝ }
+    ensures { λ r. ⌜ r ≡ firstFrom (λ i. getD (now (hits .entry)) i false) (length (now (hits .entry)) - from) from ⌝ }
+{
+    let mut i = from;
+    while i < hits.len() {
+        if hits[i] {
+            return i;
+        }
+        i += 1;
+    }
+    i
+}
+
+fn day_from(start: u64, at: u64) -> u64
+    ensures { λ r. ⌜ r ≡ dayFrom start at ⌝ }
+{
+    if at % 86400 <= start % 86400 {
+        return at / 86400;
+    }
+    at / 86400 + 1
+}
+
+// The first date-time from `at` on, and before `to`, whose hit is set; `to` where there is none.
+pub fn next_hit(hits: &[bool], first: u32, start: u64, at: u64, to: u64) -> u64
+    requires { ⌜ Stretch first (length (now hits)) at to ⌝ }
+    ensures { λ r. ⌜ r ≡ nextOf (isHit (now (hits .entry)) first start) at to ⌝ }
+{
+    let day = day_from(start, at);
+    let from = day - first as u64;
+    let i = next_true(hits, from as usize);
+    let x = 86400 * (first as u64 + i as u64) + start % 86400;
+    if x < to {
+        return x;
+    }
+    to
+}
+
+// The first date-time of the set from `at` on, and before `to`; `pending` is what comes next among the overrides.
+pub fn next_in(hits: &[bool], first: u32, start: u64, pending: u64, at: u64, to: u64) -> u64
+    requires { ⌜ Stretch first (length (now hits)) at to ⌝ }
+    ensures { λ r. ⌜ r ≡ lower (nextOf (isHit (now (hits .entry)) first start) at to) pending ⌝ }
+{
+    let hit = next_hit(hits, first, start, at, to);
+    if pending < hit {
+        return pending;
+    }
+    hit
 }
