@@ -1,0 +1,1 @@
+// The records of an event's occurrences, written one behind the other.
