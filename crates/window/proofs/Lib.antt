@@ -2,3 +2,4 @@ pub mod NextLaws
 pub mod OverrideLaws
 pub mod HitLaws
 pub mod RunLaws
+pub mod ChunkLaws

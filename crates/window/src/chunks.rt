@@ -35,7 +35,15 @@ pub fn chunk_end(at: u64, to: u64, k: usize) -> u64
 }
 
 // How many date-times of the set a run that is filled has from `at` on and before `to`.
-pub fn count_run(hits: &[bool], first: u32, start: u64, ids: &[u64], gone: &[bool], at: u64, to: u64) -> u64
+pub fn count_run(
+    hits: &[bool],
+    first: u32,
+    start: u64,
+    ids: &[u64],
+    gone: &[bool],
+    at: u64,
+    to: u64,
+) -> u64
     requires { ⌜ Stretch first (length (now hits)) at to × (length (now ids) ≡ length (now gone)) ⌝ }
     ensures { λ r. ⌜ r ≡ countIn (isThere (now (hits .entry)) first start (now (ids .entry)) (now (gone .entry))) at (to - at) ⌝ }
 {
@@ -55,7 +63,15 @@ pub fn count_run(hits: &[bool], first: u32, start: u64, ids: &[u64], gone: &[boo
 }
 
 // The first date-time of the set that a run that is filled has from `at` on and before `to`; `to` where there is none.
-pub fn next_run(hits: &[bool], first: u32, start: u64, ids: &[u64], gone: &[bool], at: u64, to: u64) -> u64
+pub fn next_run(
+    hits: &[bool],
+    first: u32,
+    start: u64,
+    ids: &[u64],
+    gone: &[bool],
+    at: u64,
+    to: u64,
+) -> u64
     requires { ⌜ Stretch first (length (now hits)) at to × (length (now ids) ≡ length (now gone)) ⌝ }
     ensures { λ r. ⌜ r ≡ nextOf (isThere (now (hits .entry)) first start (now (ids .entry)) (now (gone .entry))) at to ⌝ }
 {

@@ -26,7 +26,17 @@ fn count_chunk(
     ensures { λ r. ⌜ r ≡ countIn (isIn (loaded start rules (now (rulerows .entry)) excluded (now (excludedrows .entry)) (now (ids .entry)) (now (gone .entry)))) at (to - at) ⌝ }
 {
     let first = (at / 86400) as u32;
-    dates::fill::fill(start, rules, rulerows, excluded, excludedrows, ids, gone, hits, first);
+    dates::fill::fill(
+        start,
+        rules,
+        rulerows,
+        excluded,
+        excludedrows,
+        ids,
+        gone,
+        hits,
+        first,
+    );
     super::chunks::count_run(hits, first, start, ids, gone, at, to)
 }
 
@@ -47,7 +57,17 @@ fn next_chunk(
     ensures { λ r. ⌜ r ≡ nextOf (isIn (loaded start rules (now (rulerows .entry)) excluded (now (excludedrows .entry)) (now (ids .entry)) (now (gone .entry)))) at to ⌝ }
 {
     let first = (at / 86400) as u32;
-    dates::fill::fill(start, rules, rulerows, excluded, excludedrows, ids, gone, hits, first);
+    dates::fill::fill(
+        start,
+        rules,
+        rulerows,
+        excluded,
+        excludedrows,
+        ids,
+        gone,
+        hits,
+        first,
+    );
     super::chunks::next_run(hits, first, start, ids, gone, at, to)
 }
 
@@ -73,7 +93,18 @@ pub fn count_ids(
     while at < to {
         let k = super::chunks::chunk_days(at, hits.len());
         let end = super::chunks::chunk_end(at, to, k);
-        let more = count_chunk(start, rules, rulerows, excluded, excludedrows, ids, gone, &mut hits[..k], at, end);
+        let more = count_chunk(
+            start,
+            rules,
+            rulerows,
+            excluded,
+            excludedrows,
+            ids,
+            gone,
+            &mut hits[..k],
+            at,
+            end,
+        );
         found += more;
         at = end;
     }
@@ -101,7 +132,18 @@ pub fn next_id(
     while at < to {
         let k = super::chunks::chunk_days(at, hits.len());
         let end = super::chunks::chunk_end(at, to, k);
-        let x = next_chunk(start, rules, rulerows, excluded, excludedrows, ids, gone, &mut hits[..k], at, end);
+        let x = next_chunk(
+            start,
+            rules,
+            rulerows,
+            excluded,
+            excludedrows,
+            ids,
+            gone,
+            &mut hits[..k],
+            at,
+            end,
+        );
         if x < end {
             return x;
         }

@@ -1,26 +1,21 @@
+-- `window::chunks::chunk_end` meets its contract.
 use Rattle.window.specs.Chunks.{chunkEnd}
 use Rattle.window.specs.Next.{lower}
 use borrow.Author.Tests.{le-ltb, lt-ltb}
 use borrow.Author.Needs.{needs}
 use Rattle.window.proofs.chunks.chunk_end.Statement.{statement}
 use Rattle.window.proofs.chunks.chunk_end.Tie as tie
-use Rattle.window.proofs.chunks.chunk_end.Reads as reads
-use Rattle.window.proofs.chunks.chunk_end.Lts as lts
 
--- src/chunks.rt:30:24
 add-end : tie.Need-add-end
 add-end c = search needs
 
--- src/chunks.rt:30:15
 mul-end : tie.Need-mul-end
 mul-end c = search needs
 
--- src/chunks.rt:32:9
 returns : tie.Need-returns
 unfolding chunkEnd lower
 returns c = rw (lt-ltb _ _ (c .if1 .taken))
 
--- src/chunks.rt:26:1
 returns-2 : tie.Need-returns-2
 unfolding chunkEnd lower
 returns-2 c = rw (le-ltb _ _ (c .if1 .left))

@@ -2,7 +2,6 @@
 use Rattle.window.proofs.RunLaws.{there-next}
 use mathlib.Core.Path.{sym, _∙_}
 use borrow.Author.Needs.{needs}
-use borrow.Author.Needs.{needs}
 use Rattle.window.proofs.chunks.next_run.Statement.{statement}
 use Rattle.window.proofs.chunks.next_run.Tie as tie
 

@@ -1,21 +1,17 @@
+-- `window::next::day_from` meets its contract.
 use Rattle.window.specs.Next.{dayFrom}
 use borrow.Author.Tests.{le-leb, lt-leb}
 use borrow.Author.Needs.{needs}
 use Rattle.window.proofs.next.day_from.Statement.{statement}
 use Rattle.window.proofs.next.day_from.Tie as tie
-use Rattle.window.proofs.next.day_from.Reads as reads
-use Rattle.window.proofs.next.day_from.Lts as lts
 
--- src/next.rt:87:9
 returns : tie.Need-returns
 unfolding dayFrom
 returns c = rw (le-leb _ _ (c .if1 .taken))
 
--- src/next.rt:89:5
 add-result : tie.Need-add-result
 add-result c = search needs
 
--- src/next.rt:83:1
 returns-2 : tie.Need-returns-2
 unfolding dayFrom
 returns-2 c = rw (lt-leb _ _ (c .if1 .left))

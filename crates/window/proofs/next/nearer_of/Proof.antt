@@ -1,3 +1,4 @@
+-- `window::next::nearer_of` meets its contract.
 use Rattle.recurrence.specs.Event.{inSet}
 use Rattle.recurrence.specs.Ids.{candidates, ids, inWindow}
 use Rattle.window.specs.Next.{nearer}
@@ -5,43 +6,41 @@ use borrow.Author.Tests.{le-ltb, lt-ltb}
 use borrow.Author.Needs.{needs}
 use Rattle.window.proofs.next.nearer_of.Statement.{statement}
 use Rattle.window.proofs.next.nearer_of.Tie as tie
-use Rattle.window.proofs.next.nearer_of.Reads as reads
-use Rattle.window.proofs.next.nearer_of.Lts as lts
-use Rattle.window.proofs.next.is_named.Reads as is-named-reads
 
--- src/next.rt:33:9
 returns : tie.Need-returns
 unfolding candidates ids inSet inWindow nearer
 returns c = rw (lt-ltb _ _ (c .if1 .taken))
 
--- src/next.rt:36:12
 is-named-requires : tie.Need-is-named-requires
 is-named-requires c κs = search needs
 
--- src/next.rt:37:13
 returns-2 : tie.Need-returns-2
 unfolding candidates ids inSet inWindow nearer
 returns-2 c =
-    rw (le-ltb _ _ (c .before .before .before .if1 .left),
+    rw (
+      le-ltb _ _ (c .before .before .before .if1 .left),
       lt-ltb _ _ (c .before .before .if2 .taken),
       ← (c .before .is-named .ensures),
-      c .if3 .taken)
+      c .if3 .taken,
+    )
 
--- src/next.rt:39:9
 returns-3 : tie.Need-returns-3
 unfolding candidates ids inSet inWindow nearer
 returns-3 c =
-    rw (le-ltb _ _ (c .before .before .before .if1 .left),
+    rw (
+      le-ltb _ _ (c .before .before .before .if1 .left),
       lt-ltb _ _ (c .before .before .if2 .taken),
       ← (c .before .is-named .ensures),
-      c .if3 .left)
+      c .if3 .left,
+    )
 
--- src/next.rt:28:1
 returns-4 : tie.Need-returns-4
 unfolding candidates ids inSet inWindow nearer
 returns-4 c =
-    rw (le-ltb _ _ (c .before .if1 .left),
-      le-ltb _ _ (c .if2 .left))
+    rw (
+      le-ltb _ _ (c .before .if1 .left),
+      le-ltb _ _ (c .if2 .left),
+    )
 
 pub nearer-of-spec : {M : Type 1} → statement M
 nearer-of-spec = tie.close (tie.spec returns is-named-requires returns-2 returns-3 returns-4)

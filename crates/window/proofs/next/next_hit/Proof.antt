@@ -4,7 +4,6 @@ use lib.ListN.{length}
 use native.Mathlib.Omega.{arith}
 use mathlib.Core.Path.{_≡_, refl}
 use borrow.Author.Needs.{needs}
-use borrow.Author.Needs.{needs}
 use Rattle.window.proofs.next.next_hit.Statement.{statement}
 use Rattle.window.proofs.next.next_hit.Tie as tie
 

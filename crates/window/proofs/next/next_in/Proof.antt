@@ -1,29 +1,28 @@
+-- `window::next::next_in` meets its contract.
 use Rattle.window.specs.Next.{isHit, lower, nextOf}
 use borrow.Author.Tests.{le-ltb, lt-ltb}
 use borrow.Author.Needs.{needs}
 use Rattle.window.proofs.next.next_in.Statement.{statement}
 use Rattle.window.proofs.next.next_in.Tie as tie
-use Rattle.window.proofs.next.next_in.Reads as reads
-use Rattle.window.proofs.next.next_in.Lts as lts
-use Rattle.window.proofs.next.next_hit.Reads as next-hit-reads
 
--- src/next.rt:112:9
 next-hit-requires : tie.Need-next-hit-requires
 next-hit-requires c κs = search needs
 
--- src/next.rt:114:9
 returns : tie.Need-returns
 unfolding isHit lower nextOf
 returns c =
-    rw (← (c .before .next-hit .ensures),
-      lt-ltb _ _ (c .if1 .taken))
+    rw (
+      ← (c .before .next-hit .ensures),
+      lt-ltb _ _ (c .if1 .taken),
+    )
 
--- src/next.rt:108:1
 returns-2 : tie.Need-returns-2
 unfolding isHit lower nextOf
 returns-2 c =
-    rw (← (c .before .next-hit .ensures),
-      le-ltb _ _ (c .if1 .left))
+    rw (
+      ← (c .before .next-hit .ensures),
+      le-ltb _ _ (c .if1 .left),
+    )
 
 pub next-in-spec : {M : Type 1} → statement M
 next-in-spec = tie.close (tie.spec next-hit-requires returns returns-2)

@@ -1,3 +1,4 @@
+-- `window::next::renew` meets its contract.
 use Rattle.recurrence.specs.Event.{inSet}
 use Rattle.recurrence.specs.Ids.{candidates, ids, inWindow}
 use Rattle.window.specs.Next.{renewed}
@@ -5,22 +6,18 @@ use borrow.Author.Tests.{le-ltb, lt-ltb}
 use borrow.Author.Needs.{needs}
 use Rattle.window.proofs.next.renew.Statement.{statement}
 use Rattle.window.proofs.next.renew.Tie as tie
-use Rattle.window.proofs.next.renew.Reads as reads
-use Rattle.window.proofs.next.renew.Lts as lts
-use Rattle.window.proofs.next.next_kept.Reads as next-kept-reads
 
--- src/next.rt:64:9
 next-kept-requires : tie.Need-next-kept-requires
 next-kept-requires c κs = search needs
 
--- src/next.rt:64:9
 returns : tie.Need-returns
 unfolding candidates ids inSet inWindow renewed
 returns c =
-    rw (lt-ltb _ _ (c .before .if1 .taken),
-      ← (c .next-kept .ensures))
+    rw (
+      lt-ltb _ _ (c .before .if1 .taken),
+      ← (c .next-kept .ensures),
+    )
 
--- src/next.rt:59:1
 returns-2 : tie.Need-returns-2
 unfolding candidates ids inSet inWindow renewed
 returns-2 c = rw (le-ltb _ _ (c .if1 .left))
