@@ -1,0 +1,4 @@
+pub mod Ends
+pub mod Fields
+pub mod Shapes
+pub mod Words
