@@ -33,3 +33,9 @@ pub enum Passage {
     At(usize),
     Fault(u32),
 }
+
+// The place of a value that may be absent; of a string it is that of the opening quote.
+pub enum Place {
+    None,
+    At(usize),
+}
