@@ -1,6 +1,8 @@
 // `recurrenceOverrides`, read at the place where it stands in a text that is known to be JSON. The text is the store: a patch is its place.
+pub mod entries;
 pub mod names;
 pub mod patched;
+pub mod patches;
 mod readings;
 
 // The event's own details, which a patch changes. Date-times are seconds from 1600-01-01T00:00:00; a text is the place of its opening quote.
