@@ -4,10 +4,11 @@ use mathlib.Core.Bool.{Bool, true, false}
 use mathlib.Core.List.{List, [], _∷_}
 use mathlib.Core.Path.{_≡_, refl, sym, ap, _∙_, subst}
 use native.Mathlib.Omega.{arith}
-use lib.Dec.{ltb}
+use lib.Dec.{eqb, ltb}
 use lib.ListN.{length}
 use Rattle.signed.specs.Choose.{if_then_else_}
 use Rattle.fault.specs.Fault.{lower}
+use Rattle.json_text.specs.Bytes.{byte}
 use Rattle.json_text.specs.Strings.{stringAt}
 use Rattle.json_text.specs.declared.Read.{Read}
 use Rattle.json_text.specs.declared.Read.the-variants.{To, Bad, Deep}
@@ -20,15 +21,16 @@ use Rattle.json_walk.specs.declared.Member.{Member}
 use Rattle.json_walk.specs.declared.MemberStep.{MemberStep}
 use Rattle.json_walk.specs.declared.MemberStep.the-variants.{One, End}
 use Rattle.json_walk.proofs.Walks.{members-end, members-none}
-use Rattle.json_tree.specs.Tree.{Json, fieldsOf, treeAt, endOf}
+use Rattle.json_tree.specs.Tree.{Fields, fieldsOf, treeAt, endOf}
 use Rattle.event.specs.Types.{Details, Override}
-use Rattle.event.specs.Reading.{Reading, limited, atMost}
+use Rattle.event.specs.Reading.{Reading, wrong, limited, atMost}
 use Rattle.event.specs.Properties.{dateTime}
-use Rattle.event.specs.Overrides.{overrideOf, overridesIn}
+use Rattle.event.specs.Overrides.{overrideOf, overridesIn, readOverrides}
 use Rattle.property.specs.Words.{wordAt}
 use Rattle.override_text.specs.Patched.{patchAt}
 use Rattle.override_text.specs.Entries.{entriesIn}
 use Rattle.override_text.specs.Names.{lowest}
+use Rattle.override_text.proofs.PatchLaws.{at-object, at-other}
 use Rattle.override_text.proofs.WalkLaws.{members-next, Left, left-start, left-next, left-end, left-out}
 
 -- ---- one override
@@ -158,3 +160,14 @@ module _ (own : Details) (s : List ℕ) (at : ℕ) where
         let none : length (membersFrom n s step) ≡ 0 = ap length (members-none n h s step) in
         entries-fault l own s (membersOf s at) found (length s) r (left-out (ofEntry l own s) s at found step n (w .faults l) h)
         (omega (arith, none, w .counted)) g
+
+-- ---- the value as a whole
+
+module _ (own : Details) (s : List ℕ) (at : ℕ) where
+  pub overrides-yes : eqb (byte s at) 0x7B ≡ true → (l : ℕ) → limited 256 (entriesIn l own s (membersOf s at)) ≡ readOverrides own (treeAt (suc (suc l)) s at)
+  unfolding readOverrides entriesIn
+  overrides-yes e l = at-object s at [] (λ (fields : Fields). limited 256 (overridesIn own fields)) e (suc l)
+
+  pub overrides-no : eqb (byte s at) 0x7B ≡ false → (l : ℕ) → wrong [] 6 ≡ readOverrides own (treeAt (suc (suc l)) s at)
+  unfolding readOverrides
+  overrides-no e l = at-other s at [] (λ (fields : Fields). limited 256 (overridesIn own fields)) e (suc l)

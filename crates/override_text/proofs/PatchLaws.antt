@@ -97,6 +97,24 @@ module _ (own : Details) (id : ℕ) (fields : Fields) (start : Reading ℕ) (len
   patch-joined a b c d e f g h k =
       λ i. joined id (a i) (b i) (c i) (d i) (e i) (f i) (g i) (lower (if g i .value && not (h i) then 7 else 0) (k i))
 
+  -- the same, with the fault as it was joined
+  pub patch-made : start ≡ patchedStart id (member (ascii "start") fields)
+      → length ≡ patched (own .length) noLength readLength (member (ascii "duration") fields)
+      → busy ≡ patched (own .busy) true readBusy (member (ascii "freeBusyStatus") fields)
+      → allDay ≡ patched (own .allDay) false readBoolean (member (ascii "showWithoutTime") fields)
+      → title ≡ patched (own .title) none readText (member (ascii "title") fields)
+      → description ≡ patched (own .description) none readText (member (ascii "description") fields)
+      → excluded ≡ patched false false readBoolean (member (ascii "excluded") fields)
+      → single ≡ alone fields
+      → names ≡ nameFaults fields
+      → (beside rest fault : ℕ) → beside ≡ (if excluded .value && not single then 7 else 0) → rest ≡ lower beside names
+      → fault ≡ joined id start length busy allDay title description excluded rest .fault
+      → record { value = joined id start length busy allDay title description excluded rest .value; fault = fault } ≡ patchIn own id fields
+  patch-made a b c d e f g h k beside rest fault x y z =
+      (λ i. record { value = joined id start length busy allDay title description excluded rest .value; fault = z i })
+      ∙ ap (λ (n : ℕ). joined id start length busy allDay title description excluded n) (y ∙ ap (λ (n : ℕ). lower n names) x)
+      ∙ patch-joined a b c d e f g h k
+
 -- ---- is it an object?
 
 object-no : (s : List ℕ) (at : ℕ) → eqb (byte s at) 0x7B ≡ false → (l : ℕ) → object (treeAt l s at) ≡ none
@@ -115,3 +133,10 @@ module _ (s : List ℕ) (at : ℕ) where
       → wrong b 6 ≡ orWrong b f (object (treeAt (suc l) s at))
   unfolding orWrong
   at-other b f e l = sym (ap (orWrong b f) (object-no s at e (suc l)))
+
+  pub patch-yes : (own : Details) (id : ℕ) → eqb (byte s at) 0x7B ≡ true → (l : ℕ) → patchIn own id (patchFields l s at) ≡ patchAt l own id s at
+  patch-yes own id e l = at-object _ (patchIn own id) e l
+
+  pub patch-no : (own : Details) (id : ℕ) → eqb (byte s at) 0x7B ≡ false → (l : ℕ)
+      → wrong (record { id = id; excluded = false; details = own }) 6 ≡ patchAt l own id s at
+  patch-no own id e l = at-other _ (patchIn own id) e l

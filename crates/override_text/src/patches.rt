@@ -20,7 +20,16 @@ use fault::lower;
 use json_text::bytes::byte;
 
 // The lowest of the faults of a patch.
-fn join(start: u32, length: u32, busy: u32, allday: u32, title: u32, description: u32, excluded: u32, rest: u32) -> u32
+fn join(
+    start: u32,
+    length: u32,
+    busy: u32,
+    allday: u32,
+    title: u32,
+    description: u32,
+    excluded: u32,
+    rest: u32,
+) -> u32
     ensures { λ r. ⌜ r ≡ Fault·lower start (Fault·lower length (Fault·lower busy (Fault·lower allday (Fault·lower title (Fault·lower description (Fault·lower excluded rest)))))) ⌝ }
 {
     let texts = lower(title, lower(description, lower(excluded, rest)));
@@ -53,7 +62,10 @@ fn patch_in(text: &[u8], at: usize, own: Own, id: u64) -> Patch
     let title = passage(text, at, b"title", shown);
     let description = passage(text, at, b"description", told);
     let excluded = flag(text, at, b"excluded", false);
-    let rest = lower(excluded_fault(excluded.value, alone(text, at)), names_fault(text, at));
+    let rest = lower(
+        excluded_fault(excluded.value, alone(text, at)),
+        names_fault(text, at),
+    );
     let fault = join(
         when.fault,
         lasting.fault,
