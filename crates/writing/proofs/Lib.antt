@@ -1,1 +1,2 @@
 pub mod ThoseLaws
+pub mod DetailsLaws

@@ -1,1 +1,2 @@
 pub mod Those
+pub mod Details

@@ -1,1 +1,2 @@
 // The records of an event's occurrences, written one behind the other.
+pub mod times;
