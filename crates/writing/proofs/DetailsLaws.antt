@@ -7,7 +7,11 @@ use native.Mathlib.Numerals.{add-one}
 use native.Mathlib.Omega.{arith}
 use lib.Dec.{eqb}
 use lib.ListN.{length, getD, drop, drop-of-length-le}
-use lib.Seq.{drop-cons}
+use lib.IntN.{ℤ}
+use lib.Seq.{drop-cons, sets}
+use mir.Syntax.{w64}
+use mir.Val.{SFits, toZ, ofZ}
+use mir.Facts.{toZ-ofZ}
 use borrow.Author.Tests.{eq-eqb, ne-eqb}
 use Rattle.event.specs.Types.{Details, Override}
 use Rattle.event.specs.Reading.{Reading}
@@ -16,8 +20,8 @@ use Rattle.override_text.specs.declared.Patch.{Patch}
 use Rattle.override_text.specs.Meaning.{overrideIn}
 use Rattle.override_text.specs.Patched.{patchAt}
 use Rattle.record.specs.declared.Times.{Times}
-use Rattle.record.specs.Occurrences.{Small}
-use Rattle.writing.specs.Details.{patchDetails, detailsBy, timesFrom, timesIn, patchTimes}
+use Rattle.record.specs.Occurrences.{occurrenceRow}
+use Rattle.writing.specs.Details.{patchDetails, detailsBy, timesFrom, timesIn, patchTimes, rowBy}
 
 -- ---- a patch that was read
 
@@ -61,3 +65,10 @@ module _ (s : List ℕ) (own : Details) (ids places : List ℕ) (even : length i
       let empty : drop i ids ≡ [] = drop-of-length-le ids h in
       let own-times : detailsBy s own (drop i ids) (drop i places) x ≡ withStart own x = rw empty refl in
       ap timesIn (sym own-times ∙ seen .1)
+
+-- ---- the record: t the times that were found, the initial offset passed by its bits
+
+module _ (fl : Bool) (b : ℤ) (ts ns : List ℤ) (f : SFits w64 b) (x : ℕ) (details : ℕ → Details) (t : Times) (is : t ≡ timesIn (details x)) (at : ℕ) (before after : List ℕ) where
+  pub put-row : after ≡ sets before at (occurrenceRow fl (toZ w64 (ofZ w64 b)) ts ns x t) → after ≡ sets before at (rowBy fl b ts ns details x)
+  unfolding rowBy
+  put-row e = (rw (toZ-ofZ f) at e) ∙ ap (λ (u : Times). sets before at (occurrenceRow fl b ts ns x u)) is

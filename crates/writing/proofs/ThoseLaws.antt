@@ -129,11 +129,13 @@ those-among p a (suc n) x =
         none : (b : Bool) → false ≡ (b && false)
         none true = refl
         none false = refl
+
     moved : (a ≡ x → ⊥) → (inside (suc a) n x && p x) ≡ ((leb a x && ltb x (a + suc n)) && p x)
     moved differ =
         let s : suc a + n ≡ a + suc n = omega arith in
         let t : leb (suc a) x ≡ leb a x = by (leb a x) (λ e. le-leb (suc a) x (omega (arith, leb-true a x e, differ)) ∙ sym e) (λ e. lt-leb (suc a) x (omega (arith, leb-false a x e)) ∙ sym e) in
         rw (s, t)
+
     other : (b : Bool) → eqb a x ≡ false → (a ≡ x → ⊥) → among x (those p (suc a) n) ≡ (inside (suc a) n x && p x)
         → any (λ (y : ℕ). eqb y x) (if b then a ∷ those p (suc a) n else those p (suc a) n) ≡ ((leb a x && ltb x (a + suc n)) && p x)
     other true e differ later = rw e (later ∙ moved differ)

@@ -1,38 +1,33 @@
-use Rattle.event.specs.Overrides.{patchIn}
-use Rattle.event.specs.Reading.{orWrong}
-use Rattle.json_text.specs.Strings.{stringAt}
-use Rattle.json_value.specs.Values.{arrayOf, objectOf}
-use Rattle.json_walk.specs.Strings.{rawAt}
-use Rattle.property.specs.Words.{wordAt}
-use Rattle.recurrence.specs.Event.{inSet}
-use Rattle.recurrence.specs.Ids.{candidates, ids, inWindow}
-use Rattle.table.specs.Occurrence.{withStart}
+-- `writing::times::put_at` meets its contract.
+use mathlib.Core.Path.{sym, subst}
+use mir.Facts.{toZ-ofZ}
+use Rattle.record.specs.Occurrences.{Small}
+use Rattle.override_text.specs.Meaning.{detailsIn}
 use Rattle.writing.specs.Details.{detailsBy, rowBy}
+use Rattle.writing.proofs.DetailsLaws.{put-row}
 use borrow.Author.Needs.{needs}
 use Rattle.writing.proofs.times.put_at.Statement.{statement}
 use Rattle.writing.proofs.times.put_at.Tie as tie
-use Rattle.writing.proofs.times.put_at.Reads as reads
-use Rattle.writing.proofs.times.put_at.Lts as lts
-use Rattle.record.proofs.occurrences.put_occurrence.Reads as put-occurrence-reads
-use Rattle.writing.proofs.times.times_at.Reads as times-at-reads
 
--- src/times.rt:72:9
 times-at-requires : tie.Need-times-at-requires
 times-at-requires c κs = search needs
 
--- src/times.rt:73:5
 put-occurrence-requires : tie.Need-put-occurrence-requires
-put-occurrence-requires c κs = ?
+put-occurrence-requires c κs =
+    let t = c .before .times-at in
+    let p = c .before .before .before .before .before .before in
+    (p .pre .0, (rw (toZ-ofZ (p .fits .initial)) (p .pre .1 .1 .0), subst (Small _) (sym (t .ensures)) (p .pre .1 .1 .1)))
 
--- src/times.rt:54:1
 same-length : tie.Need-same-length
 same-length c = search needs
 
--- src/times.rt:54:1
 returns : tie.Need-returns
-unfolding arrayOf candidates detailsBy ids inSet inWindow objectOf orWrong patchIn rawAt rowBy stringAt withStart wordAt
+unfolding rowBy
 returns c =
-    rw (← (c .before .before .before .before .times-at .ensures))
+    let t = c .before .before .before .before .times-at in
+    let p = c .before .before .before .before .before .before .before .before .before in
+    put-row (p .args .floating) _ (p .args .instants .now) (p .args .offsets .now) (p .fits .initial) _
+    (detailsBy (p .args .text .now) (detailsIn (p .args .text .now) (p .args .own)) (p .args .ids .now) (p .args .places .now)) _ (t .ensures) _ _ _ (c .before .before .put-occurrence .ensures)
 
 pub put-at-spec : {M : Type 1} → statement M
 put-at-spec = tie.close (tie.spec times-at-requires put-occurrence-requires same-length returns)
