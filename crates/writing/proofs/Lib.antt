@@ -1,2 +1,3 @@
 pub mod ThoseLaws
 pub mod DetailsLaws
+pub mod WriteLaws

@@ -1,2 +1,3 @@
 pub mod Those
 pub mod Details
+pub mod Runs

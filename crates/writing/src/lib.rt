@@ -1,2 +1,3 @@
 // The records of an event's occurrences, written one behind the other.
+pub mod runs;
 pub mod times;
