@@ -5,20 +5,20 @@ use mathlib.Core.List.{List, [], _∷_}
 use mathlib.Core.Path.{_≡_, refl, sym, ap, _∙_, subst}
 use native.Mathlib.Omega.{arith}
 use lib.Dec.{eqb}
-use lib.ListN.{replicate}
 use borrow.Author.Tests.{eq-eqb, eqb-true}
 use Rattle.signed.specs.Choose.{if_then_else_}
 use Rattle.rule.specs.Gives.{onDay}
 use Rattle.rule.proofs.Bools.{same-tests}
 use Rattle.track.specs.Runs.{marked, run}
+use Rattle.track.specs.Settle.{cleared}
 use Rattle.track.proofs.RunLaws.{marked-run, run-same}
 use Rattle.dates.specs.Tracked.{someHas, markEach}
 use Rattle.dates.specs.Overrides.{isNamed, isDate, namesDay}
 use Rattle.dates.specs.Loaded.{Loaded, byRules, isIn, isOn}
 use Rattle.dates.proofs.TrackLaws.{each-run}
 
-clear-run : (d n : ℕ) → replicate n false ≡ run (λ e. false) d n
-unfolding run
+clear-run : (d n : ℕ) → cleared n ≡ run (λ e. false) d n
+unfolding run cleared
 clear-run d zero = refl
 clear-run d (suc n) = ap (λ (l : List Bool). false ∷ l) (clear-run (suc d) n)
 
@@ -64,7 +64,7 @@ module _ (l : Loaded) where
       rw (same-start d, day, eq-eqb (onDay (l .start) d % 86400) (l .start % 86400) time, if-same (someHas (l .rules) (l .ruleFlags) (l .start / 86400) d))
 
   module _ (first n : ℕ) (a b c d e f : List Bool) where
-    pub filled : a ≡ replicate n false
+    pub filled : a ≡ cleared n
         → b ≡ markEach (l .rules) (l .ruleFlags) true first (l .start / 86400) a
         → c ≡ marked (isDate true (l .start) (l .start)) true first b
         → d ≡ markEach (l .excluded) (l .excludedFlags) false first (l .start / 86400) c

@@ -12,6 +12,7 @@ use borrow.Author.Tests.{eq-eqb, ne-eqb}
 use Rattle.signed.specs.Choose.{if_then_else_}
 use Rattle.rule.specs.Gives.{onDay}
 use Rattle.track.specs.Runs.{marked, run}
+use Rattle.track.specs.Settle.{cleared}
 use Rattle.track.proofs.RunLaws.{marked-length, marked-or, marked-same, marked-none, marked-one}
 use Rattle.dates.specs.Overrides.{counts, isNamed, isDate, namesDay}
 
@@ -39,7 +40,8 @@ module _ (before hits : List Bool) where
         clear = take-suc-set hits i false more ∙ (ap (λ (l : List Bool). l ++ (false ∷ [])) (a .clear) ∙ replicate-snoc i);
       })
 
-  pub clear-ends : (i : ℕ) → ClearAt before hits i → length hits ≤ i → hits ≡ replicate (length before) false
+  pub clear-ends : (i : ℕ) → ClearAt before hits i → length hits ≤ i → hits ≡ cleared (length before)
+  unfolding cleared
   clear-ends i a over =
       let all : i ≡ length before = omega (arith, a .within, a .size) in
       sym (take-all i hits over) ∙ (a .clear ∙ ap (λ (n : ℕ). replicate n false) all)

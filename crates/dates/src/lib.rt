@@ -2,6 +2,7 @@
 use track::Track;
 
 pub mod fill;
+pub mod load;
 pub mod marks;
 
 // Up to eight settled rules; the row of flags of rule i is the i-th row of a lent slice.

@@ -1,9 +1,9 @@
 // Marking a run of days: hit i stands for day first + i at the start's time of day.
-ghost use mathlib.Core.Bool.{false};
 ghost use mathlib.Core.Path.{_≡_};
 ghost use Prim.Native.Nat.{_≤_};
-ghost use lib.ListN.{length, replicate};
+ghost use lib.ListN.{length};
 ghost use Rattle.track.specs.Runs.{marked};
+ghost use Rattle.track.specs.Settle.{cleared};
 ghost use Rattle.dates.specs.Tracked.{markEach, tracksOf, Tracked, Run};
 ghost use Rattle.dates.specs.Overrides.{counts, isDate, namesDay};
 use super::Tracks;
@@ -32,7 +32,7 @@ pub fn mark_tracks(
 }
 
 pub fn clear(hits: &mut [bool])
-    ensures { λ r. ⌜ now (hits .exit) ≡ replicate (length (now (hits .entry))) false ⌝ }
+    ensures { λ r. ⌜ now (hits .exit) ≡ cleared (length (now (hits .entry))) ⌝ }
 {
     let mut i = 0;
     while i < hits.len() {

@@ -13,7 +13,7 @@ use rule::End;
 use rule::Rule;
 
 // The start's own day, which a rule has even unmatched and an excluded rule has not.
-fn is_first(excluded: bool, first: u32, day: u32) -> bool
+pub fn is_first(excluded: bool, first: u32, day: u32) -> bool
     ensures { λ r. ⌜ r ≡ isFirst excluded first day ⌝ }
 {
     if excluded {
@@ -22,7 +22,7 @@ fn is_first(excluded: bool, first: u32, day: u32) -> bool
     day == first
 }
 
-fn not_after(end: End, at: u64) -> bool
+pub fn not_after(end: End, at: u64) -> bool
     ensures { λ r. ⌜ r ≡ notAfter at (untilFrom end) ⌝ }
 {
     match end {

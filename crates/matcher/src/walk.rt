@@ -32,7 +32,7 @@ pub fn in_step(terms: Terms, x: Day) -> bool
 }
 
 // How many of the n days from the day `first` on stay.
-fn count_in(flags: &[bool], inyear: bool, first: u32, n: u32) -> u32
+pub fn count_in(flags: &[bool], inyear: bool, first: u32, n: u32) -> u32
     requires { ⌜ Row (length (now flags)) × (first + n < dayCount) ⌝ }
     ensures { λ r. ⌜ r ≡ countIn (staysOnBy (now (flags .entry)) inyear) first n ⌝ }
 {

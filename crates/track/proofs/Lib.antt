@@ -1,3 +1,4 @@
+pub mod StepLaws
 pub mod RunLaws
 pub mod LastLaws
 pub mod SettleLaws

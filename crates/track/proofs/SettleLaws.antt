@@ -27,7 +27,7 @@ use Rattle.matcher.proofs.GiveLaws.{clear-row, picks-here, falls-same}
 use Rattle.track.specs.declared.Track.{Track}
 use Rattle.track.specs.Runs.{hasDay}
 use Rattle.track.specs.Last.{untilDay, endOf, lastBy}
-use Rattle.track.specs.Settle.{SettledBy, Settled}
+use Rattle.track.specs.Settle.{cleared, SettledBy, Settled}
 use Rattle.track.proofs.LastLaws.{count-ends, until-ends}
 
 module _ (excluded : Bool) (r : Rule) (start limit : ℕ) (t : Terms) (row : List Bool) (low : 366 ≤ start / 86400)
@@ -96,13 +96,21 @@ module _ (excluded : Bool) (r : Rule) (start limit : ℕ) (t : Terms) (row : Lis
   settled-day last is =
       gives-day ∙ (ended (r .end) refl (picksOnBy t row d) ∙ rw (le-ltb d (start / 86400) after, is))
 
+cleared-size : (n : ℕ) → length (cleared n) ≡ n
+unfolding cleared
+cleared-size n = length-replicate n false
+
+cleared-flag : (n j : ℕ) → getD (cleared n) j false ≡ false
+unfolding cleared
+cleared-flag n j = clear-row n j
+
 -- what the code settles, with a row that was clear before
 pub settled : (excluded : Bool) (r : Rule) (start limit : ℕ) (row : List Bool) (t : Track) → 366 ≤ start / 86400 → limit ≤ endDay
-    → SettledBy excluded r start limit (replicate 1574 false) row t → Settled excluded start limit (written r) row t
+    → SettledBy excluded r start limit (cleared 1574) row t → Settled excluded start limit (written r) row t
 settled excluded r start limit row t low most s =
     let m : Marked (written r) (dayAt (start / 86400)) row =
     subst (Marked (written r) (dayAt (start / 86400))) (sym (s .row))
-    (row-marked (replicate 1574 false) (written r) (dayAt (start / 86400)) (length-replicate 1574 false) (clear-row 1574))
+    (row-marked (cleared 1574) (written r) (dayAt (start / 86400)) (cleared-size 1574) (cleared-flag 1574))
     in
     record {
       size = m .size;

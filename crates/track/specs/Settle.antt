@@ -3,7 +3,7 @@ use Prim.Native.Nat.{ℕ, _+_, _*_, _/_, _%_, _<_, _≤_}
 use mathlib.Core.Bool.{Bool, true, false}
 use mathlib.Core.List.{List}
 use mathlib.Core.Path.{_≡_}
-use lib.ListN.{length}
+use lib.ListN.{length, replicate}
 use Rattle.rule.specs.declared.Rule.{Rule}
 use Rattle.rule.specs.Day.{dayAt}
 use Rattle.rule.specs.Written.{RecurrenceRule}
@@ -15,6 +15,10 @@ use Rattle.matcher.specs.Member.{isFirst}
 use Rattle.track.specs.declared.Track.{Track}
 use Rattle.track.specs.Runs.{hasDay}
 use Rattle.track.specs.Last.{lastBy}
+
+-- n flags or hits, none of them set.
+unfoldable pub cleared : ℕ → List Bool
+cleared n = replicate n false
 
 pub record Settling (row start limit : ℕ) : Type 0 where
   pub row-length : row ≡ 1574

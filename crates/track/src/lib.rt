@@ -1,13 +1,22 @@
 // A rule over runs of days: the day that ends it, and its days marked in a run.
 use matcher::Terms;
+use rule::Day;
 
 pub mod last;
 pub mod runs;
 pub mod settle;
+pub mod steps;
 
 // A rule that is settled for one call: what it has besides its row of flags, and the first day that is not its own any more, which its
 // `count` and its `until` have become.
 pub struct Track {
     pub terms: Terms,
     pub last: u32,
+}
+
+// A day on the way through a rule: how many days of its period before it stay, and how many of all, where the rule has set positions.
+pub struct Cursor {
+    pub day: Day,
+    pub seen: u32,
+    pub total: u32,
 }

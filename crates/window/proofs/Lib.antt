@@ -3,3 +3,4 @@ pub mod OverrideLaws
 pub mod HitLaws
 pub mod RunLaws
 pub mod ChunkLaws
+pub mod ListLaws

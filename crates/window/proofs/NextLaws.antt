@@ -3,8 +3,8 @@ use Prim.Native.Nat.{ℕ, zero, suc, _+_, _-_, _<_, _≤_}
 use mathlib.Core.Bool.{Bool, true, false, false≢true, _||_}
 use mathlib.Core.Path.{_≡_, refl, sym, ap, _∙_, subst}
 use native.Mathlib.Omega.{arith}
-use lib.Dec.{ltb}
-use borrow.Author.Tests.{ltb-true, ltb-false}
+use lib.Dec.{eqb, ltb}
+use borrow.Author.Tests.{ltb-true, ltb-false, eqb-true, eqb-false}
 use Rattle.signed.specs.Choose.{if_then_else_}
 use Rattle.rule.specs.Lists.{countIn}
 use Rattle.rule.proofs.Bools.{by, or-left, or-right}
@@ -99,3 +99,17 @@ module _ (p : ℕ → Bool) (a to r : ℕ) (f : Next p a to r) where
 
   pub count-over : to ≤ r → countIn p a (to - a) ≡ 0
   count-over h = count-nothing p a (to - a) (λ j below above. f .none j below (omega arith))
+
+-- one second alone
+pub next-alone : (p : ℕ → Bool) (x r : ℕ) → r ≡ nextOf p x (x + 1) → eqb r x ≡ p x
+next-alone p x r is =
+    let n : Next p x (x + 1) r = subst (Next p x (x + 1)) (sym is) (next-is p x (x + 1) (omega arith)) in
+    let low = n .low in
+    let high = n .high in
+    by (eqb r x)
+    (λ e.
+    let same : r ≡ x = eqb-true r x e in
+    rw e (sym (subst (λ (k : ℕ). p k ≡ true) same (n .passes (omega arith)))))
+    (λ e.
+    let other = eqb-false r x e in
+    rw e (sym (n .none x (omega arith) (omega arith))))

@@ -1,7 +1,7 @@
 // The date-times of an event in a whole window: how many there are, the next one, and whether one is among them. The hits that are lent
 // are room for one chunk; what they hold after is left open.
 ghost use mathlib.Core.Path.{_≡_};
-ghost use Prim.Native.Nat.{_-_, _/_};
+ghost use Prim.Native.Nat.{_+_, _-_, _/_};
 ghost use lib.ListN.{length};
 ghost use Rattle.rule.specs.Lists.{countIn};
 ghost use Rattle.dates.specs.Loaded.{loaded, isIn};
@@ -150,4 +150,35 @@ pub fn next_id(
         at = end;
     }
     to
+}
+
+// Whether a date-time is in the set.
+pub fn is_id(
+    start: u64,
+    rules: Tracks,
+    rulerows: &[bool],
+    excluded: Tracks,
+    excludedrows: &[bool],
+    ids: &[u64],
+    gone: &[bool],
+    x: u64,
+) -> bool
+    requires { ⌜ Ready rules (length (now rulerows)) excluded (length (now excludedrows)) (length (now ids)) (length (now gone)) 1
+        × Window start x (x + 1) ⌝ }
+    ensures { λ r. ⌜ r ≡ isIn (loaded start rules (now (rulerows .entry)) excluded (now (excludedrows .entry)) (now (ids .entry)) (now (gone .entry))) x ⌝ }
+{
+    let mut hits = [false; 1];
+    let next = next_chunk(
+        start,
+        rules,
+        rulerows,
+        excluded,
+        excludedrows,
+        ids,
+        gone,
+        &mut hits,
+        x,
+        x + 1,
+    );
+    next == x
 }
