@@ -45,6 +45,32 @@ fn write_chunk(
         (isIn (loaded (own .start) rules (now (rulerows .entry)) excluded (now (excludedrows .entry)) (now (ids .entry)) (now (gone .entry)))) from to at (now (buf .entry)) (now (buf .exit)) r ⌝ }
 {
     let first = (from / 86400) as u32;
-    fill(own.start, rules, rulerows, excluded, excludedrows, ids, gone, hits, first);
-    write_run(buf, at, text, own, ids, gone, places, floating, initial, instants, offsets, hits, first, from, to)
+    fill(
+        own.start,
+        rules,
+        rulerows,
+        excluded,
+        excludedrows,
+        ids,
+        gone,
+        hits,
+        first,
+    );
+    write_run(
+        buf,
+        at,
+        text,
+        own,
+        ids,
+        gone,
+        places,
+        floating,
+        initial,
+        instants,
+        offsets,
+        hits,
+        first,
+        from,
+        to,
+    )
 }
