@@ -1,0 +1,4 @@
+pub mod EntryLaws
+pub mod NameLaws
+pub mod PatchLaws
+mod WalkLaws

@@ -1,0 +1,4 @@
+pub mod Names
+pub mod Meaning
+pub mod Patched
+pub mod Entries

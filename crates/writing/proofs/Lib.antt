@@ -1,0 +1,4 @@
+pub mod ThoseLaws
+pub mod DetailsLaws
+pub mod WriteLaws
+pub mod ChunkLaws

@@ -1,0 +1,3 @@
+pub mod Those
+pub mod Details
+pub mod Runs
