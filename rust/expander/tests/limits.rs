@@ -63,7 +63,7 @@ fn faults_behind_a_limit_come_first() {
     assert_eq!((list("1"), list("0")), (9, 6));
     let rules = |last: &str| {
         let rule = r#"{"@type": "RecurrenceRule", "frequency": "daily"}"#;
-        answer(event(START, &format!(r#", "recurrenceRules": [{}, {last}]"#, vec![rule; 9].join(","))))
+        answer(event(START, &format!(r#", "recurrenceRules": [{}, {last}]"#, [rule; 9].join(","))))
     };
     assert_eq!((rules("1"), rules(r#"{"@type": "RecurrenceRule", "frequency": "hourly"}"#)), (6, 8));
 }
