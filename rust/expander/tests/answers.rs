@@ -404,6 +404,7 @@ fn patches() {
             r#""/": 1"#,
             r#""start": "2024-01-01T00:00:00.5""#,
             r#""duration": "PT1.5S""#,
+            r#""participants/dG9t/participationStatus": "declined""#,
         ],
     );
 }

@@ -1,7 +1,7 @@
-//! The worked dates of document 01.
+//! The worked dates of document 01 that are about bytes and UTC; those about recurrence are among the generator's examples.
 
 mod support;
-use support::{assert_dates, by_day, event, recurring, seconds};
+use support::{event, seconds};
 
 const WIDEST: (i64, i64) = (-11_644_473_600, 253_370_764_800);
 const EMPTY: [u8; 12] = [0x1c, 0, 1, 0, 0, 0, 0, 0, 0, 0, 0, 0];
@@ -34,44 +34,6 @@ fn overlap_and_gap_use_the_offset_before() {
     let spring = seconds("2020-10-03T16:00:00");
     let south = utc_start("2020-10-04T02:30:00", "Australia/Melbourne", 36_000, &[spring], &[39_600]);
     assert_eq!(south, seconds("2020-10-03T16:30:00"));
-}
-
-#[test]
-fn days_that_a_month_has_not() {
-    let monthly = |more: &str| recurring("2024-01-31T00:00:00", &format!(r#""frequency": "monthly", "count": 3{more}"#));
-    assert_dates(&monthly(""), "9998-12-31", "2024-01: 31; 2024-03: 31; 2024-05: 31");
-    assert_dates(&monthly(r#", "byMonthDay": [-1]"#), "9998-12-31", "2024-01: 31; 2024-02: 29; 2024-03: 31");
-    let yearly = recurring("2024-02-29T00:00:00", r#""frequency": "yearly", "count": 3"#);
-    assert_dates(&yearly, "9998-12-31", "2024-02: 29; 2028-02: 29; 2032-02: 29");
-}
-
-#[test]
-fn weeks() {
-    let weekly = |more: &str| {
-        let rule = format!(r#""frequency": "weekly", "interval": 2, "count": 4, {}{more}"#, by_day("tu su"));
-        recurring("1997-08-05T09:00:00", &rule)
-    };
-    assert_dates(&weekly(""), "9998-12-31", "1997-08: 5 10 19 24");
-    assert_dates(&weekly(r#", "firstDayOfWeek": "su""#), "9998-12-31", "1997-08: 5 17 19 31");
-    let unmatched = recurring("2024-01-03T09:00:00", &format!(r#""frequency": "weekly", "count": 3, {}"#, by_day("mo")));
-    assert_dates(&unmatched, "9998-12-31", "2024-01: 3 8 15");
-}
-
-#[test]
-fn excluded_and_brought_back() {
-    let daily = |more: &str| {
-        let rules = r#", "recurrenceRules": [{"@type": "RecurrenceRule", "frequency": "daily", "count": 3}]"#;
-        let excluded = format!(r#"[{{"@type": "RecurrenceRule", "frequency": "weekly", {}}}]"#, by_day("tu"));
-        event("2024-01-01T09:00:00", &format!(r#"{rules}, "excludedRecurrenceRules": {excluded}{more}"#))
-    };
-    assert_dates(&daily(""), "9998-12-31", "2024-01: 1 3");
-    assert_dates(&daily(r#", "recurrenceOverrides": {"2024-01-02T09:00:00": {}}"#), "9998-12-31", "2024-01: 1 2 3");
-}
-
-#[test]
-fn last_weekday_of_the_month() {
-    let rule = format!(r#""frequency": "monthly", "count": 3, "bySetPosition": [-1], {}"#, by_day("mo tu we th fr"));
-    assert_dates(&recurring("2024-05-31T09:00:00", &rule), "9998-12-31", "2024-05: 31; 2024-06: 28; 2024-07: 31");
 }
 
 #[test]

@@ -14,6 +14,18 @@ pub fn written(seconds: i64) -> String {
     format!("{year:04}-{month:02}-{day:02}T{:02}:{:02}:{:02}", time / 3_600, time / 60 % 60, time % 60)
 }
 
+/// Local seconds of `YYYY-MM-DD` or `YYYY-MM-DDTHH:MM:SS`, which has to be right and not before 1600.
+pub fn read(text: &str) -> i64 {
+    let part = |place: std::ops::Range<usize>| text.get(place).map_or(0, |digits| digits.parse().expect("digits"));
+    let (year, month, day): (i64, i64, i64) = (part(0..4), part(5..7), part(8..10));
+    let from_1600 = year - 1600;
+    let years = 365 * from_1600 + (from_1600 + 3) / 4 - (from_1600 + 99) / 100 + (from_1600 + 399) / 400;
+    let is_leap = year % 4 == 0 && (year % 100 != 0 || year % 400 == 0);
+    let lengths = [31, 28 + i64::from(is_leap), 31, 30, 31, 30, 31, 31, 30, 31, 30];
+    let months: i64 = lengths.iter().take(month as usize - 1).sum();
+    (years + months + day - 1 - 135_140) * DAY + part(11..13) * 3_600 + part(14..16) * 60 + part(17..19)
+}
+
 /// The date of a day counted from 1970-01-01: whole cycles of 400 years, then years and months one by one.
 pub fn date(day: i64) -> (i64, i64, i64) {
     let from_1600 = day + 135_140;
@@ -50,6 +62,7 @@ mod tests {
             (1_735_603_200, "2024-12-31T00:00:00"),
         ] {
             assert_eq!(written(seconds), date);
+            assert_eq!(read(date), seconds);
         }
     }
 }

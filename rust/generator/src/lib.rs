@@ -1,10 +1,12 @@
 //! Inputs for tests, all made from a seed: the same number gives the same case on every machine.
 //!
 //! [`Case::new`] is one call of the library: a text, a zone table, a window, and dates to ask texts for. Its texts are events of every
-//! kind, damaged ones, and bytes that are hardly JSON. [`pairs`] has events that a planner must not be able to tell apart.
+//! kind, damaged ones, and bytes that are hardly JSON. [`pairs`] has events that a planner must not be able to tell apart,
+//! and [`examples`] those whose dates the documents give.
 
 mod damage;
 pub mod dates;
+pub mod examples;
 mod model;
 mod node;
 mod overrides;
