@@ -71,7 +71,7 @@ fn spoil(zone: &mut ZoneNumbers, random: &mut Random) {
 /// A window around an event's start; wide ones where that gives no endless list.
 pub fn window(model: &Model, random: &mut Random) -> (i64, i64) {
     let start = model.start;
-    let wide = if model.is_short() { 6 } else { 600 };
+    let wide = if model.is_short() { 12 } else { 1_000 };
     if random.once_in(wide) {
         return (FIRST, END);
     }
