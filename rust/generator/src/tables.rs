@@ -36,7 +36,9 @@ fn regular(start: i64, random: &mut Random) -> ZoneNumbers {
     let initial_offset = random.within(-12..=14) * 3_600 + random.within(-1..=1) * random.within(0..=1_800);
     let count = random.pick(&[0, 0, 1, 2, 20, 20, 1_024]);
     let step = random.pick(&[3_600, -3_600, 1_800, 7]);
-    let first = start - count / 2 * 182 * DAY + random.within(-3 * DAY..=3 * DAY);
+    // Half of the tables have a mark at the start's time of day, or a second beside it; 182 days are whole weeks.
+    let beside = if random.once_in(2) { random.within(-1..=1) } else { random.within(-3 * DAY..=3 * DAY) };
+    let first = start - count / 2 * 182 * DAY - initial_offset - step.max(0) + beside;
     let instants = (0..count).map(|place| first + place * 182 * DAY).collect();
     let offsets = (0..count).map(|place| initial_offset + if place % 2 == 0 { step } else { 0 }).collect();
     ZoneNumbers { name: Vec::new(), initial_offset, instants, offsets }
