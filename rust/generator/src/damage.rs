@@ -5,11 +5,8 @@ use crate::node::Node;
 use crate::random::Random;
 use crate::spelling::word;
 
-/// Values that are wrong somewhere, or right at a limit.
-const VALUES: [&str; 64] = [
-    "null",
-    "true",
-    "false",
+/// Values that are wrong somewhere, or right at a limit; strings without their quotes.
+const NUMBERS: [&str; 22] = [
     "0",
     "-0",
     "1",
@@ -22,56 +19,92 @@ const VALUES: [&str; 64] = [
     "-31",
     "-32",
     "53",
+    "-53",
     "54",
     "366",
+    "-366",
     "367",
     "9007199254740991",
     "9007199254740992",
+    "-9007199254740991",
     "-9007199254740992",
     "99999999999999999999999999",
-    "\"\"",
-    "\"1\"",
-    "\"12\"",
-    "\"13\"",
-    "\"1L\"",
-    "\"13L\"",
-    "\"01\"",
-    "\"mo\"",
-    "\"MO\"",
-    "\"daily\"",
-    "\"weekly\"",
-    "\"hourly\"",
-    "\"secondly\"",
-    "\"yearly \"",
-    "\"gregorian\"",
-    "\"hebrew\"",
-    "\"omit\"",
-    "\"forward\"",
-    "\"2024-02-29T00:00:00\"",
-    "\"2023-02-29T00:00:00\"",
-    "\"2024-01-01T00:00:00.5\"",
-    "\"2024-01-01T00:00:00.50\"",
-    "\"2024-01-01T00:00:00Z\"",
-    "\"1601-01-01T00:00:00\"",
-    "\"1600-12-31T23:59:59\"",
-    "\"9999-12-31T23:59:59\"",
-    "\"2024-01-01T24:00:00\"",
-    "\"P1D\"",
-    "\"PT0.5S\"",
-    "\"PT1H5S\"",
-    "\"P366D\"",
-    "\"P367D\"",
-    "\"P366DT0.5S\"",
-    "\"P\"",
-    "\"pt1h\"",
-    "\"free\"",
-    "\"a\\n\"",
-    "\"\\ud800\"",
-    "[]",
-    "{}",
-    "[1]",
-    "[{}]",
 ];
+const DATE_TIMES: [&str; 22] = [
+    "2024-02-29T00:00:00",
+    "2023-02-29T00:00:00",
+    "2024-01-01T00:00:00.5",
+    "2024-01-01T00:00:00.50",
+    "2024-01-01T00:00:00.0",
+    "2024-01-01T00:00:00.",
+    "2024-01-01T00:00:00Z",
+    "2024-01-01T00:00:00.25Z",
+    "2024-01-01T00:00:00.250Z",
+    "0000-01-01T00:00:00Z",
+    "1601-01-01T00:00:00",
+    "1600-12-31T23:59:59",
+    "9998-12-31T23:59:59",
+    "9999-01-01T00:00:00",
+    "9999-12-31T23:59:59",
+    "2024-01-01T24:00:00",
+    "2024-01-01T23:59:60",
+    "2024-01-01T23:60:00",
+    "2024-04-31T00:00:00",
+    "2024-00-10T00:00:00",
+    "2024-01-01t00:00:00",
+    "2024-01-01",
+];
+const DURATIONS: [&str; 20] = [
+    "P1D",
+    "PT0.5S",
+    "PT0.50S",
+    "PT0.0S",
+    "PT1H5S",
+    "P366D",
+    "P366DT0S",
+    "P366DT1S",
+    "P367D",
+    "P366DT0.5S",
+    "P365DT23H59M59.9S",
+    "P",
+    "PT",
+    "pt1h",
+    "P1W2D",
+    "P2D1W",
+    "P1DT",
+    "PT99999999999999999999M",
+    "P52W2D",
+    "-P1D",
+];
+const WORDS: [&str; 26] = [
+    "",
+    "1",
+    "12",
+    "13",
+    "1L",
+    "13L",
+    "01",
+    "mo",
+    "su",
+    "MO",
+    "daily",
+    "weekly",
+    "hourly",
+    "secondly",
+    "yearly ",
+    "gregorian",
+    "hebrew",
+    "omit",
+    "forward",
+    "free",
+    "busy",
+    "secret",
+    "Event",
+    "NDay",
+    "a\\n",
+    "\\ud800",
+];
+const SHAPES: [&str; 8] = ["null", "true", "false", "[]", "{}", "[1]", "[{}]", "[null]"];
 
 /// Member names that are read somewhere, or refused.
 const NAMES: [&str; 40] = [
@@ -117,17 +150,30 @@ const NAMES: [&str; 40] = [
     "2024-01-01T00:00:00.5",
 ];
 
-/// One to three changes of the tree.
+/// Changes of the tree: forms that are refused, one value at a limit of its kind, or anything up to three times.
 pub fn in_tree(mut tree: Node, random: &mut Random) -> Vec<u8> {
-    if random.once_in(3) {
-        refuse(&mut tree, random);
-        return tree.text(random);
-    }
-    for _ in 0..=random.below(3) {
-        let place = random.index(tree.size());
-        change(tree.nth(place), random);
+    match random.below(3) {
+        0 => refuse(&mut tree, random),
+        1 => change_leaf(&mut tree, random),
+        _ => {
+            for _ in 0..=random.below(3) {
+                let place = random.index(tree.size());
+                change(tree.nth(place), random);
+            }
+        }
     }
     tree.text(random)
+}
+
+/// Puts a value of the same kind in the place of one.
+fn change_leaf(tree: &mut Node, random: &mut Random) {
+    loop {
+        let place = random.index(tree.size());
+        if let Node::Leaf(text) = tree.nth(place) {
+            *text = alike(text, random);
+            return;
+        }
+    }
 }
 
 /// Members of a rule that are refused, alone or with others of it.
@@ -155,13 +201,25 @@ fn refuse(node: &mut Node, random: &mut Random) {
         Node::Object(members) => {
             let is_rule = members.iter().any(|(name, _)| name == "frequency");
             if is_rule && random.once_in(2) {
-                put(members, random.pick(&RULE_MEMBERS));
+                (0..=random.below(3)).for_each(|_| put(members, random.pick(&RULE_MEMBERS)));
+                lengthen(members, random);
             }
             for (name, value) in members {
                 refuse(value, random);
-                if let (true, Node::Object(patch)) = (name.as_bytes().get(4) == Some(&b'-') && random.once_in(2), value) {
+                if let (true, Node::Object(patch)) = (is_date_time(name) && random.once_in(2), value) {
                     put(patch, random.pick(&PATCH_MEMBERS));
                 }
+            }
+        }
+    }
+}
+
+/// Makes a list longer than is allowed, now and then: 9 comes behind all other faults.
+fn lengthen(members: &mut [(String, Node)], random: &mut Random) {
+    for (_, value) in members {
+        if let (true, Node::Leaf(text)) = (random.once_in(6), value) {
+            if let Some(entry) = text.strip_prefix('[').and_then(|rest| rest.strip_suffix(']')).filter(|entry| !entry.is_empty()) {
+                *text = format!("[{}]", vec![entry; 65].join(","));
             }
         }
     }
@@ -177,16 +235,38 @@ fn change(node: &mut Node, random: &mut Random) {
         Node::Object(members) if !random.once_in(4) => change_members(members, random),
         Node::Array(elements) if !random.once_in(4) => change_elements(elements, random),
         Node::Leaf(text) if random.once_in(3) => change_letter(text, random),
+        Node::Leaf(text) if random.once_in(2) => *text = alike(text, random),
         _ => *node = value(random),
     }
 }
 
+/// Any value.
 fn value(random: &mut Random) -> Node {
-    if random.once_in(8) {
-        ignored(3, random)
-    } else {
-        Node::leaf(random.pick(&VALUES))
+    match random.below(6) {
+        0 => Node::leaf(random.pick(&NUMBERS)),
+        1 => Node::string(random.pick(&DATE_TIMES)),
+        2 => Node::string(random.pick(&DURATIONS)),
+        3 => Node::string(random.pick(&WORDS)),
+        4 => Node::leaf(random.pick(&SHAPES)),
+        _ => ignored(3, random),
     }
+}
+
+/// A value of the same kind.
+fn alike(text: &str, random: &mut Random) -> String {
+    let word = match text.as_bytes() {
+        [b'"', .., b'"'] if is_date_time(&text[1..]) => random.pick(&DATE_TIMES),
+        [b'"', b'P' | b'p', ..] => random.pick(&DURATIONS),
+        [b'"', ..] => random.pick(&WORDS),
+        [b'-' | b'0'..=b'9', ..] => return random.pick(&NUMBERS).to_string(),
+        _ => return random.pick(&SHAPES).to_string(),
+    };
+    format!("\"{word}\"")
+}
+
+/// Does a text begin like a date-time?
+fn is_date_time(text: &str) -> bool {
+    text.len() > 10 && text.as_bytes()[4] == b'-' && text.as_bytes()[10] == b'T'
 }
 
 /// Puts in, takes out, doubles, renames or replaces a member.
@@ -202,6 +282,7 @@ fn change_members(members: &mut Vec<(String, Node)>, random: &mut Random) {
         2 => drop(members.remove(place)),
         3 => members[place].1 = new.1,
         4 if random.once_in(3) => members.push(members[place].clone()),
+        4 | 5 if is_date_time(&members[place].0) => members[place].0 = random.pick(&DATE_TIMES).to_string(),
         4 => members[place].0 = word(random),
         _ => members[place].0 = new.0,
     }

@@ -55,12 +55,12 @@ fn spoil(zone: &mut ZoneNumbers, random: &mut Random) {
             zone.instants.push(random.pick(&[last, 1 << 40, (1 << 40) + 1, -(1 << 40) - 1, i64::MAX, i64::MIN]));
             zone.offsets.push(0);
         }
-        // Marks: the second transition is less than the offsets' difference behind the first, or just as much.
+        // Marks: after a fall of two hours, the next transition's mark is the same two hours later.
         4 => {
-            let shift = random.within(7_198..=7_201);
+            let shift = random.within(7_198..=7_202);
+            let fallen = zone.offsets.last().copied().unwrap_or(zone.initial_offset) - 7_200;
             zone.instants.extend([last + 200 * DAY, last + 200 * DAY + shift]);
-            zone.offsets.extend([7_200, 0]);
-            zone.offsets.truncate(zone.instants.len());
+            zone.offsets.extend([fallen, fallen]);
         }
         5 => zone.instants.reverse(),
         _ => {
