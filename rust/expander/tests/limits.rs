@@ -1,72 +1,8 @@
-//! Limits from both sides.
+//! Limits of windows and zone tables from both sides, and the longest expansion.
 
 mod support;
 use expander::{Refusal, Window, Zone};
-use support::{answer, by_day, event, ids_until, recurring, seconds};
-
-const START: &str = "2024-01-01T09:00:00";
-
-/// An event of exactly so many bytes.
-fn long_text(length: usize) -> String {
-    let bare = event(START, r#", "title": """#).len();
-    event(START, &format!(r#", "title": "{}""#, "a".repeat(length - bare)))
-}
-
-#[test]
-fn length_of_the_text() {
-    assert_eq!(answer(long_text(65_536)), 0);
-    assert_eq!(answer(long_text(65_537)), 1);
-    assert_eq!(answer("[".repeat(65_537)), 1);
-    assert_eq!(answer("x".repeat(65_536)), 3);
-}
-
-#[test]
-fn levels() {
-    // The event is level 1.
-    let nested = |levels: usize| event(START, &format!(r#", "x": {}{}"#, "[".repeat(levels), "]".repeat(levels)));
-    assert_eq!(answer(nested(15)), 0);
-    assert_eq!(answer(nested(16)), 2);
-    let objects = |levels: usize| format!("{}1{}", r#"{"a":"#.repeat(levels), "}".repeat(levels));
-    assert_eq!((answer(objects(16)), answer(objects(17))), (5, 2));
-}
-
-#[test]
-fn rules_entries_and_overrides() {
-    let rules = |count: usize, name: &str| {
-        let rule = r#"{"@type": "RecurrenceRule", "frequency": "daily"}"#;
-        answer(event(START, &format!(r#", "{name}": [{}]"#, vec![rule; count].join(","))))
-    };
-    for name in ["recurrenceRules", "excludedRecurrenceRules"] {
-        assert_eq!((rules(8, name), rules(9, name)), (0, 9));
-    }
-    let entries = |count: usize, name: &str, entry: &str| {
-        answer(recurring(START, &format!(r#""frequency": "daily", "{name}": [{}]"#, vec![entry; count].join(","))))
-    };
-    for (name, entry) in [("byMonthDay", "1"), ("byMonth", "\"1\""), ("bySetPosition", "1"), ("byDay", r#"{"@type": "NDay", "day": "mo"}"#)]
-    {
-        assert_eq!((entries(64, name, entry), entries(65, name, entry)), (0, 9), "{name}");
-    }
-    let overrides = |count: usize, more: &str| {
-        let names: Vec<String> = (0..count).map(|n| format!(r#""2024-01-01T{:02}:{:02}:00": {{}}"#, n / 60, n % 60)).collect();
-        answer(event(START, &format!(r#", "recurrenceOverrides": {{{}{more}}}"#, names.join(","))))
-    };
-    assert_eq!((overrides(256, ""), overrides(257, "")), (0, 9));
-    assert_eq!((overrides(300, r#", "x": {}"#), overrides(300, r#", "2025-01-01T00:00:00": {"a/b": 1}"#)), (6, 8));
-}
-
-#[test]
-fn faults_behind_a_limit_come_first() {
-    let list = |last: &str| {
-        let entries = vec!["1"; 70].join(",");
-        answer(recurring(START, &format!(r#""frequency": "daily", "byMonthDay": [{entries}, {last}]"#)))
-    };
-    assert_eq!((list("1"), list("0")), (9, 6));
-    let rules = |last: &str| {
-        let rule = r#"{"@type": "RecurrenceRule", "frequency": "daily"}"#;
-        answer(event(START, &format!(r#", "recurrenceRules": [{}, {last}]"#, [rule; 9].join(","))))
-    };
-    assert_eq!((rules("1"), rules(r#"{"@type": "RecurrenceRule", "frequency": "hourly"}"#)), (6, 8));
-}
+use support::{by_day, ids_until, recurring, seconds};
 
 #[test]
 fn windows() {

@@ -18,6 +18,16 @@ fn ids() {
     }
 }
 
+/// An accepted text answers 0 or 14 to a question for a title.
+#[test]
+fn answers() {
+    for (expected, text) in generator::examples::answers::all() {
+        let answer = smocurant::raw::title(&text, 0).0;
+        let shown = String::from_utf8_lossy(&text);
+        assert_eq!(if answer == 14 { 0 } else { answer }, expected, "{shown}");
+    }
+}
+
 /// Document 01's 40 bytes.
 #[test]
 fn bytes() {

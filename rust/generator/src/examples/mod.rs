@@ -1,5 +1,6 @@
 //! Events with the dates that documents give for them: those of document 01, of RFC 5545 and of RFC 8984.
 
+pub mod answers;
 mod other_calendars;
 mod rfc5545;
 mod rfc8984;
