@@ -9,7 +9,7 @@ use crate::zone::Transition;
 mod exported {
     use super::Transition;
 
-    #[link(name = "smocurant", kind = "static")]
+    // The build script says where the archive is.
     extern "C" {
         pub fn smocurant_expand(
             text: *const u8,
