@@ -7,6 +7,7 @@ mod progress;
 mod run;
 
 use options::{Command, HELP};
+use std::io::Write;
 use std::process::ExitCode;
 
 /// Some event was refused or could not be read.
@@ -17,15 +18,11 @@ const WRONG_OPTIONS: u8 = 2;
 const NOT_WRITTEN: u8 = 3;
 
 fn main() -> ExitCode {
-    let options = match options::read(std::env::args().skip(1)) {
-        Ok(Command::Help) => {
-            print!("{HELP}");
-            return ExitCode::SUCCESS;
-        }
-        Ok(Command::Version) => {
-            println!("smocurant {}", env!("CARGO_PKG_VERSION"));
-            return ExitCode::SUCCESS;
-        }
+    let words: Result<Vec<String>, _> = std::env::args_os().skip(1).map(|word| word.into_string()).collect();
+    let Ok(words) = words else { return fail(WRONG_OPTIONS, "the options are no UTF-8") };
+    let options = match options::read(words.into_iter()) {
+        Ok(Command::Help) => return say(HELP),
+        Ok(Command::Version) => return say(concat!("smocurant ", env!("CARGO_PKG_VERSION"), "\n")),
         Ok(Command::Run(options)) => options,
         Err(reason) => return fail(WRONG_OPTIONS, &format!("{reason}\nsmocurant --help lists the options.")),
     };
@@ -35,6 +32,12 @@ fn main() -> ExitCode {
         Err(run::Failure::Zone(reason)) => fail(WRONG_OPTIONS, &reason),
         Err(run::Failure::Output(reason)) => fail(NOT_WRITTEN, &reason),
     }
+}
+
+/// Writes a text; a reader that has gone away is no failure.
+fn say(text: &str) -> ExitCode {
+    let _ = std::io::stdout().write_all(text.as_bytes());
+    ExitCode::SUCCESS
 }
 
 fn fail(code: u8, reason: &str) -> ExitCode {
