@@ -8,6 +8,17 @@ use crate::window::Window;
 use crate::zone::{Transition, ZoneTable};
 
 /// Writes an event's occurrences in a window into a lent buffer. After a refusal the buffer is as it was.
+///
+/// ```
+/// use smocurant::{expand, Status, Window, ZoneTable};
+///
+/// let event = br#"{"@type": "Event", "uid": "1", "updated": "2024-01-01T00:00:00Z", "start": "2024-02-29T00:00:00"}"#;
+/// let mut buffer = [0; 40];
+/// let table = expand(event, &ZoneTable::floating(), Window::year(2024)?, &mut buffer)?;
+/// assert_eq!(table.len(), 1);
+/// assert_eq!(expand(event, &ZoneTable::floating(), Window::year(2024)?, &mut [0; 39]), Err(Status::Buffer));
+/// # Ok::<(), Status>(())
+/// ```
 pub fn expand<'b>(text: &[u8], zone: &ZoneTable, window: Window, buffer: &'b mut [u8]) -> Result<Table<'b>, Status> {
     let (instants, offsets) = (zone.instants(), zone.offsets());
     let answer = raw::expand(text, zone.name().as_bytes(), zone.initial_offset(), instants, offsets, window.start(), window.end(), buffer);
@@ -15,6 +26,18 @@ pub fn expand<'b>(text: &[u8], zone: &ZoneTable, window: Window, buffer: &'b mut
 }
 
 /// As [`expand`], with the entries of a zone table as structs.
+///
+/// ```
+/// use smocurant::{expand_entries, time, Status, Transition, Window};
+///
+/// let event = br#"{"@type": "Event", "uid": "1", "updated": "2024-01-01T00:00:00Z", "start": "2020-11-01T01:30:00", "timeZone": "Z"}"#;
+/// let entries = [Transition { instant: 1_604_221_200, offset: -28_800 }];
+/// let mut buffer = [0; 40];
+/// let table = expand_entries(event, "Z", -25_200, &entries, Window::WIDEST, &mut buffer)?;
+/// // The hour comes twice; the offset before the change is used.
+/// assert_eq!(time::written(table.records().next().unwrap().start), "2020-11-01T08:30:00");
+/// # Ok::<(), Status>(())
+/// ```
 pub fn expand_entries<'b>(
     text: &[u8],
     zone_name: &str,

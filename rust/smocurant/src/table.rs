@@ -22,7 +22,7 @@ pub struct Record {
     pub floating: bool,
 }
 
-/// A table as the library wrote it: records of 28 bytes by id, and a trailer of 12 bytes.
+/// A table as the library wrote it: records of 28 bytes by id, and a trailer of 12 bytes. It borrows the lent buffer or owns its bytes.
 #[derive(Clone, Debug, PartialEq, Eq)]
 pub struct Table<'b> {
     bytes: Cow<'b, [u8]>,

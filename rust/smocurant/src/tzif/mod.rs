@@ -1,7 +1,16 @@
 //! Zone tables from the system: TZif files (RFC 8536), version 2 and later.
 //!
 //! A file has the changes of the past, and a rule for the time behind them. The rule is carried on to one year behind the window, so that an
-//! occurrence that is moved a little beyond it still finds its offset.
+//! occurrence that is moved a little beyond it still finds its offset. A table has 1,024 entries, which is some 400 years of summer time; for
+//! windows that end later there is no table, rather than one with wrong offsets.
+//!
+//! ```no_run
+//! use smocurant::{tzif, Window};
+//!
+//! let zone = tzif::system("Europe/London", Window::year(2026)?)?;
+//! assert_eq!(zone.name(), "Europe/London");
+//! # Ok::<(), Box<dyn std::error::Error>>(())
+//! ```
 
 mod file;
 mod posix;
