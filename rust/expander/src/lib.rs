@@ -1,0 +1,31 @@
+//! An independent expander of JSCalendar events (RFC 8984).
+//!
+//! It is written from the papers alone and shares no line with the proved library, so that a comparison of the two finds what one of them
+//! read otherwise. It favours the plain form over the fast one: a text becomes a tree, the tree an event, the event a sorted list of dates.
+//!
+//! [`expand`], [`title`] and [`description`] mirror the exported functions of the library, and answer with its numbers. [`Event::read`],
+//! [`Event::ids`] and [`Event::occurrence`] are the steps behind them.
+//!
+//! ```
+//! let text = br#"{"@type": "Event", "uid": "1", "updated": "2024-01-01T00:00:00Z", "start": "2024-01-31T09:00:00", "duration": "PT1H",
+//!     "title": "Stocktaking", "recurrenceRules": [{"@type": "RecurrenceRule", "frequency": "monthly", "count": 3}]}"#;
+//! let mut buffer = [0; 3 * 28 + 12];
+//! let window = (1_704_067_200, 1_735_689_600); // the year 2024
+//! assert_eq!(expander::expand(text, b"", 0, &[], &[], window.0, window.1, &mut buffer), (0, 96));
+//! ```
+
+mod answer;
+mod calls;
+mod civil;
+mod event;
+pub mod json;
+mod recurrence;
+mod table;
+mod window;
+mod zone;
+
+pub use answer::Refusal;
+pub use calls::{description, expand, title};
+pub use event::{Details, Event, Occurrence, Privacy};
+pub use window::Window;
+pub use zone::Zone;

@@ -1,0 +1,79 @@
+//! What holds of every event, asked of generated ones.
+
+use expander::{Event, Window};
+use generator::{pairs, Case, Model, Random};
+
+const CASES: u64 = 2_000;
+
+/// A buffer that is long enough for the case, and the answer.
+fn expand(case: &Case, text: &[u8], buffer: &mut [u8]) -> (u32, u64) {
+    let zone = &case.zone;
+    expander::expand(text, &zone.name, zone.initial_offset, &zone.instants, &zone.offsets, case.window.0, case.window.1, buffer)
+}
+
+#[test]
+fn models_are_accepted() {
+    for seed in 0..CASES {
+        let random = &mut Random::new(seed);
+        let text = Model::random(random).text(random);
+        assert_eq!(Event::read(&text).err(), None, "seed {seed}: {}", String::from_utf8_lossy(&text));
+    }
+}
+
+#[test]
+fn every_answer_comes_up() {
+    let mut seen = [0u64; 15];
+    let mut buffer = vec![0; 1 << 16];
+    for seed in 0..CASES {
+        let case = Case::new(seed);
+        let room = if seed % 4 == 0 { 100 } else { buffer.len() };
+        seen[expand(&case, &case.text, &mut buffer[..room]).0 as usize] += 1;
+        for date in &case.dates {
+            seen[expander::title(&case.text, *date).0 as usize] += 1;
+        }
+    }
+    assert!(seen.iter().all(|times| *times > CASES / 200), "{seen:?}");
+}
+
+#[test]
+fn windows_join() {
+    for seed in 0..CASES / 5 {
+        let random = &mut Random::new(seed);
+        let model = Model::random(random);
+        let text = model.text(random);
+        let event = Event::read(&text).unwrap();
+        let span = Window::widest().span();
+        let end = if model.is_short() { span.end } else { (event.start() + 30_000_000).min(span.end) };
+        let middle = (event.start() + random.within(-1_000_000..=20_000_000)).clamp(span.start, end);
+        let parts = [event.ids(span.start..middle), event.ids(middle..end)].concat();
+        assert_eq!(event.ids(span.start..end), parts, "seed {seed}");
+    }
+}
+
+#[test]
+fn texts_are_of_occurrences() {
+    for seed in 0..CASES {
+        let case = Case::new(seed);
+        let Ok(event) = Event::read(&case.text) else { continue };
+        for date in &case.dates {
+            let is_occurrence = *date < i64::MAX && !event.ids(*date..*date + 1).is_empty() && event.privacy() != expander::Privacy::Secret;
+            assert_eq!(expander::title(&case.text, *date).0, if is_occurrence { 0 } else { 14 }, "seed {seed}");
+        }
+    }
+}
+
+#[test]
+fn pairs_look_the_same() {
+    for seed in 0..CASES {
+        let random = &mut Random::new(seed);
+        let (_, texts) = if seed % 4 == 0 { pairs::secret(random) } else { pairs::private(random) };
+        let case = Case::new(seed);
+        let [first, second] = texts.map(|text| {
+            let mut buffer = vec![0xaa; 50_000];
+            let answer = expand(&case, &text, &mut buffer);
+            let titles: Vec<_> = case.dates.iter().map(|date| expander::title(&text, *date)).collect();
+            (answer, buffer, titles)
+        });
+        assert!(first == second, "seed {seed}");
+    }
+}

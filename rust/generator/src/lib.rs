@@ -1,0 +1,64 @@
+//! Inputs for tests, all made from a seed: the same number gives the same case on every machine.
+//!
+//! [`Case::new`] is one call of the library: a text, a zone table, a window, and dates to ask texts for. Its texts are events of every
+//! kind, damaged ones, and bytes that are hardly JSON. [`pairs`] has events that a planner must not be able to tell apart,
+//! and [`examples`] those whose dates the documents give.
+
+mod damage;
+pub mod dates;
+pub mod examples;
+mod model;
+mod node;
+mod overrides;
+pub mod pairs;
+mod random;
+mod rules;
+mod spelling;
+mod strange;
+mod tables;
+
+pub use model::Model;
+pub use random::Random;
+pub use tables::ZoneNumbers;
+
+/// One call of the library.
+#[derive(Clone, Debug)]
+pub struct Case {
+    /// The event's text, or what stands in its place.
+    pub text: Vec<u8>,
+    /// The zone table; perhaps an invalid one.
+    pub zone: ZoneNumbers,
+    /// The window's two ends; perhaps an invalid one.
+    pub window: (i64, i64),
+    /// Dates to ask title and description for; some of them may be occurrences.
+    pub dates: Vec<i64>,
+}
+
+impl Case {
+    /// The case of a seed.
+    pub fn new(seed: u64) -> Case {
+        let random = &mut Random::new(seed);
+        let model = Model::random(random);
+        let text = match random.below(10) {
+            0..=4 => model.text(random),
+            5..=6 => damage::in_tree(model.node(random), random),
+            7 => damage::in_bytes(model.text(random), random),
+            8 => strange::long(&model, random),
+            _ => strange::text(random),
+        };
+        let zone = ZoneNumbers::random(model.zone.as_deref(), model.start, random);
+        Case { text, zone, window: tables::window(&model, random), dates: model.dates(random) }
+    }
+}
+
+#[cfg(test)]
+mod tests {
+    use super::*;
+
+    #[test]
+    fn a_seed_gives_the_same_case_again() {
+        for seed in 0..200 {
+            assert_eq!(format!("{:?}", Case::new(seed)), format!("{:?}", Case::new(seed)));
+        }
+    }
+}
