@@ -6,7 +6,7 @@ use mathlib.Core.Option.{Option}
 use Rattle.json_walk.specs.Walk.{membersOf}
 use Rattle.json_tree.specs.Tree.{Fields, fieldsOf, treeAt}
 use Rattle.words.specs.declared.Privacy.{Privacy}
-use Rattle.property.specs.From.{textIn, nameIn}
+use Rattle.property.specs.From.{textIn, nameIn, valueIn}
 use Rattle.event.specs.Types
 use Rattle.event.specs.Types.{Text, Length}
 use Rattle.event.specs.Reading.{Reading}
@@ -16,6 +16,8 @@ use Rattle.event_text.specs.declared.Mark.{Mark}
 use Rattle.event_text.specs.declared.Access.{Access}
 use Rattle.event_text.specs.declared.Spot.{Spot}
 use Rattle.event_text.specs.declared.Details.{Details}
+use Rattle.event_text.specs.declared.Head.{Head}
+use Rattle.event_text.specs.Front.{Front}
 
 -- The fields of the object at a place, whose values have so many levels.
 abbrev pub fieldsIn : ℕ → List ℕ → ℕ → Fields
@@ -54,3 +56,23 @@ detailsOf s r =
 
 abbrev pub fromDetails : List ℕ → Details → Reading Types.Details
 fromDetails s r = record { value = detailsOf s r; fault = r .fault }
+
+-- A head, whose lists are values of the tree with so many levels.
+abbrev pub fromHead : ℕ → List ℕ → Head → Front
+fromHead l s r =
+    record {
+      zone = nameIn s (r .zone);
+      privacy = r .privacy;
+      details = record {
+        start = r .start;
+        length = record { days = r .days; seconds = r .seconds };
+        busy = r .busy;
+        allDay = r .allday;
+        title = textIn s (r .title);
+        description = textIn s (r .description);
+      };
+      rules = valueIn l s (r .rules);
+      excludedRules = valueIn l s (r .excluded);
+      overrides = valueIn l s (r .overrides);
+      fault = r .fault;
+    }

@@ -1,4 +1,6 @@
 // The event of a text that is past answers 1 to 4: what stands in its own members, and the lowest of 5 to 9 that applies.
+pub mod heads;
+pub mod judged;
 pub mod marks;
 pub mod own;
 pub mod spots;
@@ -47,5 +49,22 @@ pub struct Details {
     pub allday: bool,
     pub title: Place,
     pub description: Place,
+    pub fault: u32,
+}
+
+// An event but for its lists, of which it has the places.
+pub struct Head {
+    pub zone: Place,
+    pub privacy: Privacy,
+    pub start: u64,
+    pub days: u64,
+    pub seconds: u64,
+    pub busy: bool,
+    pub allday: bool,
+    pub title: Place,
+    pub description: Place,
+    pub rules: Place,
+    pub excluded: Place,
+    pub overrides: Place,
     pub fault: u32,
 }
