@@ -1,4 +1,5 @@
 pub mod Ends
+pub mod Faults
 pub mod Fields
 pub mod Ranges
 pub mod Readings
