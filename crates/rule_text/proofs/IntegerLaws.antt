@@ -7,9 +7,10 @@ use mathlib.Core.Path.{_≡_, refl, ap, sym, _∙_}
 use native.Mathlib.Omega.{arith}
 use lib.Dec.{eqb, ltb, leb}
 use lib.IntN.{ℤ, pos, negsuc, natAbs, subℕ}
-use borrow.Author.Tests.{eqb-true, ne-eqb, le-leb, lt-leb, ltb-true, ltb-false}
+use borrow.Author.Tests.{eqb-true, ne-eqb, le-leb, lt-leb, leb-true, lt-ltb, ltb-true, ltb-false}
 use Rattle.signed.specs.Choose.{if_then_else_}
 use Rattle.signed.proofs.Parts.{parts-eq, subℕ-parts, subℕ-pos, subℕ-neg}
+use Rattle.rule.specs.Read.{nthFrom}
 use Rattle.json_text.specs.Bytes.{byte, isDigit}
 use Rattle.json_tree.specs.Tree.{Json, Fields, Items, treeBy, treeAt, scalarTree}
 use Rattle.json_tree.specs.Integers.{integerAt, wholeAt}
@@ -104,3 +105,35 @@ count-at l s i = rw (integer-at s i l) (count-of (integerAt s i))
 pub signed-at : (most l : ℕ) (s : List ℕ) (i : ℕ) → readSigned most (treeAt l s i) ≡ signedOf most (integerAt s i)
 unfolding readSigned
 signed-at most l s i = rw (integer-at s i l) (signed-of most (integerAt s i))
+
+-- A signed number that was read is not 0, and no larger than it may be, also one that stands in.
+signed-range : (most : ℕ) → 1 ≤ most → (z : ℤ) (c d : Bool) → leb 1 (natAbs z) ≡ c → leb (natAbs z) most ≡ d
+    → (1 ≤ natAbs ((if c && d then right z else wrong (pos 1) 6) .value)) × (natAbs ((if c && d then right z else wrong (pos 1) 6) .value) ≤ most)
+signed-range most h z true true p q = (leb-true 1 (natAbs z) p, leb-true (natAbs z) most q)
+signed-range most h z true false p q = (omega arith, omega arith)
+signed-range most h z false d p q = (omega arith, omega arith)
+
+stands : (most : ℕ) → 1 ≤ most → (1 ≤ natAbs (orWrong (pos 1) (signedUpTo most) none .value)) × (natAbs (orWrong (pos 1) (signedUpTo most) none .value) ≤ most)
+unfolding orWrong
+stands most h = (omega arith, omega arith)
+
+judged : (most : ℕ) → 1 ≤ most → (z : ℤ) → (1 ≤ natAbs (orWrong (pos 1) (signedUpTo most) (some z) .value)) × (natAbs (orWrong (pos 1) (signedUpTo most) (some z) .value) ≤ most)
+unfolding orWrong signedUpTo
+judged most h z = signed-range most h z _ _ refl refl
+
+pub signed-within : (most : ℕ) → 1 ≤ most → (v : Json) → (1 ≤ natAbs (readSigned most v .value)) × (natAbs (readSigned most v .value) ≤ most)
+unfolding readSigned
+signed-within most h v = go (integer v)
+  where
+    go : (z : Option ℤ) → (1 ≤ natAbs (orWrong (pos 1) (signedUpTo most) z .value)) × (natAbs (orWrong (pos 1) (signedUpTo most) z .value) ≤ most)
+    go none = stands most h
+    go (some z) = judged most h z
+
+-- 0 stands for no number.
+pub nth-from : (z : ℤ) → 1 ≤ natAbs z → nthFrom z ≡ some z
+unfolding nthFrom
+nth-from (pos n) h = rw (lt-ltb 0 n (omega arith))
+nth-from (negsuc n) h = rw (lt-ltb 0 (suc n) (omega arith))
+
+pub nth-read : (most : ℕ) → 1 ≤ most → (v : Json) → nthFrom (readSigned most v .value) ≡ some (readSigned most v .value)
+nth-read most h v = nth-from _ (signed-within most h v .0)

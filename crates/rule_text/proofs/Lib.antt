@@ -1,3 +1,4 @@
 pub mod ReadLaws
 pub mod IntegerLaws
 pub mod EntryLaws
+pub mod FieldLaws

@@ -1,7 +1,9 @@
 // Rules of recurrence, read at the place where they stand in a text that is known to be JSON. The text is the store: a value is its
 // place, and its meaning is the tree's value there.
 pub mod lists;
+pub mod members;
 pub mod numbers;
+pub mod spelled;
 
 // A count that was read, and its fault.
 pub struct Number {
