@@ -68,3 +68,22 @@ pub fn read_type(text: &[u8], at: usize, name: &[u8]) -> u32
     }
     6
 }
+
+// What a name that was read stands for, and its fault.
+pub fn number_of(x: Named) -> u32
+    ensures { λ r. ⌜ r ≡ fromNamed x .value ⌝ }
+{
+    match x {
+        Named::Number(n) => n,
+        Named::Wrong(_) => 0,
+    }
+}
+
+pub fn fault_of(x: Named) -> u32
+    ensures { λ r. ⌜ r ≡ fromNamed x .fault ⌝ }
+{
+    match x {
+        Named::Number(_) => 0,
+        Named::Wrong(n) => n,
+    }
+}

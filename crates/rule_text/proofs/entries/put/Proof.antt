@@ -1,8 +1,8 @@
 use lib.Seq.{set-out}
 use mathlib.Core.Path.{sym}
 use borrow.Author.Needs.{needs}
-use Rattle.rule_text.proofs.lists.put.Statement.{statement}
-use Rattle.rule_text.proofs.lists.put.Tie as tie
+use Rattle.rule_text.proofs.entries.put.Statement.{statement}
+use Rattle.rule_text.proofs.entries.put.Tie as tie
 
 mul-entry : tie.Need-mul-entry
 mul-entry c = search needs

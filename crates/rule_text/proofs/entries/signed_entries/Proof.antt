@@ -9,8 +9,8 @@ use lib.IntN.{ℤ}
 use mathlib.Core.List.{List}
 use Prim.Native.Nat.{ℕ}
 use borrow.Author.Needs.{needs}
-use Rattle.rule_text.proofs.lists.signed_entries.Statement.{statement}
-use Rattle.rule_text.proofs.lists.signed_entries.Tie as tie
+use Rattle.rule_text.proofs.entries.signed_entries.Statement.{statement}
+use Rattle.rule_text.proofs.entries.signed_entries.Tie as tie
 
 abbrev allOf : ℕ → List ℕ → ℕ → ℕ → Reading (List ℤ)
 allOf most text at l = readAll (readSigned most) (listOf (itemsOf (λ v. treeAt l text v) (elementsOf text at)))
