@@ -13,7 +13,7 @@ use Rattle.json_tree.specs.Tree.{Json, Fields, Items, noField, noItem, nullAt, 
 use Rattle.json_tree.specs.declared.Kind.{Kind}
 use Rattle.json_tree.specs.declared.Kind.the-variants as kind
 use Rattle.event.specs.Types.{Text}
-use Rattle.event.specs.Values.{string}
+use Rattle.event.specs.Values.{isNull, string}
 use Rattle.property.specs.Words.{wordAt}
 
 -- The value of a kind at a place, where an object's fields and an array's items are given.
@@ -44,7 +44,7 @@ unfolding treeAt fieldsAt itemsAt
 shape-tree zero s i = shape-by noField noItem s i
 shape-tree (suc l) s i = shape-by _ _ s i
 
--- Is it the kind of strings?
+-- Is it the kind of strings, of null?
 abbrev pub isStringKind : Kind → Bool
 isStringKind kind.Null = false
 isStringKind kind.False = false
@@ -54,11 +54,32 @@ isStringKind kind.String = true
 isStringKind kind.Array = false
 isStringKind kind.Object = false
 
+abbrev pub isNullKind : Kind → Bool
+isNullKind kind.Null = true
+isNullKind kind.False = false
+isNullKind kind.True = false
+isNullKind kind.Number = false
+isNullKind kind.String = false
+isNullKind kind.Array = false
+isNullKind kind.Object = false
+
 pub string-kind : (l : ℕ) (s : List ℕ) (i : ℕ)
     → string (treeAt l s i) ≡ (if isStringKind (kindAt s i) then some (record { at = i + 1; raw = wordAt s i }) else none)
 string-kind l s i = rw (shape-tree l s i) (go (kindAt s i))
   where
     go : (k : Kind) → string (shape (fieldsAt l s i) (itemsAt l s i) s i k) ≡ (if isStringKind k then some (record { at = i + 1; raw = wordAt s i }) else none)
+    go kind.Null = refl
+    go kind.False = refl
+    go kind.True = refl
+    go kind.Number = refl
+    go kind.String = refl
+    go kind.Array = refl
+    go kind.Object = refl
+
+pub null-kind : (l : ℕ) (s : List ℕ) (i : ℕ) → isNull (treeAt l s i) ≡ isNullKind (kindAt s i)
+null-kind l s i = rw (shape-tree l s i) (go (kindAt s i))
+  where
+    go : (k : Kind) → isNull (shape (fieldsAt l s i) (itemsAt l s i) s i k) ≡ isNullKind k
     go kind.Null = refl
     go kind.False = refl
     go kind.True = refl

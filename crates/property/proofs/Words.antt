@@ -13,9 +13,9 @@ use Rattle.json_walk.specs.Strings.{bytesAt, rawAt, slashed}
 use Rattle.json_tree.proofs.Trees.{choose, always}
 use Rattle.json_tree.specs.Tree.{treeAt, kindAt}
 use Rattle.event.specs.Types.{Text}
-use Rattle.event.specs.Values.{string, plain, word}
+use Rattle.event.specs.Values.{isNull, string, plain, word}
 use Rattle.property.specs.Words.{wordAt, isWordAt}
-use Rattle.property.proofs.Shapes.{isStringKind, string-kind}
+use Rattle.property.proofs.Shapes.{isStringKind, isNullKind, string-kind, null-kind}
 
 -- What was read to no place has no bytes, and so no backslash.
 pub raw-none : (s : List ℕ) (i : ℕ) → rawAt s i 0 ≡ []
@@ -26,19 +26,31 @@ pub slashed-nothing : (s : List ℕ) (i : ℕ) → slashed (rawAt s i 0) ≡ fal
 unfolding slashed
 slashed-nothing s i = rw (raw-none s i)
 
--- A value is a string where a quote stands.
-quote-first : (b : ℕ) (c d : Bool) → eqb b 0x7B ≡ c → eqb b 0x5B ≡ d → (if c then false else (if d then false else eqb b 0x22)) ≡ eqb b 0x22
-quote-first b true d p q = let e : b ≡ 0x7B = eqb-true b 0x7B p in rw e
-quote-first b false true p q = let e : b ≡ 0x5B = eqb-true b 0x5B q in rw e
-quote-first b false false p q = refl
+-- A test for one byte is not changed by asking for another before it.
+skip : (b x y : ℕ) → eqb x y ≡ false → (if eqb b x then false else eqb b y) ≡ eqb b y
+skip b x y e = go (eqb b x) refl
+  where
+    go : (c : Bool) → eqb b x ≡ c → (if c then false else eqb b y) ≡ eqb b y
+    go true p = let q : b ≡ x = eqb-true b x p in rw (q, e)
+    go false p = refl
 
 truth : (c : Bool) → (if c then true else false) ≡ c
 truth true = refl
 truth false = refl
 
+-- A value is a string where a quote stands, and null where its first letter does.
 pub quoted : (s : List ℕ) (i : ℕ) → isStringKind (kindAt s i) ≡ eqb (byte s i) 0x22
 unfolding kindAt
-quoted s i = simp (choose isStringKind, always, truth) (quote-first (byte s i) _ _ refl refl)
+quoted s i = simp (choose isStringKind, always, truth) (rw (skip _ 0x5B 0x22 refl, skip _ 0x7B 0x22 refl))
+
+null-letter : (s : List ℕ) (i : ℕ) → isNullKind (kindAt s i) ≡ eqb (byte s i) 0x6E
+unfolding kindAt
+null-letter s i =
+    simp (choose isNullKind, always, truth)
+    (rw (skip _ 0x66 0x6E refl, skip _ 0x22 0x6E refl, skip _ 0x5B 0x6E refl, skip _ 0x7B 0x6E refl))
+
+pub null-tree : (l : ℕ) (s : List ℕ) (i : ℕ) → isNull (treeAt l s i) ≡ eqb (byte s i) 0x6E
+null-tree l s i = rw (← (null-letter s i)) (null-kind l s i)
 
 pub string-text : (l : ℕ) (s : List ℕ) (i : ℕ)
     → string (treeAt l s i) ≡ (if eqb (byte s i) 0x22 then some (record { at = i + 1; raw = wordAt s i }) else none)
