@@ -34,7 +34,7 @@ pub record Storing {A B : Type 0} (g : A → B) (f : Json → Reading A) (tree :
   pub same : length after ≡ length before
 
 module _ {A : Type 0} (f : Json → Reading A) (tree : ℕ → ℕ → Json) (s : List ℕ) where
-  rest-next : (n : ℕ) → 0 < n → (e : Element) (l : ℕ)
+  pub rest-next : (n : ℕ) → 0 < n → (e : Element) (l : ℕ)
       → restOf f tree s n (Next e) l ≡
       record {
         value = f (tree l (e .value)) .value ∷ restOf f tree s (n - 1) (nextElementAt s (e .after)) l .value;

@@ -1,4 +1,6 @@
 pub mod ReadLaws
 pub mod IntegerLaws
-pub mod EntryLaws
 pub mod FieldLaws
+pub mod EntryLaws
+pub mod ListLaws
+pub mod DayLaws

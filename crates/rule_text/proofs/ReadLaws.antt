@@ -2,17 +2,16 @@
 use Prim.Native.Nat.{ℕ}
 use mathlib.Core.Bool.{Bool, true, false}
 use mathlib.Core.List.{List}
-use mathlib.Core.Option.{Option, none, some}
+use mathlib.Core.Option.{some}
 use mathlib.Core.Path.{_≡_, refl, _∙_, sym, ap}
 use Rattle.signed.specs.Choose
 use Rattle.json_text.specs.Choice.{if_then_else_}
 use Rattle.json_tree.specs.Tree.{treeAt}
 use Rattle.json_walk.specs.Strings.{same}
-use Rattle.event.specs.Reading.{Reading, right, wrong, orWrong}
+use Rattle.event.specs.Reading.{Reading, right, wrong}
 use Rattle.event.specs.Rules.{required, typed}
-use Rattle.event.specs.Values.{word}
 use Rattle.property.specs.Words.{wordAt, isWordAt}
-use Rattle.property.proofs.Words.{word-tree}
+use Rattle.property.proofs.Readings.{word-read}
 use Rattle.rule_text.specs.Reads.{Reads}
 
 pub reads-by : {A : Type 0} {tree : ℕ → Reading A} {r : Reading A} {a : A} {n : ℕ} → ((l : ℕ) → tree l ≡ r) → r ≡ record { value = a; fault = n } → Reads tree a n
@@ -21,15 +20,6 @@ reads-by {A} e h =
       value = λ l. sym (ap (λ (r : Reading A). r .value) (e l ∙ h));
       fault = λ l. sym (ap (λ (r : Reading A). r .fault) (e l ∙ h));
     }
-
-pub word-read : {A : Type 0} (a : A) (f : List ℕ → Reading A) (l : ℕ) (s : List ℕ) (i : ℕ)
-    → orWrong a f (word (treeAt l s i)) ≡ (if isWordAt s i then f (wordAt s i) else wrong a 6)
-unfolding orWrong
-word-read a f l s i = rw (word-tree l s i) (go (isWordAt s i))
-  where
-    go : (c : Bool) → orWrong a f (if c then some (wordAt s i) else none) ≡ (if c then f (wordAt s i) else wrong a 6)
-    go true = refl
-    go false = refl
 
 pub type-read : (name : List ℕ) (l : ℕ) (s : List ℕ) (i : ℕ) → typed name (some (treeAt l s i)) ≡ (if isWordAt s i then (if same (wordAt s i) name then 0 else 6) else 6)
 unfolding typed required

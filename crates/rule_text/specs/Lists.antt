@@ -26,8 +26,8 @@ listPlace s (Here m) = if eqb (byte s (m .value)) 0x5B then At (m .value) else W
 
 abbrev pub Within : ℕ → Place → Type 0
 Within n (At i) = i < n
-Within n Absent = 0 ≡ 0
-Within n Wrong = 0 ≡ 0
+Within n Absent = _≡_ {A = ℕ} 0 0
+Within n Wrong = _≡_ {A = ℕ} 0 0
 
 pub record Placed (s : List ℕ) (found : Found) (r : Place) : Type 0 where
   pub is : r ≡ listPlace s found
