@@ -95,10 +95,10 @@ pub record Flagging (tree : ℕ → ℕ → Json) (s : List ℕ) (all : ℕ → 
 pub flagging-starts : (tree : ℕ → ℕ → Json) (s : List ℕ) (step : ElementStep) → Flagging tree s (λ l. restOf readNDay tree s (length s) step l) step (length s) false
 flagging-starts tree s step = record { any = λ l. refl }
 
-pub flagging-goes-on : (tree : ℕ → ℕ → Json) (s : List ℕ) (all : ℕ → Reading (List NDay)) {step next : ElementStep} {e : Element} {n : ℕ} {a b : Bool} {z : ℤ} → step ≡ Next e → 0 < n
+pub flagging-goes-on : (tree : ℕ → ℕ → Json) (s : List ℕ) (all : ℕ → Reading (List NDay)) {step next : ElementStep} {e : Element} {n : ℕ} {a b : Bool} (z : ℤ) → step ≡ Next e → 0 < n
     → Flagging tree s all step n a → next ≡ nextElementAt s (e .after) → b ≡ (a || isSome (nthFrom z)) → ((l : ℕ) → nthFrom z ≡ readNDay (tree l (e .value)) .value .nthOfPeriod)
     → Flagging tree s all next (n - 1) b
-flagging-goes-on tree s all {step} {next} {e} {n} {a} {b} {z} p h c q w r = rw (q, w) (record { any = λ l. more l })
+flagging-goes-on tree s all {step} {next} {e} {n} {a} {b} z p h c q w r = rw (q, w) (record { any = λ l. more l })
   where
     more : (l : ℕ) → ((a || isSome (nthFrom z)) || anyNth (restOf readNDay tree s (n - 1) (nextElementAt s (e .after)) l .value)) ≡ anyNth (all l .value)
     more l =

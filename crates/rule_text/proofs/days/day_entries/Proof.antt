@@ -1,3 +1,4 @@
+use native.Mathlib.Omega.{arith}
 use Rattle.rule_text.proofs.DayLaws.{Flagging, flagging-starts, flagging-goes-on, days-end, nday-nth}
 use Rattle.rule_text.proofs.EntryLaws.{Counting, Storing, rest-stop, rest-none, counting-goes-on, storing-goes-on, counting-starts, storing-starts}
 use Rattle.rule_text.specs.Lists.{dayOf, nthOf}
@@ -75,7 +76,8 @@ returns c =
     days-end _ _ _ _ _ _ _ (c .before .before .before .loop .inv .0) (c .before .before .before .loop .inv .1 .0) (c .before .before .before .loop .inv .1 .1 .0) (c .before .before .before .loop .inv .1 .1 .1) (rest-stop _ _ _ _ (c .enum-told .given .1))
 
 add-count : tie.Need-add-count Inv-loop μ-loop
-add-count c = search needs
+add-count c =
+    omega (arith, c .before .before .before .before .before .before .before .before .before .before .before .before .before .before .before .before .before .loop .inv .0 .room, c .before .before .before .before .before .before .before .before .before .before .before .before .before .before .before .before .loop-test .taken, c .before .before .before .before .before .before .before .before .before .before .before .before .before .before .before .before .before .before .before .before .before .good)
 
 sub-n : tie.Need-sub-n Inv-loop μ-loop
 sub-n c = search needs
@@ -84,13 +86,16 @@ loop-less : tie.Need-loop-less Inv-loop μ-loop
 loop-less c = search needs
 
 loop-again : tie.Need-loop-again Inv-loop μ-loop
-loop-again c =
+loop-again c = (
+  counting-goes-on _ _ _ _ (c .before .before .before .before .before .before .before .before .before .before .before .before .before .before .step .given .1) (c .before .before .before .before .before .before .before .before .before .before .before .before .before .before .before .before .loop-test .taken) (c .before .before .before .before .before .before .before .before .before .before .before .before .before .before .before .before .before .loop .inv .0) (c .next-element .ensures) (c .before .lower .ensures) (c .before .before .before .before .before .before .before .before .before .before .before .before .read-nday .ensures .fault),
+  (
+    storing-goes-on _ _ _ _ _ (c .before .before .before .before .before .before .before .before .before .before .before .before .before .before .step .given .1) (c .before .before .before .before .before .before .before .before .before .before .before .before .before .before .before .before .loop-test .taken) (c .before .before .before .before .before .before .before .before .before .before .before .before .before .before .before .before .before .loop .inv .1 .0) (c .next-element .ensures) (c .before .before .before .before .before .before .before .before .before .before .put-name .ensures) (c .before .before .before .before .before .before .before .before .before .before .before .before .read-nday .ensures .day),
     (
-      counting-goes-on _ _ _ _ (c .before .before .before .before .before .before .before .before .before .before .before .before .before .before .step .given .1) (c .before .before .before .before .before .before .before .before .before .before .before .before .before .before .before .before .loop-test .taken) (c .before .before .before .before .before .before .before .before .before .before .before .before .before .before .before .before .before .loop .inv .0) (c .next-element .ensures) (c .before .lower .ensures) (c .before .before .before .before .before .before .before .before .before .before .before .before .read-nday .ensures .fault),
-      (storing-goes-on _ _ _ _ _ (c .before .before .before .before .before .before .before .before .before .before .before .before .before .before .step .given .1) (c .before .before .before .before .before .before .before .before .before .before .before .before .before .before .before .before .loop-test .taken) (c .before .before .before .before .before .before .before .before .before .before .before .before .before .before .before .before .before .loop .inv .1 .0) (c .next-element .ensures) (c .before .before .before .before .before .before .before .before .before .before .put-name .ensures) (c .before .before .before .before .before .before .before .before .before .before .before .before .read-nday .ensures .day),
-      (storing-goes-on _ _ _ _ _ (c .before .before .before .before .before .before .before .before .before .before .before .before .before .before .step .given .1) (c .before .before .before .before .before .before .before .before .before .before .before .before .before .before .before .before .loop-test .taken) (c .before .before .before .before .before .before .before .before .before .before .before .before .before .before .before .before .before .loop .inv .1 .1 .0) (c .next-element .ensures) (c .before .before .before .before .before .put .ensures) (λ l. rw (back (c .before .before .before .before .before .before .before .before .before .before .before .before .read-nday .result .nth) (c .before .before .before .struct-told2 .given .1 .0 .1)) (c .before .before .before .before .before .before .before .before .before .before .before .before .read-nday .ensures .nth l)),
-      flagging-goes-on _ _ _ (c .before .before .before .before .before .before .before .before .before .before .before .before .before .before .step .given .1) (c .before .before .before .before .before .before .before .before .before .before .before .before .before .before .before .before .loop-test .taken) (c .before .before .before .before .before .before .before .before .before .before .before .before .before .before .before .before .before .loop .inv .1 .1 .1) (c .next-element .ensures) (c .before .before .or-nth .ensures) (λ l. rw (back (c .before .before .before .before .before .before .before .before .before .before .before .before .read-nday .result .nth) (c .before .before .before .struct-told2 .given .1 .0 .1)) (ap nthFrom (c .before .before .before .before .before .before .before .before .before .before .before .before .read-nday .ensures .nth l) ∙ nday-nth _)))),
-    )
+      storing-goes-on _ _ _ _ _ (c .before .before .before .before .before .before .before .before .before .before .before .before .before .before .step .given .1) (c .before .before .before .before .before .before .before .before .before .before .before .before .before .before .before .before .loop-test .taken) (c .before .before .before .before .before .before .before .before .before .before .before .before .before .before .before .before .before .loop .inv .1 .1 .0) (c .next-element .ensures) (c .before .before .before .before .before .put .ensures) (λ l. rw (back (c .before .before .before .before .before .before .before .before .before .before .before .before .read-nday .result .nth) (c .before .before .before .struct-told2 .given .1 .0 .1)) (c .before .before .before .before .before .before .before .before .before .before .before .before .read-nday .ensures .nth l)),
+      flagging-goes-on _ _ _ _ (c .before .before .before .before .before .before .before .before .before .before .before .before .before .before .step .given .1) (c .before .before .before .before .before .before .before .before .before .before .before .before .before .before .before .before .loop-test .taken) (c .before .before .before .before .before .before .before .before .before .before .before .before .before .before .before .before .before .loop .inv .1 .1 .1) (c .next-element .ensures) (c .before .before .or-nth .ensures) (λ l. rw (back (c .before .before .before .before .before .before .before .before .before .before .before .before .read-nday .result .nth) (c .before .before .before .struct-told2 .given .1 .0 .1)) (ap nthFrom (c .before .before .before .before .before .before .before .before .before .before .before .before .read-nday .ensures .nth l) ∙ nday-nth _)),
+    ),
+  ),
+)
 
 same-length-3 : tie.Need-same-length-3 Inv-loop μ-loop
 same-length-3 c =

@@ -73,11 +73,10 @@ loop-less : tie.Need-loop-less Inv-loop μ-loop
 loop-less c = search needs
 
 loop-again : tie.Need-loop-again Inv-loop μ-loop
-loop-again c =
-    (
-      counting-goes-on _ _ _ _ (c .before .before .before .before .before .before .before .before .before .before .step .given .1) (c .before .before .before .before .before .before .before .before .before .before .before .before .loop-test .taken) (c .before .before .before .before .before .before .before .before .before .before .before .before .before .loop .inv .0) (c .next-element .ensures) (c .before .lower .ensures) (λ l. c .before .before .fault-of .ensures ∙ ap (λ (r : Reading ℕ). r .fault) (c .before .before .before .before .before .before .before .before .read-month .ensures l)),
-      storing-goes-on _ _ _ _ _ (c .before .before .before .before .before .before .before .before .before .before .step .given .1) (c .before .before .before .before .before .before .before .before .before .before .before .before .loop-test .taken) (c .before .before .before .before .before .before .before .before .before .before .before .before .before .loop .inv .1) (c .next-element .ensures) (c .before .before .before .before .before .put-name .ensures) (λ l. c .before .before .before .before .before .before .number-of .ensures ∙ ap (λ (r : Reading ℕ). r .value) (c .before .before .before .before .before .before .before .before .read-month .ensures l)),
-    )
+loop-again c = (
+  counting-goes-on _ _ _ _ (c .before .before .before .before .before .before .before .before .before .before .step .given .1) (c .before .before .before .before .before .before .before .before .before .before .before .before .loop-test .taken) (c .before .before .before .before .before .before .before .before .before .before .before .before .before .loop .inv .0) (c .next-element .ensures) (c .before .lower .ensures) (λ l. c .before .before .fault-of .ensures ∙ ap (λ (r : Reading ℕ). r .fault) (c .before .before .before .before .before .before .before .before .read-month .ensures l)),
+  storing-goes-on _ _ _ _ _ (c .before .before .before .before .before .before .before .before .before .before .step .given .1) (c .before .before .before .before .before .before .before .before .before .before .before .before .loop-test .taken) (c .before .before .before .before .before .before .before .before .before .before .before .before .before .loop .inv .1) (c .next-element .ensures) (c .before .before .before .before .before .put-name .ensures) (λ l. c .before .before .before .before .before .before .number-of .ensures ∙ ap (λ (r : Reading ℕ). r .value) (c .before .before .before .before .before .before .before .before .read-month .ensures l)),
+)
 
 same-length-2 : tie.Need-same-length-2 Inv-loop μ-loop
 same-length-2 c =
