@@ -4,3 +4,8 @@ pub mod FieldLaws
 pub mod EntryLaws
 pub mod ListLaws
 pub mod DayLaws
+pub mod JoinLaws
+pub mod EndLaws
+pub mod CollectLaws
+pub mod RuleLaws
+pub mod PlaceLaws

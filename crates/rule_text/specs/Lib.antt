@@ -1,3 +1,5 @@
 pub mod Reads
 pub mod Members
 pub mod Lists
+pub mod Parts
+pub mod Places

@@ -1,10 +1,16 @@
 // Rules of recurrence, read at the place where they stand in a text that is known to be JSON. The text is the store: a value is its
 // place, and its meaning is the tree's value there.
+pub mod collected;
 pub mod days;
+pub mod ends;
 pub mod entries;
+pub mod heads;
 pub mod lists;
 pub mod members;
 pub mod numbers;
+pub mod others;
+pub mod places;
+pub mod rules;
 pub mod spelled;
 
 // A count that was read, and its fault.
@@ -44,4 +50,46 @@ pub enum Place {
     At(usize),
     Absent,
     Wrong,
+}
+
+// A by-list that was read: its entries are the first of the array.
+pub struct NumberList {
+    pub list: [i64; 64],
+    pub count: usize,
+    pub fault: u32,
+}
+
+pub struct MonthList {
+    pub list: [u32; 64],
+    pub count: usize,
+    pub fault: u32,
+}
+
+// byDay: weekdays and beside each its nthOfPeriod, and whether some entry has one.
+pub struct DayList {
+    pub weekdays: [u32; 64],
+    pub nths: [i64; 64],
+    pub count: usize,
+    pub any: bool,
+    pub fault: u32,
+}
+
+// The first members of a rule, and their lowest fault.
+pub struct Head {
+    pub frequency: rule::Frequency,
+    pub interval: u64,
+    pub first: u32,
+    pub fault: u32,
+}
+
+// What ends a rule, and its fault.
+pub struct Ending {
+    pub end: rule::End,
+    pub fault: u32,
+}
+
+// A rule that was read, and its fault. Where it has one the rule does not matter.
+pub struct Read {
+    pub rule: rule::Rule,
+    pub fault: u32,
 }
