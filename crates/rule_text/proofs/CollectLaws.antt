@@ -32,7 +32,7 @@ take-sets before v h =
 
 -- ---- 9: over "64 entries in a by-list"
 
-few : {A : Type 0} (v : List A) (c : Bool) → ltb 64 (length v) ≡ c → (if c then 9 else 0) ≡ 0 → length v ≤ 64
+few : {A : Type 0} (v : List A) (c : Bool) → ltb 64 (length v) ≡ c → _≡_ {A = ℕ} (if c then 9 else 0) 0 → length v ≤ 64
 few v true e z = absurd (omega arith)
 few v false e z = ltb-false 64 (length v) e
 

@@ -19,7 +19,7 @@ use Rattle.rule_text.specs.Parts.{endsFault, EndsRead}
 use Rattle.rule_text.proofs.JoinLaws.{lower-zero}
 
 never : {P : Type 0} (a b : ℕ) → lower a (lower b 7) ≡ 0 → P
-never a b e = let p : 7 ≡ 0 = lower-zero b 7 (lower-zero a _ e .1) .1 in absurd (omega arith)
+never a b e = let p : _≡_ {A = ℕ} 7 0 = lower-zero b 7 (lower-zero a _ e .1) .1 in absurd (omega arith)
 
 module _ (s : List ℕ) (i : ℕ) where
   pub ends-both : (u c : ℕ) {a b k n : ℕ} → ((l : ℕ) → memberAt l s i (ascii "until") ≡ some (treeAt l s u)) → ((l : ℕ) → memberAt l s i (ascii "count") ≡ some (treeAt l s c))

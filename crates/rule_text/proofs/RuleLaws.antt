@@ -20,6 +20,8 @@ use Rattle.rule.specs.declared.Rule.{Rule}
 use Rattle.rule.specs.Written.{NDay, RecurrenceRule}
 use Rattle.rule.specs.Read.{written, Sized}
 use Rattle.words.specs.declared.Named.{Named}
+use Rattle.words.specs.declared.Named.the-variants.{Number, Wrong}
+use Rattle.words.specs.Spelled.{mo, tu, we, th, fr, sa, su}
 use Rattle.words.specs.Rules.{weekdayOf}
 use Rattle.event.specs.Ascii.{ascii}
 use Rattle.event.specs.Values.{word}
@@ -38,9 +40,7 @@ below-seven false a b p q = q
 
 pub weekday-named : (raw : List ℕ) → fromNamed (weekdayOf raw) .value < 7
 unfolding weekdayOf
-weekday-named raw =
-    below-seven _ _ _ (omega arith) (below-seven _ _ _ (omega arith) (below-seven _ _ _ (omega arith) (below-seven _ _ _ (omega arith)
-    (below-seven _ _ _ (omega arith) (below-seven _ _ _ (omega arith) (below-seven _ _ _ (omega arith) (omega arith)))))))
+weekday-named raw = below-seven (same raw mo) (Number 0) _ (omega arith) (below-seven (same raw tu) (Number 1) _ (omega arith) (below-seven (same raw we) (Number 2) _ (omega arith) (below-seven (same raw th) (Number 3) _ (omega arith) (below-seven (same raw fr) (Number 4) _ (omega arith) (below-seven (same raw sa) (Number 5) _ (omega arith) (below-seven (same raw su) (Number 6) (Wrong 6) (omega arith) (omega arith)))))))
 
 weekday-word : (w : Option (List ℕ)) → orWrong 0 (λ raw. fromNamed (weekdayOf raw)) w .value < 7
 unfolding orWrong

@@ -45,7 +45,16 @@ pub fn nth_fault(frequency: Frequency, any: bool) -> u32
 }
 
 // The faults of the parts of a rule, joined.
-pub fn join(head: u32, days: u32, dates: u32, months: u32, positions: u32, ends: u32, nth: u32, other: u32) -> u32
+pub fn join(
+    head: u32,
+    days: u32,
+    dates: u32,
+    months: u32,
+    positions: u32,
+    ends: u32,
+    nth: u32,
+    other: u32,
+) -> u32
     ensures { λ r. ⌜ r ≡ joined head days dates months positions ends nth other ⌝ }
 {
     let last = lower(ends, lower(nth, other));

@@ -64,7 +64,16 @@ fn rule_in(text: &[u8], at: usize) -> Read
     let frequency = head.frequency;
     let nth = nth_fault(frequency, days.any);
     let other = other_fault(text, at);
-    let fault = join(head.fault, days.fault, dates.fault, year.fault, positions.fault, ends.fault, nth, other);
+    let fault = join(
+        head.fault,
+        days.fault,
+        dates.fault,
+        year.fault,
+        positions.fault,
+        ends.fault,
+        nth,
+        other,
+    );
     let named = days.weekdays;
     let nths = days.nths;
     let datelist = dates.list;

@@ -8,7 +8,7 @@ use Rattle.rule_text.proofs.others.nth_fault.Tie as tie
 
 returns : tie.Need-returns
 returns c =
-    nth-none _ _ (not-true (c .before .args .any) (c .if1 .taken))
+    nth-none (c .before .args .frequency) (c .before .args .any) (not-true (c .before .args .any) (c .if1 .taken))
 
 enum-told : tie.Need-enum-told
 enum-told c = search needs

@@ -63,11 +63,10 @@ loop-less : tie.Need-loop-less Inv-loop μ-loop
 loop-less c = search needs
 
 loop-again : tie.Need-loop-again Inv-loop μ-loop
-loop-again c =
-    (
-      counting-goes-on _ _ _ _ (c .before .before .before .before .before .before .step .given .1) (c .before .before .before .before .before .before .before .before .loop-test .taken) (c .before .before .before .before .before .before .before .before .before .loop .inv .0) (c .next-element .ensures) (sym (none-lower 0)) (λ l. refl),
-      storing-goes-on _ _ _ _ _ (c .before .before .before .before .before .before .step .given .1) (c .before .before .before .before .before .before .before .before .loop-test .taken) (c .before .before .before .before .before .before .before .before .before .loop .inv .1) (c .next-element .ensures) (c .before .before .before .put-place .ensures) (λ l. sym (place-tree l _ _)),
-    )
+loop-again c = (
+  counting-goes-on _ _ _ _ (c .before .before .before .before .before .before .step .given .1) (c .before .before .before .before .before .before .before .before .loop-test .taken) (c .before .before .before .before .before .before .before .before .before .loop .inv .0) (c .next-element .ensures) (sym (none-lower 0)) (λ l. refl),
+  storing-goes-on _ _ _ _ _ (c .before .before .before .before .before .before .step .given .1) (c .before .before .before .before .before .before .before .before .loop-test .taken) (c .before .before .before .before .before .before .before .before .before .loop .inv .1) (c .next-element .ensures) (c .before .before .before .put-place .ensures) (λ l. sym (place-tree l _ _)),
+)
 
 same-length-2 : tie.Need-same-length-2 Inv-loop μ-loop
 same-length-2 c =
