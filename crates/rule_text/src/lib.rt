@@ -1,17 +1,17 @@
 // Rules of recurrence, read at the place where they stand in a text that is known to be JSON. The text is the store: a value is its
 // place, and its meaning is the tree's value there.
-pub mod collected;
-pub mod days;
-pub mod ends;
-pub mod entries;
-pub mod heads;
-pub mod lists;
-pub mod members;
-pub mod numbers;
-pub mod others;
+mod collected;
+mod days;
+mod ends;
+mod entries;
+mod heads;
+mod lists;
+mod members;
+mod numbers;
+mod others;
 pub mod places;
 pub mod rules;
-pub mod spelled;
+mod spelled;
 
 // A count that was read, and its fault.
 pub struct Number {
