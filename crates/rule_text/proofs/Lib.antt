@@ -9,3 +9,4 @@ pub mod EndLaws
 pub mod CollectLaws
 pub mod RuleLaws
 pub mod PlaceLaws
+pub mod BoundLaws

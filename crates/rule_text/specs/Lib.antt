@@ -3,3 +3,4 @@ pub mod Members
 pub mod Lists
 pub mod Parts
 pub mod Places
+pub mod Bounds
