@@ -1,9 +1,9 @@
 -- A list that has no fault fits the array of 64 entries, and is its beginning.
-use Prim.Native.Nat.{ℕ, zero, suc, _+_, _≤_, _<_}
+use Prim.Native.Nat.{ℕ, _+_, _≤_}
 use mathlib.Core.Bool.{Bool, true, false}
-use mathlib.Core.List.{List, [], _∷_, _++_, map}
+use mathlib.Core.List.{List, [], _∷_, map}
 use mathlib.Core.Option.{Option, none, some}
-use mathlib.Core.Path.{_≡_, refl, sym, ap, _∙_}
+use mathlib.Core.Path.{_≡_, refl, sym, _∙_}
 use native.Mathlib.Omega.{arith}
 use lib.Dec.{ltb}
 use lib.IntN.{ℤ}
@@ -11,12 +11,11 @@ use lib.ListN.{length, take, drop, length-map}
 use lib.Seq.{sets, sets-eq, take-append-seam}
 use borrow.Author.Tests.{ltb-false}
 use Rattle.signed.specs.Choose.{if_then_else_}
-use Rattle.fault.specs.Fault.{lower}
 use Rattle.json_tree.specs.Tree.{Json}
 use Rattle.rule.specs.Written.{NDay}
 use Rattle.rule.specs.Read.{ndays}
 use Rattle.event.specs.Values.{array}
-use Rattle.event.specs.Reading.{Reading, right, wrong, orWrong, optional, readAll, atMost, limited}
+use Rattle.event.specs.Reading.{Reading, orWrong, optional, readAll, atMost, limited}
 use Rattle.event.specs.Rules.{readNDay, entriesOf, byList}
 use Rattle.rule_text.specs.Reads.{Entries}
 use Rattle.rule_text.specs.Lists.{dayOf, nthOf, DayEntries}
@@ -25,7 +24,7 @@ use Rattle.rule_text.proofs.JoinLaws.{lower-zero}
 use Rattle.rule_text.proofs.ListLaws.{entries-value, entries-length}
 use Rattle.rule_text.proofs.DayLaws.{ndays-back, weekdays-length, nths-length}
 
-take-sets : {A : Type 0} (before v : List A) → length v ≤ length before → take (length v) (sets before 0 v) ≡ v
+pub take-sets : {A : Type 0} (before v : List A) → length v ≤ length before → take (length v) (sets before 0 v) ≡ v
 take-sets before v h =
     let p : 0 + length v ≤ length before = omega arith in
     rw (sets-eq v before 0 p) (take-append-seam v (drop (0 + length v) before))

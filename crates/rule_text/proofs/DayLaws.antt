@@ -1,30 +1,30 @@
 -- Entries of `byDay`: a weekday, and a number for `nthOfPeriod`.
-use Prim.Native.Nat.{ℕ, zero, suc, _+_, _-_, _≤_, _<_}
+use Prim.Native.Nat.{ℕ, zero, suc, _-_, _<_}
 use mathlib.Core.Bool.{Bool, true, false, _||_}
 use mathlib.Core.List.{List, [], _∷_, map}
 use mathlib.Core.Option.{Option, none, some}
-use mathlib.Core.Path.{_≡_, refl, ap, sym, _∙_}
+use mathlib.Core.Path.{_≡_, refl, sym, _∙_}
 use native.Mathlib.Omega.{arith}
-use lib.Dec.{eqb, ltb}
-use lib.IntN.{ℤ, pos, negsuc, natAbs}
+use lib.Dec.{eqb}
+use lib.IntN.{ℤ, pos, negsuc}
 use lib.ListN.{length}
-use lib.Seq.{sets, length-sets}
+use lib.Seq.{length-sets}
 use borrow.Author.Tests.{lt-ltb}
 use Rattle.signed.specs.Choose.{if_then_else_}
 use Rattle.json_text.specs.Bytes.{byte}
 use Rattle.rule.specs.Written.{NDay}
 use Rattle.rule.specs.Read.{nthFrom, ndays}
-use Rattle.json_walk.specs.Walk.{elementsFrom, nextElementAt}
+use Rattle.json_walk.specs.Walk.{nextElementAt}
 use Rattle.json_walk.specs.declared.Element.{Element}
 use Rattle.json_walk.specs.declared.ElementStep.{ElementStep}
-use Rattle.json_walk.specs.declared.ElementStep.the-variants.{Next, Stop}
-use Rattle.json_tree.specs.Tree.{Json, Fields, itemsOf, treeAt}
-use Rattle.event.specs.Values.{listOf, object}
+use Rattle.json_walk.specs.declared.ElementStep.the-variants.{Next}
+use Rattle.json_tree.specs.Tree.{Json, Fields, treeAt}
+use Rattle.event.specs.Values.{object}
 use Rattle.event.specs.Reading.{Reading, right, wrong, orWrong, readAll}
-use Rattle.event.specs.Rules.{anyNth, readSigned, readNth, ndayIn, readNDay, entriesOf}
+use Rattle.event.specs.Rules.{anyNth, readNth, ndayIn, readNDay, entriesOf}
 use Rattle.rule_text.specs.Members.{fieldsAt}
-use Rattle.rule_text.specs.Lists.{nthNumber, isSome, dayOf, nthOf, listFault, DayReads, DayEntries}
-use Rattle.rule_text.proofs.EntryLaws.{restOf, Counting, Storing, rest-next, counting-goes-on, counting-ends, storing-goes-on, storing-ends}
+use Rattle.rule_text.specs.Lists.{nthNumber, isSome, dayOf, nthOf, listFault, DayEntries}
+use Rattle.rule_text.proofs.EntryLaws.{restOf, Counting, Storing, rest-next, counting-ends, storing-ends}
 use Rattle.rule_text.proofs.IntegerLaws.{nth-read}
 use Rattle.rule_text.proofs.ListLaws.{object-is, object-not, entries-value, entries-fault}
 

@@ -1,21 +1,19 @@
 -- What ends a rule, by which of `until` and `count` are there.
-use Prim.Native.Nat.{ℕ, suc}
+use Prim.Native.Nat.{ℕ}
 use mathlib.Core.List.{List}
-use mathlib.Core.Option.{Option, none, some}
-use mathlib.Core.Path.{_≡_, refl, sym, ap, ap₂, _∙_}
+use mathlib.Core.Option.{none, some}
+use mathlib.Core.Path.{_≡_, sym, ap, ap₂, _∙_}
 use native.Mathlib.Omega.{arith}
 use Rattle.fault.specs.Fault.{lower}
 use Rattle.fault.proofs.Laws.{none-lower, lower-none}
-use Rattle.json_tree.specs.Tree.{Json, treeAt}
-use Rattle.rule.specs.declared.End.{End}
+use Rattle.json_tree.specs.Tree.{treeAt}
 use Rattle.rule.specs.declared.End.the-variants.{Never, Until, Count}
 use Rattle.rule.specs.Read.{untilFrom, countFrom}
 use Rattle.event.specs.Ascii.{ascii}
 use Rattle.event.specs.Properties.{readUntil}
-use Rattle.event.specs.Reading.{Reading}
 use Rattle.event.specs.Rules.{maybe, bothEnds, readCount}
 use Rattle.rule_text.specs.Members.{memberAt}
-use Rattle.rule_text.specs.Parts.{endsFault, EndsRead}
+use Rattle.rule_text.specs.Parts.{EndsRead}
 use Rattle.rule_text.proofs.JoinLaws.{lower-zero}
 
 never : {P : Type 0} (a b : ℕ) → lower a (lower b 7) ≡ 0 → P

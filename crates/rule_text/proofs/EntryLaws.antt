@@ -1,5 +1,5 @@
 -- A walk over the entries of an array that reads each, for any reader: the entries counted, the faults joined, the values stored.
-use Prim.Native.Nat.{ℕ, zero, suc, _+_, _-_, _≤_, _<_}
+use Prim.Native.Nat.{ℕ, suc, _+_, _-_, _≤_, _<_}
 use mathlib.Core.List.{List, [], _∷_, map, map-id}
 use mathlib.Core.Path.{_≡_, refl, ap, sym, _∙_}
 use native.Mathlib.Numerals.{add-one}
@@ -8,7 +8,7 @@ use lib.ListN.{length, set, length-set}
 use lib.Seq.{sets}
 use Rattle.fault.specs.Fault.{lower}
 use Rattle.fault.proofs.Laws.{none-lower, lower-none, lower-assoc}
-use Rattle.json_walk.specs.Walk.{elementsFrom, nextElementAt, firstElementAt}
+use Rattle.json_walk.specs.Walk.{elementsFrom, nextElementAt}
 use Rattle.json_walk.specs.declared.Element.{Element}
 use Rattle.json_walk.specs.declared.ElementStep.{ElementStep}
 use Rattle.json_walk.specs.declared.ElementStep.the-variants.{Next, Stop}
@@ -16,7 +16,7 @@ use Rattle.json_walk.proofs.Walks.{elements-one, elements-end, elements-none}
 use Rattle.json_tree.specs.Tree.{Json, itemsOf}
 use Rattle.event.specs.Values.{listOf}
 use Rattle.event.specs.Reading.{Reading, right, readAll}
-use Rattle.rule_text.specs.Reads.{Reads, Entries}
+use Rattle.rule_text.specs.Reads.{Entries}
 
 -- The reading of the entries from a step on, at most n.
 abbrev pub restOf : {A : Type 0} → (Json → Reading A) → (ℕ → ℕ → Json) → List ℕ → ℕ → ElementStep → ℕ → Reading (List A)

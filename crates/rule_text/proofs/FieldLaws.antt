@@ -1,8 +1,8 @@
 -- A member that was found, or not, by its place is the tree's.
 use Prim.Native.Nat.{ℕ}
 use mathlib.Core.List.{List}
-use mathlib.Core.Option.{Option, none, some}
-use mathlib.Core.Path.{_≡_, refl}
+use mathlib.Core.Option.{none, some}
+use mathlib.Core.Path.{_≡_}
 use Rattle.json_walk.specs.Walk.{membersOf}
 use Rattle.json_walk.specs.declared.Member.{Member}
 use Rattle.json_tree.specs.Tree.{treeAt}

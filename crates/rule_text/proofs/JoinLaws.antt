@@ -1,8 +1,10 @@
 -- Faults joined, and parted again: no fault of the whole is none of a part.
-use Prim.Native.Nat.{ℕ, zero, suc, _≤_, _<_}
+use Prim.Native.Nat.{ℕ, zero, suc, _≤_}
+use mathlib.Core.Bool.{Bool, true, false}
 use mathlib.Core.Path.{_≡_, refl, sym, ap, _∙_}
 use native.Mathlib.Omega.{arith}
 use native.Mathlib.Decide.{decLe}
+use Rattle.signed.specs.Choose.{if_then_else_}
 use Rattle.fault.specs.Fault.{lower}
 use Rattle.fault.proofs.Laws.{none-lower, lower-none, lower-left, lower-right, lower-assoc, lower-comm}
 use Rattle.rule_text.specs.Parts.{joined}
@@ -15,6 +17,11 @@ lower-zero (suc a) (suc b) e = go (decLe (suc a) (suc b))
     go : Dec (suc a ≤ suc b) → (suc a ≡ 0) × (suc b ≡ 0)
     go (yes h) = let p : suc a ≡ 0 = sym (lower-left (suc a) (suc b) (omega arith) h) ∙ e in absurd (omega arith)
     go (no h) = let p : suc b ≡ 0 = sym (lower-right (suc a) (suc b) (omega arith) (omega arith)) ∙ e in absurd (omega arith)
+
+-- 9 joins where a limit is passed.
+pub lower-limit : (c : Bool) (n : ℕ) → lower n (if c then 9 else 0) ≡ (if c then lower n 9 else n)
+lower-limit true n = refl
+lower-limit false n = lower-none n
 
 lower-swap : (a b c : ℕ) → lower a (lower b c) ≡ lower b (lower a c)
 lower-swap a b c = lower-assoc a b c ∙ ap (λ (x : ℕ). lower x c) (lower-comm a b) ∙ sym (lower-assoc b a c)

@@ -9,4 +9,6 @@ pub mod EndLaws
 pub mod CollectLaws
 pub mod RuleLaws
 pub mod PlaceLaws
+pub mod MonthBounds
+pub mod UntilBounds
 pub mod BoundLaws

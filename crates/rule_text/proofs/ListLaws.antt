@@ -1,17 +1,15 @@
 -- A by-list at a place is the tree's.
-use Prim.Native.Nat.{ℕ, zero, suc, _≤_, _<_}
+use Prim.Native.Nat.{ℕ, suc, _<_}
 use mathlib.Core.Bool.{Bool, true, false}
-use mathlib.Core.List.{List, [], _∷_, map}
-use mathlib.Core.Option.{Option, none, some}
-use mathlib.Core.Path.{_≡_, refl, ap, sym, _∙_}
+use mathlib.Core.List.{List, [], _∷_}
+use mathlib.Core.Option.{none, some}
+use mathlib.Core.Path.{_≡_, refl}
 use native.Mathlib.Omega.{arith}
 use lib.Dec.{eqb, ltb}
 use lib.ListN.{length}
-use lib.Seq.{sets, length-sets}
+use lib.Seq.{length-sets}
 use borrow.Author.Tests.{eqb-true, ne-eqb}
 use Rattle.signed.specs.Choose.{if_then_else_}
-use Rattle.fault.specs.Fault.{lower}
-use Rattle.fault.proofs.Laws.{lower-none}
 use Rattle.json_text.specs.Bytes.{byte}
 use Rattle.json_walk.specs.Walk.{membersOf, elementsOf}
 use Rattle.json_tree.specs.Tree.{Json, scalarTree, treeBy, treeAt, itemsOf}
@@ -27,6 +25,7 @@ use Rattle.rule_text.specs.Members.{fieldsAt, memberAt}
 use Rattle.rule_text.specs.Reads.{Entries}
 use Rattle.rule_text.specs.Lists.{listPlace, Within, listFault}
 use Rattle.rule_text.specs.declared.Place.{Place}
+use Rattle.rule_text.proofs.JoinLaws.{lower-limit}
 use Rattle.rule_text.specs.declared.Place.the-variants.{At, Absent, Wrong}
 
 -- ---- arrays and objects
@@ -79,14 +78,10 @@ module _ {A : Type 0} (f : Json → Reading A) where
   entries-value [] = refl
   entries-value (v ∷ vs) = refl
 
-  limited-fault : (m n : ℕ) (c : Bool) → ltb 64 m ≡ c → lower n (if c then 9 else 0) ≡ (if c then lower n 9 else n)
-  limited-fault m n true e = refl
-  limited-fault m n false e = lower-none n
-
   pub entries-fault : (vs : List Json) → entriesOf f vs .fault ≡ listFault (length (readAll f vs .value)) (readAll f vs .fault)
   unfolding entriesOf readAll limited atMost listFault
   entries-fault [] = refl
-  entries-fault (v ∷ vs) = rw (ne-eqb (suc (length (readAll f vs .value))) 0 (λ e. omega arith)) (limited-fault (suc (length (readAll f vs .value))) _ _ refl)
+  entries-fault (v ∷ vs) = rw (ne-eqb (suc (length (readAll f vs .value))) 0 (λ e. omega arith)) (lower-limit (ltb 64 (suc (length (readAll f vs .value)))) _)
 
 pub entries-same : {A : Type 0} {tree other : ℕ → Reading (List A)} {before after : List A} {m n : ℕ} → Entries other before after m n → ((l : ℕ) → tree l ≡ other l) → Entries tree before after m n
 entries-same {A} h e =

@@ -1,14 +1,12 @@
 -- A rule from its parts.
-use Prim.Native.Nat.{ℕ, zero, suc, _≤_, _<_}
+use Prim.Native.Nat.{ℕ, suc, _<_}
 use mathlib.Core.Bool.{Bool, true, false}
-use mathlib.Core.List.{List, [], _∷_}
+use mathlib.Core.List.{List}
 use mathlib.Core.Option.{Option, none, some}
-use mathlib.Core.Path.{_≡_, refl, sym, ap, ap₂, _∙_}
+use mathlib.Core.Path.{_≡_, refl, sym, ap₂, _∙_}
 use native.Mathlib.Omega.{arith}
 use lib.Dec.{eqb}
 use lib.IntN.{ℤ}
-use lib.ListN.{length, take}
-use Rattle.signed.specs.Choose
 use Rattle.json_text.specs.Choice.{if_then_else_}
 use Rattle.json_text.specs.Bytes.{byte}
 use Rattle.json_walk.specs.Strings.{same}
@@ -25,7 +23,7 @@ use Rattle.words.specs.Spelled.{mo, tu, we, th, fr, sa, su}
 use Rattle.words.specs.Rules.{weekdayOf}
 use Rattle.event.specs.Ascii.{ascii}
 use Rattle.event.specs.Values.{word}
-use Rattle.event.specs.Reading.{Reading, wrong, orWrong, optional}
+use Rattle.event.specs.Reading.{wrong, orWrong, optional}
 use Rattle.event.specs.Rules.{fromNamed, readWeekday, readSigned, readMonth, readNDay, byList, anyNth, nthUnder, standIn, ruleIn, readRule}
 use Rattle.rule_text.specs.Members.{fieldsAt, memberAt}
 use Rattle.rule_text.specs.Parts.{HeadRead, EndsRead, Collected, DaysCollected, nthFault, joined, otherFault, RuleIn, RuleRead}

@@ -12,7 +12,7 @@ use Rattle.rule.specs.declared.Frequency.{Frequency}
 use Rattle.rule.specs.declared.Frequency.the-variants.{Daily, Weekly, Monthly, Yearly}
 use Rattle.rule.specs.declared.End.{End}
 use Rattle.rule.specs.declared.Rule.{Rule}
-use Rattle.rule.specs.Written.{NDay, RecurrenceRule}
+use Rattle.rule.specs.Written.{NDay}
 use Rattle.rule.specs.Read.{ndays, untilFrom, countFrom, written, Sized}
 use Rattle.event.specs.Ascii.{ascii}
 use Rattle.event.specs.Properties.{readUntil}

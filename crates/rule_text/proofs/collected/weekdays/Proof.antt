@@ -1,3 +1,4 @@
+-- `rule_text::collected::weekdays` meets its contract.
 use Rattle.rule_text.proofs.CollectLaws.{days-collected, list-few, list-back}
 use mathlib.Core.Path.{refl}
 -- `rule_text::collected::weekdays` meets its contract.

@@ -1,3 +1,4 @@
+-- `rule_text::days::day_entries` meets its contract.
 use native.Mathlib.Omega.{arith}
 use Rattle.rule_text.proofs.DayLaws.{Flagging, flagging-starts, flagging-goes-on, days-end, nday-nth}
 use Rattle.rule_text.proofs.EntryLaws.{Counting, Storing, rest-stop, rest-none, counting-goes-on, storing-goes-on, counting-starts, storing-starts}

@@ -1,3 +1,4 @@
+-- `rule_text::days::or_nth` meets its contract.
 use Rattle.rule_text.proofs.DayLaws.{is-some}
 use Rattle.rule.specs.Read.{nthFrom}
 use Rattle.signed.proofs.Parts.{passed}

@@ -1,3 +1,4 @@
+-- `rule_text::days::read_nday` meets its contract.
 use Rattle.rule_text.proofs.DayLaws.{nday-is, nday-not, number-from}
 use Rattle.rule_text.specs.Lists.{nthNumber}
 use Prim.Native.Nat.{ℕ}

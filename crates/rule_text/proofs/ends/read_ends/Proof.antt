@@ -1,3 +1,4 @@
+-- `rule_text::ends::read_ends` meets its contract.
 use Rattle.rule_text.proofs.EndLaws.{ends-both, ends-count, ends-until, ends-never}
 use Rattle.rule_text.proofs.FieldLaws.{member-found, member-missing}
 use Rattle.event.specs.Reading.{Reading}

@@ -1,3 +1,4 @@
+-- `rule_text::entries::month_entries` meets its contract.
 use Rattle.rule_text.proofs.EntryLaws.{Counting, Storing, rest-stop, rest-none, counting-goes-on, storing-goes-on, counting-starts, storing-starts, entries-end}
 use Rattle.event.specs.Rules.{readMonth}
 use Rattle.event.specs.Reading.{Reading, readAll}
@@ -6,7 +7,7 @@ use Rattle.json_tree.specs.Tree.{treeAt, itemsOf}
 use Rattle.json_walk.specs.Walk.{elementsOf}
 use mathlib.Core.Path.{ap, _∙_}
 use mathlib.Core.List.{List}
-use Prim.Native.Nat.{ℕ, suc}
+use Prim.Native.Nat.{ℕ}
 -- `rule_text::entries::month_entries` meets its contract.
 use borrow.Author.Needs.{needs}
 use Rattle.rule_text.proofs.entries.month_entries.Statement.{statement}

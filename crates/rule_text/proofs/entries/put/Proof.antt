@@ -1,3 +1,4 @@
+-- `rule_text::entries::put` meets its contract.
 use lib.Seq.{set-out}
 use mathlib.Core.Path.{sym}
 use borrow.Author.Needs.{needs}

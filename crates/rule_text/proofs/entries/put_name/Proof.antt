@@ -1,3 +1,4 @@
+-- `rule_text::entries::put_name` meets its contract.
 use lib.Seq.{set-out}
 use mathlib.Core.Path.{sym}
 -- `rule_text::entries::put_name` meets its contract.

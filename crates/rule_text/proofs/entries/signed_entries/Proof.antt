@@ -1,3 +1,4 @@
+-- `rule_text::entries::signed_entries` meets its contract.
 use Rattle.signed.proofs.Parts.{back}
 use Rattle.rule_text.proofs.EntryLaws.{Counting, Storing, rest-stop, rest-none, counting-goes-on, storing-goes-on, counting-starts, storing-starts, entries-end}
 use Rattle.event.specs.Rules.{readSigned}

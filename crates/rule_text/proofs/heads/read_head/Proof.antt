@@ -1,3 +1,4 @@
+-- `rule_text::heads::read_head` meets its contract.
 use Rattle.event.specs.Reading.{Reading}
 use Rattle.rule.specs.declared.Frequency.{Frequency}
 use Rattle.fault.specs.Fault.{lower}

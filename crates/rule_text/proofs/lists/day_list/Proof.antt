@@ -1,3 +1,4 @@
+-- `rule_text::lists::day_list` meets its contract.
 use Rattle.rule_text.proofs.DayLaws.{days-same, days-limited, days-none, weekdays-length, nths-length}
 use Rattle.rule_text.proofs.ListLaws.{by-place, at-within}
 -- `rule_text::lists::day_list` meets its contract.

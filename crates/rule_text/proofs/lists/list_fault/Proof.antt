@@ -1,3 +1,4 @@
+-- `rule_text::lists::list_fault` meets its contract.
 use Rattle.rule_text.specs.Lists.{listFault}
 use borrow.Author.Tests.{eq-eqb, ne-eqb, lt-ltb, le-ltb}
 -- `rule_text::lists::list_fault` meets its contract.

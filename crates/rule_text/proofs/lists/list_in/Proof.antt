@@ -1,3 +1,4 @@
+-- `rule_text::lists::list_in` meets its contract.
 use Rattle.rule_text.specs.Lists.{listPlace}
 use borrow.Author.Tests.{eq-eqb, ne-eqb}
 use mathlib.Core.Path.{refl}

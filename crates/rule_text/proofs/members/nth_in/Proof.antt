@@ -1,3 +1,4 @@
+-- `rule_text::members::nth_in` meets its contract.
 use Rattle.rule_text.proofs.IntegerLaws.{nth-read}
 use Rattle.event.specs.Rules.{readNth}
 use Rattle.rule.specs.Read.{nthFrom}

@@ -1,3 +1,4 @@
+-- `rule_text::members::type_in` meets its contract.
 use Rattle.event.specs.Rules.{typed, required}
 use Rattle.rule_text.proofs.FieldLaws.{member-found, member-missing}
 use borrow.Author.Needs.{needs}

@@ -1,3 +1,4 @@
+-- `rule_text::numbers::count` meets its contract.
 use Rattle.rule_text.proofs.IntegerLaws.{count-at}
 use Rattle.rule_text.proofs.ReadLaws.{reads-by}
 use borrow.Author.Tests.{eq-eqb, ne-eqb}

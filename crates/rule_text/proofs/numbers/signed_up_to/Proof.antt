@@ -1,3 +1,4 @@
+-- `rule_text::numbers::signed_up_to` meets its contract.
 use Rattle.rule_text.proofs.IntegerLaws.{signed-at}
 use Rattle.rule_text.proofs.ReadLaws.{reads-by}
 use Rattle.signed.proofs.Parts.{back}

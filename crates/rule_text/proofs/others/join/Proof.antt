@@ -1,6 +1,5 @@
+-- `rule_text::others::join` meets its contract.
 use Rattle.fault.specs.Fault.{lower}
-use Prim.Native.Nat.{ℕ}
-use mathlib.Core.Path.{ap, _∙_}
 use Rattle.rule_text.specs.Parts.{joined}
 -- `rule_text::others::join` meets its contract.
 use borrow.Author.Needs.{needs}

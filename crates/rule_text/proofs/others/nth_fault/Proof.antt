@@ -1,6 +1,6 @@
+-- `rule_text::others::nth_fault` meets its contract.
 use Rattle.rule_text.proofs.RuleLaws.{nth-none}
 use borrow.Author.Tests.{not-true, not-false}
-use mathlib.Core.Path.{sym}
 -- `rule_text::others::nth_fault` meets its contract.
 use borrow.Author.Needs.{needs}
 use Rattle.rule_text.proofs.others.nth_fault.Statement.{statement}

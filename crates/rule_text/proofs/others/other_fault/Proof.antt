@@ -1,3 +1,4 @@
+-- `rule_text::others::other_fault` meets its contract.
 use Rattle.fault.specs.Fault.{lower}
 use mathlib.Core.Path.{ap₂, _∙_}
 -- `rule_text::others::other_fault` meets its contract.

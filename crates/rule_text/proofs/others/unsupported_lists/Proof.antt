@@ -1,3 +1,4 @@
+-- `rule_text::others::unsupported_lists` meets its contract.
 use Rattle.event.specs.Rules.{unsupportedLists}
 use Rattle.fault.specs.Fault.{lower}
 use mathlib.Core.Path.{ap₂, _∙_}

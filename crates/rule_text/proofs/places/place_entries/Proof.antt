@@ -1,3 +1,4 @@
+-- `rule_text::places::place_entries` meets its contract.
 use Rattle.rule_text.proofs.EntryLaws.{Counting, Storing, rest-stop, rest-none, counting-goes-on, storing-goes-on, counting-starts, storing-starts, entries-end}
 use Rattle.rule_text.specs.Places.{readPlace}
 use Rattle.json_tree.proofs.Trees.{place-tree}
@@ -8,7 +9,7 @@ use Rattle.event.specs.Values.{listOf}
 use Rattle.json_tree.specs.Tree.{treeAt, itemsOf}
 use Rattle.json_walk.specs.Walk.{elementsOf}
 use mathlib.Core.List.{List}
-use Prim.Native.Nat.{ℕ, suc}
+use Prim.Native.Nat.{ℕ}
 -- `rule_text::places::place_entries` meets its contract.
 use borrow.Author.Needs.{needs}
 use Rattle.rule_text.proofs.places.place_entries.Statement.{statement}

@@ -1,3 +1,4 @@
+-- `rule_text::places::put_place` meets its contract.
 use lib.Seq.{set-out}
 use mathlib.Core.Path.{sym}
 -- `rule_text::places::put_place` meets its contract.

@@ -1,3 +1,4 @@
+-- `rule_text::places::rule_places` meets its contract.
 use Rattle.rule_text.proofs.PlaceLaws.{places-is, places-not}
 use Rattle.rule_text.proofs.ListLaws.{entries-length}
 use borrow.Author.Tests.{eq-eqb, ne-eqb}

@@ -1,3 +1,4 @@
+-- `rule_text::rules::limit` meets its contract.
 use Rattle.rule_text.specs.Places.{rulesFault}
 use borrow.Author.Tests.{lt-ltb, le-ltb}
 -- `rule_text::rules::limit` meets its contract.

@@ -1,3 +1,4 @@
+-- `rule_text::rules::read_rule` meets its contract.
 use Rattle.rule_text.proofs.RuleLaws.{rule-read, rule-absent}
 use borrow.Author.Tests.{eq-eqb, ne-eqb}
 -- `rule_text::rules::read_rule` meets its contract.

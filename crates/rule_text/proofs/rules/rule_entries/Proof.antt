@@ -1,3 +1,4 @@
+-- `rule_text::rules::rule_entries` meets its contract.
 use Rattle.rule_text.proofs.EntryLaws.{Counting, rest-stop, rest-none, counting-goes-on, counting-starts, counting-ends}
 use Rattle.event.specs.Rules.{readRule}
 use Rattle.rule.specs.Written.{RecurrenceRule}

@@ -1,3 +1,4 @@
+-- `rule_text::rules::rule_in` meets its contract.
 use Rattle.rule_text.proofs.RuleLaws.{rule-made}
 -- `rule_text::rules::rule_in` meets its contract.
 use borrow.Author.Needs.{needs}

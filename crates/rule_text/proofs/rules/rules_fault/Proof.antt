@@ -1,3 +1,4 @@
+-- `rule_text::rules::rules_fault` meets its contract.
 use Rattle.rule_text.proofs.PlaceLaws.{rules-not, rules-fault-is}
 use borrow.Author.Tests.{eq-eqb, ne-eqb}
 -- `rule_text::rules::rules_fault` meets its contract.

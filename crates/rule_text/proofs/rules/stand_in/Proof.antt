@@ -1,7 +1,7 @@
+-- `rule_text::rules::stand_in` meets its contract.
 use Rattle.rule.specs.Read.{written, ndays, untilFrom, countFrom}
 use mathlib.Core.Path.{refl}
 -- `rule_text::rules::stand_in` meets its contract.
-use borrow.Author.Needs.{needs}
 use Rattle.rule_text.proofs.rules.stand_in.Statement.{statement}
 use Rattle.rule_text.proofs.rules.stand_in.Tie as tie
 
