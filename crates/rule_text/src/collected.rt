@@ -1,5 +1,5 @@
 // The by-lists in arrays of their own.
-ghost use Prim.Native.Nat.{ℕ, suc};
+ghost use Prim.Native.Nat.{suc};
 ghost use Rattle.event.specs.Ascii.{ascii};
 ghost use Rattle.event.specs.Rules.{readSigned, readMonth, readNDay, byList};
 ghost use Rattle.rule_text.specs.Members.{memberAt};

@@ -1,14 +1,12 @@
 // byDay: entries that are objects.
 ghost use mathlib.Core.Path.{_≡_};
-ghost use Prim.Native.Nat.{ℕ, suc, _<_};
-ghost use lib.ListN.{length, set};
-ghost use Rattle.json_walk.specs.Walk.{elementsOf};
-ghost use Rattle.json_tree.specs.Tree.{treeAt, itemsOf};
-ghost use Rattle.event.specs.Values.{listOf};
-ghost use Rattle.event.specs.Reading.{readAll};
+ghost use Prim.Native.Nat.{suc, _<_};
+ghost use lib.ListN.{length};
+ghost use Rattle.json_tree.specs.Tree.{treeAt};
 ghost use mathlib.Core.Bool.{_||_};
 ghost use Rattle.rule.specs.Read.{nthFrom};
 ghost use Rattle.event.specs.Rules.{readNDay};
+ghost use Rattle.rule_text.specs.Reads.{entriesAt};
 ghost use Rattle.rule_text.specs.Lists.{isSome, DayReads, DayEntries};
 use crate::DayRead;
 use crate::DaysListed;
@@ -63,7 +61,7 @@ fn or_nth(any: bool, nth: i64) -> bool
 
 pub fn day_entries(text: &[u8], at: usize, weekdays: &mut [u32], nths: &mut [i64]) -> DaysListed
     requires { ⌜ at < length (now text) ⌝ }
-    ensures { λ r. ⌜ DayEntries (λ l. readAll readNDay (listOf (itemsOf (λ v. treeAt (suc l) (now (text .entry)) v) (elementsOf (now (text .entry)) at)))) (now (weekdays .entry)) (now (weekdays .exit)) (now (nths .entry)) (now (nths .exit)) (r .count) (r .nth) (r .fault) ⌝ }
+    ensures { λ r. ⌜ DayEntries (λ l. entriesAt readNDay (suc l) (now (text .entry)) at) (now (weekdays .entry)) (now (weekdays .exit)) (now (nths .entry)) (now (nths .exit)) (r .count) (r .nth) (r .fault) ⌝ }
 {
     let mut step = first_element(text, at);
     let mut n = text.len();

@@ -1,13 +1,9 @@
 // The entries of the by-lists, one after the other. All entries are read, also those that there is no room for: their faults count.
 ghost use mathlib.Core.Path.{_≡_};
-ghost use Prim.Native.Nat.{ℕ, _<_};
+ghost use Prim.Native.Nat.{_<_};
 ghost use lib.ListN.{length, set};
-ghost use Rattle.json_walk.specs.Walk.{elementsOf};
-ghost use Rattle.json_tree.specs.Tree.{treeAt, itemsOf};
-ghost use Rattle.event.specs.Values.{listOf};
-ghost use Rattle.event.specs.Reading.{readAll};
 ghost use Rattle.event.specs.Rules.{readSigned, readMonth};
-ghost use Rattle.rule_text.specs.Reads.{Entries};
+ghost use Rattle.rule_text.specs.Reads.{entriesAt, Entries};
 use crate::Listed;
 use crate::numbers::signed_up_to;
 use crate::spelled::fault_of;
@@ -39,7 +35,7 @@ pub fn put_name(list: &mut [u32], at: usize, entry: u32)
 
 pub fn signed_entries(text: &[u8], at: usize, most: u32, list: &mut [i64]) -> Listed
     requires { ⌜ at < length (now text) ⌝ }
-    ensures { λ r. ⌜ Entries (λ l. readAll (readSigned most) (listOf (itemsOf (λ v. treeAt l (now (text .entry)) v) (elementsOf (now (text .entry)) at)))) (now (list .entry)) (now (list .exit)) (r .count) (r .fault) ⌝ }
+    ensures { λ r. ⌜ Entries (λ l. entriesAt (readSigned most) l (now (text .entry)) at) (now (list .entry)) (now (list .exit)) (r .count) (r .fault) ⌝ }
 {
     let mut step = first_element(text, at);
     let mut n = text.len();
@@ -63,7 +59,7 @@ pub fn signed_entries(text: &[u8], at: usize, most: u32, list: &mut [i64]) -> Li
 
 pub fn month_entries(text: &[u8], at: usize, list: &mut [u32]) -> Listed
     requires { ⌜ at < length (now text) ⌝ }
-    ensures { λ r. ⌜ Entries (λ l. readAll readMonth (listOf (itemsOf (λ v. treeAt l (now (text .entry)) v) (elementsOf (now (text .entry)) at)))) (now (list .entry)) (now (list .exit)) (r .count) (r .fault) ⌝ }
+    ensures { λ r. ⌜ Entries (λ l. entriesAt readMonth l (now (text .entry)) at) (now (list .entry)) (now (list .exit)) (r .count) (r .fault) ⌝ }
 {
     let mut step = first_element(text, at);
     let mut n = text.len();

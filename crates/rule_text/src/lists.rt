@@ -1,6 +1,6 @@
 // The by-lists of a rule, each at the member that has it.
 ghost use mathlib.Core.Path.{_≡_};
-ghost use Prim.Native.Nat.{ℕ, suc};
+ghost use Prim.Native.Nat.{suc};
 ghost use Rattle.json_walk.specs.Walk.{membersOf};
 ghost use Rattle.json_tree.specs.Finds.{findIn};
 ghost use Rattle.event.specs.Ascii.{ascii};

@@ -1,5 +1,4 @@
 // The integers of a rule.
-ghost use mathlib.Core.Path.{_≡_};
 ghost use Rattle.json_tree.specs.Tree.{treeAt};
 ghost use Rattle.event.specs.Rules.{readCount, readSigned};
 ghost use Rattle.rule_text.specs.Reads.{Reads};

@@ -1,12 +1,8 @@
 // The places of the rules of a list, so that each is read when it is its turn.
-ghost use Prim.Native.Nat.{ℕ, _<_};
+ghost use Prim.Native.Nat.{_<_};
 ghost use mathlib.Core.Path.{_≡_};
 ghost use lib.ListN.{length, set};
-ghost use Rattle.json_walk.specs.Walk.{elementsOf};
-ghost use Rattle.json_tree.specs.Tree.{treeAt, itemsOf};
-ghost use Rattle.event.specs.Values.{listOf};
-ghost use Rattle.event.specs.Reading.{readAll};
-ghost use Rattle.rule_text.specs.Reads.{Entries};
+ghost use Rattle.rule_text.specs.Reads.{entriesAt, Entries};
 ghost use Rattle.rule_text.specs.Places.{readPlace, Places};
 use crate::Listed;
 use json_text::bytes::byte;
@@ -25,7 +21,7 @@ fn put_place(list: &mut [usize], at: usize, entry: usize)
 
 fn place_entries(text: &[u8], at: usize, list: &mut [usize]) -> usize
     requires { ⌜ at < length (now text) ⌝ }
-    ensures { λ r. ⌜ Entries (λ l. readAll readPlace (listOf (itemsOf (λ v. treeAt l (now (text .entry)) v) (elementsOf (now (text .entry)) at)))) (now (list .entry)) (now (list .exit)) r 0 ⌝ }
+    ensures { λ r. ⌜ Entries (λ l. entriesAt readPlace l (now (text .entry)) at) (now (list .entry)) (now (list .exit)) r 0 ⌝ }
 {
     let mut step = first_element(text, at);
     let mut n = text.len();

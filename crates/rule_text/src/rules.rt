@@ -1,14 +1,11 @@
 // A whole rule, and a list of rules.
 ghost use Prim.Native.Nat.{ℕ, suc, _<_};
 ghost use mathlib.Core.Path.{_≡_};
-ghost use lib.ListN.{length, set};
-ghost use Rattle.json_walk.specs.Walk.{elementsOf};
-ghost use Rattle.json_tree.specs.Tree.{treeAt, itemsOf};
+ghost use lib.ListN.{length};
+ghost use Rattle.json_tree.specs.Tree.{treeAt};
 ghost use Rattle.rule.specs.Read.{written};
-ghost use Rattle.event.specs.Values.{listOf};
-ghost use Rattle.event.specs.Reading.{readAll};
-ghost use Rattle.event.specs.Rules.{standIn, readRule, readRules, ruleIn};
-ghost use Rattle.rule_text.specs.Members.{fieldsAt};
+ghost use Rattle.event.specs.Rules.{standIn, readRule, readRules};
+ghost use Rattle.rule_text.specs.Reads.{entriesAt};
 ghost use Rattle.rule_text.specs.Parts.{RuleIn, RuleRead};
 ghost use Rattle.rule_text.specs.Places.{Tally, rulesFault};
 use crate::Listed;
@@ -114,7 +111,7 @@ pub fn read_rule(text: &[u8], at: usize) -> Read
 // All rules of the array at a place: how many, and the lowest fault in them.
 fn rule_entries(text: &[u8], at: usize) -> Listed
     requires { ⌜ at < length (now text) ⌝ }
-    ensures { λ r. ⌜ Tally (λ l. readAll readRule (listOf (itemsOf (λ v. treeAt (suc (suc (suc l))) (now (text .entry)) v) (elementsOf (now (text .entry)) at)))) (r .count) (r .fault) ⌝ }
+    ensures { λ r. ⌜ Tally (λ l. entriesAt readRule (suc (suc (suc l))) (now (text .entry)) at) (r .count) (r .fault) ⌝ }
 {
     let mut step = first_element(text, at);
     let mut n = text.len();

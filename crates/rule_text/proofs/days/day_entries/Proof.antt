@@ -5,29 +5,23 @@ use Rattle.rule_text.proofs.EntryLaws.{Counting, Storing, rest-stop, re
 use Rattle.rule_text.specs.Lists.{dayOf, nthOf}
 use Rattle.event.specs.Rules.{readNDay}
 use Rattle.rule.specs.Read.{nthFrom}
-use Rattle.rule.specs.Written.{NDay}
 use Rattle.signed.proofs.Parts.{back}
-use Rattle.event.specs.Reading.{Reading, readAll}
-use Rattle.event.specs.Values.{listOf}
-use Rattle.json_tree.specs.Tree.{treeAt, itemsOf}
+use Rattle.json_tree.specs.Tree.{treeAt}
 use Rattle.json_walk.specs.Walk.{elementsOf}
 use mathlib.Core.Path.{ap, _∙_}
-use mathlib.Core.List.{List}
-use Prim.Native.Nat.{ℕ, suc}
+use Prim.Native.Nat.{suc}
 -- `rule_text::days::day_entries` meets its contract.
+use Rattle.rule_text.specs.Reads.{entriesAt}
 use borrow.Author.Needs.{needs}
 use Rattle.rule_text.proofs.days.day_entries.Statement.{statement}
 use Rattle.rule_text.proofs.days.day_entries.Tie as tie
 
-abbrev allOf : List ℕ → ℕ → ℕ → Reading (List NDay)
-allOf text at l = readAll readNDay (listOf (itemsOf (λ v. treeAt (suc l) text v) (elementsOf text at)))
-
 abbrev Inv-loop : tie.InvT-loop
 Inv-loop text at weekdays₀ nths₀ step₀ n₀ count₀ nth₀ fault₀ weekdays nths step n count nth fault =
-    Counting readNDay (λ l v. treeAt (suc l) text v) text (allOf text at) step n count fault
-    × (Storing dayOf readNDay (λ l v. treeAt (suc l) text v) text (allOf text at) weekdays₀ weekdays step n count
-    × (Storing nthOf readNDay (λ l v. treeAt (suc l) text v) text (allOf text at) nths₀ nths step n count
-    × Flagging (λ l v. treeAt (suc l) text v) text (allOf text at) step n nth))
+    Counting readNDay (λ l v. treeAt (suc l) text v) text (λ l. entriesAt readNDay (suc l) text at) step n count fault
+    × (Storing dayOf readNDay (λ l v. treeAt (suc l) text v) text (λ l. entriesAt readNDay (suc l) text at) weekdays₀ weekdays step n count
+    × (Storing nthOf readNDay (λ l v. treeAt (suc l) text v) text (λ l. entriesAt readNDay (suc l) text at) nths₀ nths step n count
+    × Flagging (λ l v. treeAt (suc l) text v) text (λ l. entriesAt readNDay (suc l) text at) step n nth))
 
 abbrev μ-loop : tie.MeasureT-loop
 μ-loop text at weekdays₀ nths₀ step₀ n₀ count₀ nth₀ fault₀ weekdays nths step n count nth fault = n

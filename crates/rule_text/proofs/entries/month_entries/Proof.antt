@@ -1,25 +1,21 @@
 -- `rule_text::entries::month_entries` meets its contract.
 use Rattle.rule_text.proofs.EntryLaws.{Counting, Storing, rest-stop, rest-none, counting-goes-on, storing-goes-on, counting-starts, storing-starts, entries-end}
 use Rattle.event.specs.Rules.{readMonth}
-use Rattle.event.specs.Reading.{Reading, readAll}
-use Rattle.event.specs.Values.{listOf}
-use Rattle.json_tree.specs.Tree.{treeAt, itemsOf}
+use Rattle.event.specs.Reading.{Reading}
+use Rattle.json_tree.specs.Tree.{treeAt}
 use Rattle.json_walk.specs.Walk.{elementsOf}
 use mathlib.Core.Path.{ap, _∙_}
-use mathlib.Core.List.{List}
 use Prim.Native.Nat.{ℕ}
 -- `rule_text::entries::month_entries` meets its contract.
+use Rattle.rule_text.specs.Reads.{entriesAt}
 use borrow.Author.Needs.{needs}
 use Rattle.rule_text.proofs.entries.month_entries.Statement.{statement}
 use Rattle.rule_text.proofs.entries.month_entries.Tie as tie
 
-abbrev allOf : List ℕ → ℕ → ℕ → Reading (List ℕ)
-allOf text at l = readAll readMonth (listOf (itemsOf (λ v. treeAt l text v) (elementsOf text at)))
-
 abbrev Inv-loop : tie.InvT-loop
 Inv-loop text at list₀ step₀ n₀ count₀ fault₀ list step n count fault =
-    Counting readMonth (λ l v. treeAt l text v) text (allOf text at) step n count fault
-    × Storing (λ m. m) readMonth (λ l v. treeAt l text v) text (allOf text at) list₀ list step n count
+    Counting readMonth (λ l v. treeAt l text v) text (λ l. entriesAt readMonth l text at) step n count fault
+    × Storing (λ m. m) readMonth (λ l v. treeAt l text v) text (λ l. entriesAt readMonth l text at) list₀ list step n count
 
 abbrev μ-loop : tie.MeasureT-loop
 μ-loop text at list₀ step₀ n₀ count₀ fault₀ list step n count fault = n

@@ -2,24 +2,17 @@
 use Rattle.signed.proofs.Parts.{back}
 use Rattle.rule_text.proofs.EntryLaws.{Counting, Storing, rest-stop, rest-none, counting-goes-on, storing-goes-on, counting-starts, storing-starts, entries-end}
 use Rattle.event.specs.Rules.{readSigned}
-use Rattle.event.specs.Reading.{Reading, readAll}
-use Rattle.event.specs.Values.{listOf}
-use Rattle.json_tree.specs.Tree.{treeAt, itemsOf}
+use Rattle.json_tree.specs.Tree.{treeAt}
 use Rattle.json_walk.specs.Walk.{elementsOf}
-use lib.IntN.{ℤ}
-use mathlib.Core.List.{List}
-use Prim.Native.Nat.{ℕ}
+use Rattle.rule_text.specs.Reads.{entriesAt}
 use borrow.Author.Needs.{needs}
 use Rattle.rule_text.proofs.entries.signed_entries.Statement.{statement}
 use Rattle.rule_text.proofs.entries.signed_entries.Tie as tie
 
-abbrev allOf : ℕ → List ℕ → ℕ → ℕ → Reading (List ℤ)
-allOf most text at l = readAll (readSigned most) (listOf (itemsOf (λ v. treeAt l text v) (elementsOf text at)))
-
 abbrev Inv-loop : tie.InvT-loop
 Inv-loop text at most list₀ step₀ n₀ count₀ fault₀ list step n count fault =
-    Counting (readSigned most) (λ l v. treeAt l text v) text (allOf most text at) step n count fault
-    × Storing (λ z. z) (readSigned most) (λ l v. treeAt l text v) text (allOf most text at) list₀ list step n count
+    Counting (readSigned most) (λ l v. treeAt l text v) text (λ l. entriesAt (readSigned most) l text at) step n count fault
+    × Storing (λ z. z) (readSigned most) (λ l v. treeAt l text v) text (λ l. entriesAt (readSigned most) l text at) list₀ list step n count
 
 abbrev μ-loop : tie.MeasureT-loop
 μ-loop text at most list₀ step₀ n₀ count₀ fault₀ list step n count fault = n

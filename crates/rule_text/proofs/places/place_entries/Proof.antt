@@ -4,24 +4,18 @@ use Rattle.rule_text.specs.Places.{readPlace}
 use Rattle.json_tree.proofs.Trees.{place-tree}
 use Rattle.fault.proofs.Laws.{none-lower}
 use mathlib.Core.Path.{refl, sym}
-use Rattle.event.specs.Reading.{Reading, readAll}
-use Rattle.event.specs.Values.{listOf}
-use Rattle.json_tree.specs.Tree.{treeAt, itemsOf}
+use Rattle.json_tree.specs.Tree.{treeAt}
 use Rattle.json_walk.specs.Walk.{elementsOf}
-use mathlib.Core.List.{List}
-use Prim.Native.Nat.{ℕ}
 -- `rule_text::places::place_entries` meets its contract.
+use Rattle.rule_text.specs.Reads.{entriesAt}
 use borrow.Author.Needs.{needs}
 use Rattle.rule_text.proofs.places.place_entries.Statement.{statement}
 use Rattle.rule_text.proofs.places.place_entries.Tie as tie
 
-abbrev allOf : List ℕ → ℕ → ℕ → Reading (List ℕ)
-allOf text at l = readAll readPlace (listOf (itemsOf (λ v. treeAt l text v) (elementsOf text at)))
-
 abbrev Inv-loop : tie.InvT-loop
 Inv-loop text at list₀ step₀ n₀ count₀ list step n count =
-    Counting readPlace (λ l v. treeAt l text v) text (allOf text at) step n count 0
-    × Storing (λ m. m) readPlace (λ l v. treeAt l text v) text (allOf text at) list₀ list step n count
+    Counting readPlace (λ l v. treeAt l text v) text (λ l. entriesAt readPlace l text at) step n count 0
+    × Storing (λ m. m) readPlace (λ l v. treeAt l text v) text (λ l. entriesAt readPlace l text at) list₀ list step n count
 
 abbrev μ-loop : tie.MeasureT-loop
 μ-loop text at list₀ step₀ n₀ count₀ list step n count = n

@@ -1,24 +1,18 @@
 -- `rule_text::rules::rule_entries` meets its contract.
 use Rattle.rule_text.proofs.EntryLaws.{Counting, rest-stop, rest-none, counting-goes-on, counting-starts, counting-ends}
 use Rattle.event.specs.Rules.{readRule}
-use Rattle.rule.specs.Written.{RecurrenceRule}
-use Rattle.event.specs.Reading.{Reading, readAll}
-use Rattle.event.specs.Values.{listOf}
-use Rattle.json_tree.specs.Tree.{treeAt, itemsOf}
+use Rattle.json_tree.specs.Tree.{treeAt}
 use Rattle.json_walk.specs.Walk.{elementsOf}
-use mathlib.Core.List.{List}
-use Prim.Native.Nat.{ℕ, suc}
+use Prim.Native.Nat.{suc}
 -- `rule_text::rules::rule_entries` meets its contract.
+use Rattle.rule_text.specs.Reads.{entriesAt}
 use borrow.Author.Needs.{needs}
 use Rattle.rule_text.proofs.rules.rule_entries.Statement.{statement}
 use Rattle.rule_text.proofs.rules.rule_entries.Tie as tie
 
-abbrev allOf : List ℕ → ℕ → ℕ → Reading (List RecurrenceRule)
-allOf text at l = readAll readRule (listOf (itemsOf (λ v. treeAt (suc (suc (suc l))) text v) (elementsOf text at)))
-
 abbrev Inv-loop : tie.InvT-loop
 Inv-loop text at step₀ n₀ count₀ fault₀ step n count fault =
-    Counting readRule (λ l v. treeAt (suc (suc (suc l))) text v) text (allOf text at) step n count fault
+    Counting readRule (λ l v. treeAt (suc (suc (suc l))) text v) text (λ l. entriesAt readRule (suc (suc (suc l))) text at) step n count fault
 
 abbrev μ-loop : tie.MeasureT-loop
 μ-loop text at step₀ n₀ count₀ fault₀ step n count fault = n
