@@ -25,7 +25,7 @@ space-past : (s : List ℕ) (i : ℕ) → length s ≤ i → spaceAt s i ≡ i
 unfolding spaceAt past run
 space-past s i h = rw (drop-of-length-le s h) (omega arith)
 
-first-past : (s : List ℕ) (i : ℕ) → length s ≤ i → firstMemberAt s i ≡ End
+pub first-past : (s : List ℕ) (i : ℕ) → length s ≤ i → firstMemberAt s i ≡ End
 unfolding firstMemberAt firstAt memberAt stringAt
 first-past s i h =
     let p : length s ≤ i + 1 = omega arith in

@@ -1,0 +1,173 @@
+-- The overrides of a walk: one turn of the loop over the members, and its end.
+use Prim.Native.Nat.{ℕ, zero, suc, _+_, _-_, _<_, _≤_}
+use mathlib.Core.Bool.{Bool, true, false}
+use mathlib.Core.List.{List, [], _∷_}
+use mathlib.Core.Path.{_≡_, refl, sym, ap, _∙_, subst}
+use native.Mathlib.Omega.{arith}
+use lib.Dec.{eqb, ltb}
+use lib.ListN.{length}
+use Rattle.signed.specs.Choose.{if_then_else_}
+use Rattle.fault.specs.Fault.{lower}
+use Rattle.json_text.specs.Bytes.{byte}
+use Rattle.json_text.specs.Strings.{stringAt}
+use Rattle.json_text.specs.declared.Read.{Read}
+use Rattle.json_text.specs.declared.Read.the-variants.{To, Bad, Deep}
+use Rattle.json_value.specs.Values.{afterAt, firstAt, colonAt, valueAt, levels}
+use Rattle.json_value.specs.declared.Item.{Item}
+use Rattle.json_value.specs.declared.Item.the-variants.{More, Done, Wrong}
+use Rattle.json_walk.specs.Strings.{rawAt}
+use Rattle.json_walk.specs.Walk.{memberTo, memberMore, memberAt, firstMemberAt, nextMemberAt, membersFrom, membersOf}
+use Rattle.json_walk.specs.declared.Member.{Member}
+use Rattle.json_walk.specs.declared.MemberStep.{MemberStep}
+use Rattle.json_walk.specs.declared.MemberStep.the-variants.{One, End}
+use Rattle.json_walk.proofs.Walks.{members-end, members-none}
+use Rattle.json_tree.specs.Tree.{Fields, fieldsOf, treeAt, endOf}
+use Rattle.event.specs.Types.{Details, Override}
+use Rattle.event.specs.Reading.{Reading, wrong, limited, atMost}
+use Rattle.event.specs.Properties.{dateTime}
+use Rattle.event.specs.Overrides.{overrideOf, overridesIn, readOverrides}
+use Rattle.property.specs.Words.{wordAt}
+use Rattle.override_text.specs.Patched.{patchAt}
+use Rattle.override_text.specs.Entries.{entriesIn}
+use Rattle.override_text.specs.Names.{lowest}
+use Rattle.override_text.proofs.PatchLaws.{at-object, at-other}
+use Rattle.override_text.proofs.WalkLaws.{members-next, Left, left-start, left-next, left-end, left-out}
+
+-- ---- one override
+
+pub entry-joined : (own : Details) (s : List ℕ) (name value l : ℕ) (id : Reading ℕ) (over : Reading Override) (r : ℕ)
+    → id ≡ dateTime (wordAt s name) → over ≡ patchAt l own (id .value) s value → r ≡ lower (id .fault) (over .fault)
+    → r ≡ overrideOf own (wordAt s name) (treeAt (suc l) s value) .fault
+unfolding overrideOf
+entry-joined own s name value l id over r e f g =
+    g
+    ∙ ap (λ (o : Reading Override). lower (id .fault) (o .fault)) f
+    ∙ ap (λ (d : Reading ℕ). lower (d .fault) (patchAt l own (d .value) s value .fault)) e
+
+-- ---- the name of a member of a walk is the string at its place
+
+abbrev pub Named : List ℕ → MemberStep → Type 0
+Named s (One m) = rawAt s (m .name) (m .stop) ≡ wordAt s (m .name)
+Named s End = Unit {0}
+
+module _ (s : List ℕ) where
+  named-value : (k j v : ℕ) → rawAt s k j ≡ wordAt s k → (r : Read) → Named s (memberTo r (λ e. One (record { name = k; stop = j; value = v; after = e })))
+  named-value k j v h (To e) = h
+  named-value k j v h Bad = tt
+  named-value k j v h Deep = tt
+
+  named-colon : (k j : ℕ) → rawAt s k j ≡ wordAt s k → (r : Read)
+      → Named s (memberTo r (λ v. memberTo (valueAt levels s v) (λ e. One (record { name = k; stop = j; value = v; after = e }))))
+  named-colon k j h (To v) = named-value k j v h (valueAt levels s v)
+  named-colon k j h Bad = tt
+  named-colon k j h Deep = tt
+
+  named-name : (k : ℕ) (r : Read) → stringAt s k ≡ r
+      → Named s (memberTo r (λ j. memberTo (colonAt s j) (λ v. memberTo (valueAt levels s v) (λ e. One (record { name = k; stop = j; value = v; after = e })))))
+  unfolding wordAt
+  named-name k (To j) e = named-colon k j (ap (λ (x : Read). rawAt s k (endOf x)) (sym e)) (colonAt s j)
+  named-name k Bad e = tt
+  named-name k Deep e = tt
+
+  pub named-member : (k : ℕ) → Named s (memberAt s k)
+  unfolding memberAt
+  named-member k = named-name k (stringAt s k) refl
+
+  named-more : (x : Item) → Named s (memberMore x (λ k. memberAt s k))
+  named-more (More k) = named-member k
+  named-more (Done e) = tt
+  named-more Wrong = tt
+
+  pub named-first : (i : ℕ) → Named s (firstMemberAt s i)
+  unfolding firstMemberAt
+  named-first i = named-more (firstAt 0x7D s (i + 1))
+
+  pub named-next : (i : ℕ) → Named s (nextMemberAt s i)
+  unfolding nextMemberAt
+  named-next i = named-more (afterAt 0x7D s i)
+
+-- ---- the overrides of members: each member's fault, and as many as members
+
+abbrev pub ofEntry : ℕ → Details → List ℕ → Member → ℕ
+ofEntry l own s m = overrideOf own (rawAt s (m .name) (m .stop)) (treeAt (suc l) s (m .value)) .fault
+
+module _ (l : ℕ) (own : Details) (s : List ℕ) where
+  pub entries-lowest : (ms : List Member) → lowest (ofEntry l own s) ms ≡ entriesIn l own s ms .fault
+  unfolding lowest entriesIn overridesIn fieldsOf
+  entries-lowest [] = refl
+  entries-lowest (m ∷ ms) = ap (λ (n : ℕ). lower (ofEntry l own s m) n) (entries-lowest ms)
+
+  pub entries-many : (ms : List Member) → length (entriesIn l own s ms .value) ≡ length ms
+  unfolding entriesIn overridesIn fieldsOf
+  entries-many [] = refl
+  entries-many (m ∷ ms) = ap suc (entries-many ms)
+
+  -- the fault of them all, by what a walk found and counted
+  pub entries-fault : (ms : List Member) (found count r : ℕ) → found ≡ lowest (ofEntry l own s) ms → count ≡ length ms
+      → r ≡ lower found (if ltb 256 count then 9 else 0) → r ≡ limited 256 (entriesIn l own s ms) .fault
+  unfolding limited atMost
+  entries-fault ms found count r e c g =
+      let a : found ≡ entriesIn l own s ms .fault = e ∙ entries-lowest ms in
+      let b : count ≡ length (entriesIn l own s ms .value) = c ∙ sym (entries-many ms) in
+      g ∙ (λ i. lower (a i) (if ltb 256 (b i) then 9 else 0))
+
+-- ---- the walk
+
+module _ (own : Details) (s : List ℕ) (at : ℕ) where
+  pub record Walk (found : ℕ) (step : MemberStep) (n : ℕ) : Type 0 where
+    pub within : n ≤ length s
+    pub named : Named s step
+    pub counted : length s - n + length (membersFrom n s step) ≡ length (membersOf s at)
+    pub faults : (l : ℕ) → Left (ofEntry l own s) s at found step n
+
+  pub walk-start : (step : MemberStep) → step ≡ firstMemberAt s at → Walk 0 step (length s)
+  unfolding membersOf
+  walk-start step e =
+      let c : length (membersFrom (length s) s step) ≡ length (membersFrom (length s) s (firstMemberAt s at)) =
+      ap (λ (x : MemberStep). length (membersFrom (length s) s x)) e in
+      record {
+        within = omega arith;
+        named = subst (λ (x : MemberStep). Named s x) (sym e) (named-first s at);
+        counted = omega (arith, c);
+        faults = λ l. left-start (ofEntry l own s) s at step e;
+      }
+
+  module _ (found : ℕ) (step : MemberStep) (n : ℕ) (w : Walk found step n) where
+    pub walk-next : 0 < n → (m : Member) → step ≡ One m → (f : ℕ) → ((l : ℕ) → f ≡ overrideOf own (wordAt s (m .name)) (treeAt (suc l) s (m .value)) .fault)
+        → (joined : ℕ) → joined ≡ lower found f → (next : MemberStep) → next ≡ nextMemberAt s (m .after) → Walk joined next (n - 1)
+    walk-next h m e f g joined q next p =
+        let same : rawAt s (m .name) (m .stop) ≡ wordAt s (m .name) = subst (λ (x : MemberStep). Named s x) e (w .named) in
+        let one : length (membersFrom n s step) ≡ suc (length (membersFrom (n - 1) s next)) = ap length (members-next s n h step m e next p) in
+        record {
+          within = omega (arith, w .within);
+          named = subst (λ (x : MemberStep). Named s x) (sym p) (named-next s (m .after));
+          counted = omega (arith, one, w .counted, w .within);
+          faults =
+              λ l. left-next (ofEntry l own s) s at found step n (w .faults l) h m e joined
+              (q ∙ ap (lower found) (g l ∙ ap (λ (raw : List ℕ). overrideOf own raw (treeAt (suc l) s (m .value)) .fault) (sym same))) next p;
+        }
+
+    pub walk-end : step ≡ End → (r : ℕ) → r ≡ lower found (if ltb 256 (length s - n) then 9 else 0)
+        → (l : ℕ) → r ≡ limited 256 (entriesIn l own s (membersOf s at)) .fault
+    walk-end e r g l =
+        let none : length (membersFrom n s step) ≡ 0 = ap length (ap (membersFrom n s) e ∙ members-end n s) in
+        entries-fault l own s (membersOf s at) found (length s - n) r (left-end (ofEntry l own s) s at found step n (w .faults l) e)
+        (omega (arith, none, w .counted)) g
+
+    pub walk-out : n ≤ 0 → (r : ℕ) → r ≡ lower found (if ltb 256 (length s) then 9 else 0)
+        → (l : ℕ) → r ≡ limited 256 (entriesIn l own s (membersOf s at)) .fault
+    walk-out h r g l =
+        let none : length (membersFrom n s step) ≡ 0 = ap length (members-none n h s step) in
+        entries-fault l own s (membersOf s at) found (length s) r (left-out (ofEntry l own s) s at found step n (w .faults l) h)
+        (omega (arith, none, w .counted)) g
+
+-- ---- the value as a whole
+
+module _ (own : Details) (s : List ℕ) (at : ℕ) where
+  pub overrides-yes : eqb (byte s at) 0x7B ≡ true → (l : ℕ) → limited 256 (entriesIn l own s (membersOf s at)) ≡ readOverrides own (treeAt (suc (suc l)) s at)
+  unfolding readOverrides entriesIn
+  overrides-yes e l = at-object s at [] (λ (fields : Fields). limited 256 (overridesIn own fields)) e (suc l)
+
+  pub overrides-no : eqb (byte s at) 0x7B ≡ false → (l : ℕ) → wrong [] 6 ≡ readOverrides own (treeAt (suc (suc l)) s at)
+  unfolding readOverrides
+  overrides-no e l = at-other s at [] (λ (fields : Fields). limited 256 (overridesIn own fields)) e (suc l)

@@ -1,0 +1,5 @@
+pub mod EntryLaws
+pub mod ListLaws
+pub mod NameLaws
+pub mod PatchLaws
+mod WalkLaws

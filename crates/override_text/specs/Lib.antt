@@ -1,0 +1,5 @@
+pub mod Names
+pub mod Meaning
+pub mod Patched
+pub mod Entries
+pub mod Lists

@@ -1,0 +1,99 @@
+// The names of a patch's members: which of them no patch may have, and whether there is more than one.
+ghost use mathlib.Core.Path.{_≡_};
+ghost use Rattle.json_walk.specs.Walk.{firstMemberAt, membersOf};
+ghost use Rattle.json_walk.specs.Strings.{bytesAt, rawAt};
+ghost use Rattle.event.specs.Overrides.{hasMark, nameFault};
+ghost use Rattle.override_text.specs.Names.{lowest, ofName, single};
+use fault::lower;
+use json_text::bytes::byte;
+use json_walk::MemberStep;
+use json_walk::objects::first_member;
+use json_walk::objects::next_member;
+use json_walk::strings::inside;
+use json_walk::strings::raw_is;
+use json_walk::strings::step;
+
+// The first member of the object at a place. There is none past the end of the text.
+pub fn first(text: &[u8], at: usize) -> MemberStep
+    ensures { λ r. ⌜ r ≡ firstMemberAt (now (text .entry)) at ⌝ }
+{
+    if at < text.len() {
+        return first_member(text, at);
+    }
+    MemberStep::End
+}
+
+// Is one of the n bytes at a place `/` or `~`?
+fn mark_in(text: &[u8], at: usize, count: usize) -> bool
+    ensures { λ r. ⌜ r ≡ hasMark (bytesAt count (now (text .entry)) at) ⌝ }
+{
+    let mut i = at;
+    let mut n = count;
+    while 0 < n {
+        let b = byte(text, i);
+        if b == 0x2F {
+            return true;
+        }
+        if b == 0x7E {
+            return true;
+        }
+        i = step(text, i);
+        n -= 1;
+    }
+    false
+}
+
+pub fn has_mark(text: &[u8], name: usize, stop: usize) -> bool
+    ensures { λ r. ⌜ r ≡ hasMark (rawAt (now (text .entry)) name stop) ⌝ }
+{
+    mark_in(text, step(text, name), inside(name, stop))
+}
+
+// The fault of one name.
+pub fn name_fault(text: &[u8], name: usize, stop: usize) -> u32
+    ensures { λ r. ⌜ r ≡ nameFault (rawAt (now (text .entry)) name stop) ⌝ }
+{
+    if raw_is(text, name, stop, b"timeZone") {
+        return 8;
+    }
+    if has_mark(text, name, stop) {
+        return 8;
+    }
+    0
+}
+
+// The lowest fault of the names of the object at a place.
+pub fn names_fault(text: &[u8], at: usize) -> u32
+    ensures { λ r. ⌜ r ≡ lowest (ofName (now (text .entry))) (membersOf (now (text .entry)) at) ⌝ }
+{
+    let mut found = 0;
+    let mut next = first(text, at);
+    let mut n = text.len();
+    while 0 < n {
+        match next {
+            MemberStep::One(m) => {
+                found = lower(found, name_fault(text, m.name, m.stop));
+                next = next_member(text, m.after);
+            }
+            MemberStep::End => return found,
+        }
+        n -= 1;
+    }
+    found
+}
+
+// Has the object at a place no two members? A text that has two has two bytes.
+pub fn alone(text: &[u8], at: usize) -> bool
+    ensures { λ r. ⌜ r ≡ single (membersOf (now (text .entry)) at) ⌝ }
+{
+    if text.len() < 2 {
+        return true;
+    }
+    match first(text, at) {
+        MemberStep::One(m) => match next_member(text, m.after) {
+            MemberStep::One(_) => false,
+            MemberStep::End => true,
+        },
+        MemberStep::End => true,
+    }
+}

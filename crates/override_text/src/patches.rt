@@ -1,0 +1,114 @@
+// The patch at a place, as a whole.
+ghost use Prim.Native.Nat.{ℕ};
+ghost use mathlib.Core.Bool.{not, _&&_};
+ghost use mathlib.Core.Path.{_≡_};
+ghost use Rattle.signed.specs.Choose.{if_then_else_};
+ghost use Rattle.fault.specs.Fault.{lower as Fault·lower};
+ghost use Rattle.event.specs.Overrides.{patchIn};
+ghost use Rattle.override_text.specs.Meaning.{detailsIn, overrideIn};
+ghost use Rattle.override_text.specs.Patched.{patchFields, patchAt};
+use crate::Own;
+use crate::Patch;
+use crate::names::alone;
+use crate::names::names_fault;
+use crate::patched::busy;
+use crate::patched::flag;
+use crate::patched::length;
+use crate::patched::passage;
+use crate::patched::start;
+use fault::lower;
+use json_text::bytes::byte;
+
+// The lowest of the faults of a patch.
+fn join(
+    start: u32,
+    length: u32,
+    busy: u32,
+    allday: u32,
+    title: u32,
+    description: u32,
+    excluded: u32,
+    rest: u32,
+) -> u32
+    ensures { λ r. ⌜ r ≡ Fault·lower start (Fault·lower length (Fault·lower busy (Fault·lower allday (Fault·lower title (Fault·lower description (Fault·lower excluded rest)))))) ⌝ }
+{
+    let texts = lower(title, lower(description, lower(excluded, rest)));
+    lower(start, lower(length, lower(busy, lower(allday, texts))))
+}
+
+// `excluded` true stands beside no other member.
+fn excluded_fault(excluded: bool, single: bool) -> u32
+    ensures { λ r. ⌜ r ≡ (if excluded && not single then 7 else 0) ⌝ }
+{
+    if excluded {
+        if single {
+            return 0;
+        }
+        return 7;
+    }
+    0
+}
+
+// The patch object at a place.
+fn patch_in(text: &[u8], at: usize, own: Own, id: u64) -> Patch
+    ensures { λ r. ⌜ ((l : ℕ) → overrideIn (now (text .entry)) id r ≡ patchIn (detailsIn (now (text .entry)) own) id (patchFields l (now (text .entry)) at)) ⌝ }
+{
+    let shown = own.title;
+    let told = own.description;
+    let when = start(text, at, id);
+    let lasting = length(text, at, own.days, own.seconds);
+    let status = busy(text, at, own.busy);
+    let allday = flag(text, at, b"showWithoutTime", own.allday);
+    let title = passage(text, at, b"title", shown);
+    let description = passage(text, at, b"description", told);
+    let excluded = flag(text, at, b"excluded", false);
+    let rest = lower(
+        excluded_fault(excluded.value, alone(text, at)),
+        names_fault(text, at),
+    );
+    let fault = join(
+        when.fault,
+        lasting.fault,
+        status.fault,
+        allday.fault,
+        title.fault,
+        description.fault,
+        excluded.fault,
+        rest,
+    );
+    let named = title.place;
+    let described = description.place;
+    Patch {
+        excluded: excluded.value,
+        start: when.value,
+        days: lasting.days,
+        seconds: lasting.seconds,
+        busy: status.value,
+        allday: allday.value,
+        title: named,
+        description: described,
+        fault,
+    }
+}
+
+// The occurrence id after the patch at a place. A value that is no object answers 6.
+pub fn patch(text: &[u8], at: usize, own: Own, id: u64) -> Patch
+    ensures { λ r. ⌜ ((l : ℕ) → overrideIn (now (text .entry)) id r ≡ patchAt l (detailsIn (now (text .entry)) own) id (now (text .entry)) at) ⌝ }
+{
+    if byte(text, at) == 0x7B {
+        return patch_in(text, at, own, id);
+    }
+    let title = own.title;
+    let description = own.description;
+    Patch {
+        excluded: false,
+        start: own.start,
+        days: own.days,
+        seconds: own.seconds,
+        busy: own.busy,
+        allday: own.allday,
+        title,
+        description,
+        fault: 6,
+    }
+}
