@@ -18,8 +18,8 @@ use Rattle.event.specs.Reading.{optional}
 use Rattle.event.specs.Rules.{required, readRules}
 use Rattle.event.specs.Types.{Details}
 use Rattle.event.specs.Values.{object}
-use Rattle.event_text.specs.Front.{Front, fieldsFrom, frontIn, frontOf}
-use Rattle.event_text.proofs.Events.{listsFault, fault-none, fault-some}
+use Rattle.event_text.specs.Front.{Front, fieldsFrom, frontIn, frontOf, listsFault}
+use Rattle.event_text.proofs.Events.{fault-none, fault-some}
 
 pub record Accepted (f : Front) : Type 0 where
   pub start : Within (366 * 86400) (3067672 * 86400) (f .details .start)

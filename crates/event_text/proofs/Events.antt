@@ -15,19 +15,7 @@ use Rattle.event.specs.Reading.{orWrong, optional}
 use Rattle.event.specs.Rules.{required, readRules}
 use Rattle.event.specs.Types.{Details, Event}
 use Rattle.event.specs.Values.{object, member}
-use Rattle.event_text.specs.Front.{Front, fieldsFrom, frontIn, frontOf}
-
--- The event of a front.
-unfoldable pub eventWith : Front → Event
-eventWith f =
-    record {
-      zone = f .zone;
-      privacy = f .privacy;
-      details = f .details;
-      rules = optional [] readRules (f .rules) .value;
-      excludedRules = optional [] readRules (f .excludedRules) .value;
-      overrides = optional [] (readOverrides (f .details)) (f .overrides) .value;
-    }
+use Rattle.event_text.specs.Front.{Front, fieldsFrom, frontIn, frontOf, eventWith, listsFault}
 
 event-in : (fields : Fields) → eventIn fields .value ≡ eventWith (frontIn fields)
 unfolding eventIn eventWith frontIn
@@ -46,14 +34,6 @@ event-from (some fields) = event-in fields
 pub event-front : (s : List ℕ) → eventOf s ≡ eventWith (frontOf s)
 unfolding eventOf frontOf
 event-front s = event-from (object (textTree s))
-
--- The fault of the three lists, the front's being known.
-unfoldable pub listsFault : Front → ℕ
-listsFault f =
-    let rules = optional [] readRules (f .rules) .fault in
-    let excluded = optional [] readRules (f .excludedRules) .fault in
-    let overrides = optional [] (readOverrides (f .details)) (f .overrides) .fault in
-    lower rules (lower excluded overrides)
 
 -- The last of the faults joined first.
 last-first : (d r e o x : ℕ) → lower d (lower r (lower e (lower o x))) ≡ lower (lower d x) (lower r (lower e o))

@@ -11,8 +11,9 @@ use Rattle.event.specs.Ascii.{ascii}
 use Rattle.event.specs.Event.{detailsIn}
 use Rattle.event.specs.Properties.{readUid, readUpdated, readZone, readPrivacy}
 use Rattle.event.specs.Reading.{optional, unsupported}
-use Rattle.event.specs.Rules.{required}
-use Rattle.event.specs.Types.{Details}
+use Rattle.event.specs.Overrides.{readOverrides}
+use Rattle.event.specs.Rules.{required, readRules}
+use Rattle.event.specs.Types.{Details, Event}
 use Rattle.event.specs.Values.{object, member}
 
 pub record Front : Type 0 where
@@ -55,3 +56,23 @@ frontOf s = frontIn (fieldsFrom (object (textTree s)))
 -- The levels of a value that stands in the text's object.
 abbrev pub inner : ℕ
 inner = 15
+
+-- The event of a front: its lists are read.
+unfoldable pub eventWith : Front → Event
+eventWith f =
+    record {
+      zone = f .zone;
+      privacy = f .privacy;
+      details = f .details;
+      rules = optional [] readRules (f .rules) .value;
+      excludedRules = optional [] readRules (f .excludedRules) .value;
+      overrides = optional [] (readOverrides (f .details)) (f .overrides) .value;
+    }
+
+-- The fault of the three lists, the front's being known.
+unfoldable pub listsFault : Front → ℕ
+listsFault f =
+    let rules = optional [] readRules (f .rules) .fault in
+    let excluded = optional [] readRules (f .excludedRules) .fault in
+    let overrides = optional [] (readOverrides (f .details)) (f .overrides) .fault in
+    lower rules (lower excluded overrides)

@@ -5,6 +5,7 @@ pub mod marks;
 pub mod own;
 pub mod spots;
 pub mod times;
+pub mod whole;
 
 use property::Place;
 use words::Privacy;
