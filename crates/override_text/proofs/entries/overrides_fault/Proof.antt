@@ -1,4 +1,4 @@
--- `override_text::entries::overrides_fault` meets its contract.
+-- `override_text::entries::overrides_fault` meets its contract: an object, or none.
 use mathlib.Core.List.{List}
 use mathlib.Core.Path.{_∙_, sym, ap}
 use borrow.Author.Needs.{needs}

@@ -1,4 +1,4 @@
--- `override_text::lists::fill` meets its contract.
+-- `override_text::lists::fill` meets its contract: what is left to be stored makes of the slices what all would have made of them.
 use native.Mathlib.Omega.{arith}
 use Rattle.override_text.proofs.ListLaws.{Filling, filling-start, filling-next, filled-end, filled-out, filled-full}
 use borrow.Author.Needs.{needs}

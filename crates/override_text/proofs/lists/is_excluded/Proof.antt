@@ -1,4 +1,4 @@
--- `override_text::lists::is_excluded` meets its contract.
+-- `override_text::lists::is_excluded` meets its contract: an object, or none.
 use mathlib.Core.Bool.{Bool}
 use mathlib.Core.Path.{_∙_, sym, ap}
 use borrow.Author.Tests.{eq-eqb, ne-eqb}

@@ -1,7 +1,6 @@
--- `override_text::names::alone` meets its contract: a second member, one, or none.
-use Rattle.override_text.proofs.NameLaws.{alone-two, alone-none, alone-short}
+-- `override_text::names::alone` meets its contract.
+use Rattle.override_text.proofs.NameLaws.{alone-two, alone-none, alone-short, isEnd}
 use mathlib.Core.Path.{_∙_, sym, ap}
-use Rattle.override_text.proofs.NameLaws.{isEnd}
 use borrow.Author.Needs.{needs}
 use Rattle.override_text.proofs.names.alone.Statement.{statement}
 use Rattle.override_text.proofs.names.alone.Tie as tie

@@ -1,4 +1,4 @@
--- `override_text::names::names_fault` meets its contract.
+-- `override_text::names::names_fault` meets its contract: what was found and what is left make the whole.
 use mathlib.Core.Path.{_∙_, ap}
 use Prim.Native.Nat.{ℕ}
 use Rattle.fault.specs.Fault.{lower}
