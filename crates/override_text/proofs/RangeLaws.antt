@@ -1,9 +1,9 @@
 -- What is known of overrides that have no fault: date-times of the years 1601 to 9998, lengths of at most 366 days, and at most 256 of them.
-use Prim.Native.Nat.{ℕ, zero, suc, _+_, _*_, _≤_, _<_}
+use Prim.Native.Nat.{ℕ, zero, suc, _*_, _≤_, _<_}
 use mathlib.Core.Bool.{Bool, true, false}
-use mathlib.Core.List.{List, [], _∷_, map}
+use mathlib.Core.List.{List, [], map}
 use mathlib.Core.Option.{Option, none, some}
-use mathlib.Core.Path.{_≡_, refl, sym, ap, _∙_, subst}
+use mathlib.Core.Path.{_≡_, refl, ap, _∙_}
 use native.Mathlib.Omega.{arith}
 use borrow.Author.Tests.{ltb-false}
 use lib.Dec.{ltb}
@@ -12,9 +12,9 @@ use lib.Seq.{sets, take-all}
 use Rattle.signed.specs.Choose.{if_then_else_}
 use Rattle.json_tree.specs.Tree.{Json, Fields, noField, field}
 use Rattle.event.specs.Types.{Length, Details, Override}
-use Rattle.event.specs.Values.{isNull, object, member}
-use Rattle.event.specs.Reading.{Reading, right, orWrong, limited, atMost}
-use Rattle.event.specs.Properties.{noLength, dateTime, readStart, readLength}
+use Rattle.event.specs.Values.{isNull, object}
+use Rattle.event.specs.Reading.{right, orWrong, limited, atMost}
+use Rattle.event.specs.Properties.{noLength, dateTime, readLength}
 use Rattle.event.specs.Overrides.{patched, patchedStart, patchIn, overrideOf, overridesIn, readOverrides}
 use Rattle.property.proofs.Faults.{lower-zero}
 use Rattle.property.proofs.Ranges.{Within, Short, date-range, start-range, length-range}

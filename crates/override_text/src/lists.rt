@@ -1,7 +1,6 @@
 // The overrides as lists, in lent slices: their date-times, which of them are excluded, and the places of their patches.
 ghost use Prim.Native.Nat.{ℕ, suc, _≤_};
 ghost use mathlib.Core.Path.{_≡_};
-ghost use mathlib.Core.List.{map};
 ghost use lib.ListN.{length};
 ghost use Rattle.json_walk.specs.Walk.{membersOf};
 ghost use Rattle.json_tree.specs.Tree.{treeAt};
