@@ -50,7 +50,8 @@ fn limited(fault: u32, count: usize) -> u32
     fault
 }
 
-// The lowest fault of the members of the object at a place. All are read, also more than there may be.
+// The lowest fault of the members of the object at a place. All are read, also more than there may be. n falls with each member, so
+// text.len() - n of them have been read.
 fn faults(text: &[u8], at: usize, own: Own) -> u32
     ensures { λ r. ⌜ ((l : ℕ) → r ≡ Reading·limited 256 (entriesIn l (detailsIn (now (text .entry)) own) (now (text .entry)) (membersOf (now (text .entry)) at)) .fault) ⌝ }
 {

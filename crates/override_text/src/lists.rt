@@ -55,7 +55,8 @@ fn fill(text: &[u8], at: usize, ids: &mut [u64], gone: &mut [bool], places: &mut
     k
 }
 
-// The first 256 overrides at a place: more are not accepted. What is behind them in the slices keeps its value.
+// The first 256 overrides at a place: more are not accepted. What is behind them in the slices keeps its value. The override at k is
+// `patch` of the place and the id at k.
 pub fn overrides(
     text: &[u8],
     at: usize,
