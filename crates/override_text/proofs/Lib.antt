@@ -3,3 +3,4 @@ pub mod ListLaws
 pub mod NameLaws
 pub mod PatchLaws
 mod WalkLaws
+pub mod RangeLaws

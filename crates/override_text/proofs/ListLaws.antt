@@ -7,8 +7,9 @@ use mathlib.Core.Path.{_≡_, refl, sym, ap, _∙_, subst}
 use native.Mathlib.Numerals.{add-one}
 use native.Mathlib.Omega.{arith}
 use lib.Dec.{eqb}
-use lib.ListN.{length, getD, set, take, length-set}
+use lib.ListN.{length, getD, set, take, length-set, length-map}
 use lib.Seq.{sets, take-nil}
+use Rattle.json_text.specs.Choice.{if_then_else_}
 use Rattle.json_text.specs.Bytes.{byte}
 use Rattle.json_walk.specs.Strings.{rawAt}
 use Rattle.json_walk.specs.Walk.{firstMemberAt, nextMemberAt, membersFrom, membersOf}
@@ -26,7 +27,7 @@ use Rattle.property.specs.Words.{wordAt}
 use Rattle.override_text.specs.Entries.{entriesIn}
 use Rattle.override_text.specs.Lists.{Filled, placesOf, placesAt}
 use Rattle.override_text.specs.Patched.{patchAt}
-use Rattle.override_text.proofs.EntryLaws.{Named, named-first, named-next, overrides-yes, overrides-no}
+use Rattle.override_text.proofs.EntryLaws.{Named, named-first, named-next, entries-many, overrides-yes, overrides-no}
 use Rattle.override_text.proofs.WalkLaws.{members-next}
 
 -- ---- a list that is written element by element: what is left to be stored makes of the slice what the whole would have made of it at entry
@@ -238,3 +239,36 @@ filled-no s at ids gone places l own e =
     subst (λ (os : List Override). Filled os (placesAt s at) ids ids gone gone places places 0)
     (ap (λ (x : Reading (List Override)). x .value) (overrides-no own s at e l))
     (rw e (record { count = refl; ids = refl; gone = refl; places = refl }))
+
+-- ---- the override at place k of an accepted value: the patch at that place of the lists, of the id there
+
+-- a law of the overrides and the places of a value holds where it holds of an object's members, and of no overrides
+either : (P : List Override → List ℕ → Type 0) (s : List ℕ) (at l : ℕ) (own : Details)
+    → P (entriesIn l own s (membersOf s at) .value) (placesOf (membersOf s at)) → P [] []
+    → P (readOverrides own (treeAt (suc (suc l)) s at) .value) (placesAt s at)
+unfolding limited placesAt
+either P s at l own full empty = go (eqb (byte s at) 0x7B) refl
+  where
+    go : (c : Bool) → eqb (byte s at) 0x7B ≡ c → P (readOverrides own (treeAt (suc (suc l)) s at) .value) (if c then placesOf (membersOf s at) else [])
+    go true e =
+        subst (λ (os : List Override). P os (placesOf (membersOf s at)))
+        (ap (λ (x : Reading (List Override)). x .value) (overrides-yes own s at e l)) full
+    go false e =
+        subst (λ (os : List Override). P os [])
+        (ap (λ (x : Reading (List Override)). x .value) (overrides-no own s at e l)) empty
+
+module _ (s : List ℕ) (at l : ℕ) (own : Details) where
+  pub places-many : length (placesAt s at) ≡ length (readOverrides own (treeAt (suc (suc l)) s at) .value)
+  places-many =
+      either (λ (os : List Override) (ps : List ℕ). length ps ≡ length os) s at l own
+      (length-map (membersOf s at) (λ (m : Member). m .value) ∙ sym (entries-many l own s (membersOf s at))) refl
+
+  pub override-at : (k : ℕ) → k < length (placesAt s at) → (d : Override)
+      → getD (readOverrides own (treeAt (suc (suc l)) s at) .value) k d
+      ≡ patchAt l own (getD (map (λ (o : Override). o .id) (readOverrides own (treeAt (suc (suc l)) s at) .value)) k 0) s (getD (placesAt s at) k 0) .value
+  override-at k =
+      either (λ (os : List Override) (ps : List ℕ). k < length ps → (d : Override)
+      → getD os k d ≡ patchAt l own (getD (map (λ (o : Override). o .id) os) k 0) s (getD ps k 0) .value) s at l own
+      (λ h d. entry-at l own s (membersOf s at) k (omega (arith, h, length-map (membersOf s at) (λ (m : Member). m .value))) d
+      ∙ ap (λ (xs : List ℕ). patchAt l own (getD xs k 0) s (getD (placesOf (membersOf s at)) k 0) .value) (sym (entries-ids l own s (membersOf s at))))
+      (λ h d. absurd (omega (arith, h)))

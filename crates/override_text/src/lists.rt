@@ -1,7 +1,6 @@
 // The overrides as lists, in lent slices: their date-times, which of them are excluded, and the places of their patches.
 ghost use Prim.Native.Nat.{ℕ, suc, _≤_};
 ghost use mathlib.Core.Path.{_≡_};
-ghost use mathlib.Core.List.{map};
 ghost use lib.ListN.{length};
 ghost use Rattle.json_walk.specs.Walk.{membersOf};
 ghost use Rattle.json_tree.specs.Tree.{treeAt};
@@ -56,7 +55,8 @@ fn fill(text: &[u8], at: usize, ids: &mut [u64], gone: &mut [bool], places: &mut
     k
 }
 
-// The first 256 overrides at a place: more are not accepted. What is behind them in the slices keeps its value.
+// The first 256 overrides at a place: more are not accepted. What is behind them in the slices keeps its value. The override at k is
+// `patch` of the place and the id at k.
 pub fn overrides(
     text: &[u8],
     at: usize,

@@ -120,11 +120,15 @@ word-range P a f h none e = six-zero e
 word-range P a f h (some raw) e = h raw e
 
 -- Days 366 to 3,067,671, and for `until` to 3,068,036.
+pub date-range : (raw : List ℕ) → dateTime raw .fault ≡ 0 → Within (366 * 86400) (3067672 * 86400) (dateTime raw .value)
+unfolding dateTime
+date-range raw e =
+    let w : Within 31622400 (86400 * firstOfYear 8399) (dateTime raw .value) = local-range 9998 raw e in
+    record { from = omega arith; to = omega (arith, first-9999) }
+
 pub start-range : (v : Json) → readStart v .fault ≡ 0 → Within (366 * 86400) (3067672 * 86400) (readStart v .value)
-unfolding readStart dateTime
-start-range v =
-    word-range (λ x. Within (366 * 86400) (3067672 * 86400) x) 0 dateTime
-    (λ raw e. let w : Within 31622400 (86400 * firstOfYear 8399) (dateTime raw .value) = local-range 9998 raw e in record { from = omega arith; to = omega (arith, first-9999) }) (word v)
+unfolding readStart
+start-range v = word-range (λ x. Within (366 * 86400) (3067672 * 86400) x) 0 dateTime date-range (word v)
 
 pub until-range : (v : Json) → readUntil v .fault ≡ 0 → Within (366 * 86400) (3068037 * 86400) (readUntil v .value)
 unfolding readUntil

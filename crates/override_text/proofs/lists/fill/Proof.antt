@@ -1,4 +1,4 @@
--- `override_text::lists::fill` meets its contract.
+-- `override_text::lists::fill` meets its contract: what is left to be stored makes of the slices what all would have made of them.
 use native.Mathlib.Omega.{arith}
 use Rattle.override_text.proofs.ListLaws.{Filling, filling-start, filling-next, filled-end, filled-out, filled-full}
 use borrow.Author.Needs.{needs}
@@ -39,19 +39,25 @@ mul-ids : tie.Need-mul-ids Inv-loop μ-loop
 mul-ids c = omega (arith, c .before .before .before .before .before .before .loop .inv .low)
 
 slice-write-ids : tie.Need-slice-write-ids Inv-loop μ-loop
-slice-write-ids c = omega (arith, c .before .before .before .before .before .before .loop .inv .low, c .before .before .before .before .before .before .loop .inv .ids-long, c .before .before .before .before .before .before .before .before .before .before .before .before .pre .0, c .before .before .before .before .if1 .left)
+slice-write-ids c =
+    omega
+    (arith, c .before .before .before .before .before .before .loop .inv .low, c .before .before .before .before .before .before .loop .inv .ids-long, c .before .before .before .before .before .before .before .before .before .before .before .before .pre .0, c .before .before .before .before .if1 .left)
 
 is-excluded-requires : tie.Need-is-excluded-requires Inv-loop μ-loop
 is-excluded-requires c κs = search needs
 
 slice-write-gone : tie.Need-slice-write-gone Inv-loop μ-loop
-slice-write-gone c = omega (arith, c .before .before .before .before .before .before .before .loop .inv .low, c .before .before .before .before .before .before .before .loop .inv .gone-long, c .before .before .before .before .before .before .before .before .before .before .before .before .before .pre .1 .0, c .before .before .before .before .before .if1 .left)
+slice-write-gone c =
+    omega
+    (arith, c .before .before .before .before .before .before .before .loop .inv .low, c .before .before .before .before .before .before .before .loop .inv .gone-long, c .before .before .before .before .before .before .before .before .before .before .before .before .before .pre .1 .0, c .before .before .before .before .before .if1 .left)
 
 mul-places : tie.Need-mul-places Inv-loop μ-loop
 mul-places c = omega (arith, c .before .before .before .before .before .before .before .loop .inv .low)
 
 slice-write-places : tie.Need-slice-write-places Inv-loop μ-loop
-slice-write-places c = omega (arith, c .before .before .before .before .before .before .before .loop .inv .low, c .before .before .before .before .before .before .before .loop .inv .places-long, c .before .before .before .before .before .before .before .before .before .before .before .before .before .pre .1 .1, c .before .before .before .before .before .if1 .left)
+slice-write-places c =
+    omega
+    (arith, c .before .before .before .before .before .before .before .loop .inv .low, c .before .before .before .before .before .before .before .loop .inv .places-long, c .before .before .before .before .before .before .before .before .before .before .before .before .before .pre .1 .1, c .before .before .before .before .before .if1 .left)
 
 next-member-requires : tie.Need-next-member-requires Inv-loop μ-loop
 next-member-requires c κs = search needs
@@ -82,7 +88,11 @@ loop-less c = search needs
 
 loop-again : tie.Need-loop-again Inv-loop μ-loop
 loop-again c =
-    filling-next _ _ _ _ _ _ _ _ _ _ _ (c .before .before .before .before .before .before .before .before .loop .inv) (c .before .before .before .before .before .before .before .loop-test .taken) (c .before .before .before .before .before .before .if1 .left) _ (c .before .before .before .before .next .given .1) _
+    filling-next _ _ _ _ _ _ _ _ _ _ _
+    (c .before .before .before .before .before .before .before .before .loop .inv)
+    (c .before .before .before .before .before .before .before .loop-test .taken)
+    (c .before .before .before .before .before .before .if1 .left) _
+    (c .before .before .before .before .next .given .1) _
     (c .before .before .date .ensures) _ (c .before .is-excluded .ensures) _ (c .next-member .ensures)
 
 same-length-7 : tie.Need-same-length-7 Inv-loop μ-loop

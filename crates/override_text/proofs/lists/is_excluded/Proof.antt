@@ -1,4 +1,4 @@
--- `override_text::lists::is_excluded` meets its contract.
+-- `override_text::lists::is_excluded` meets its contract: an object, or none.
 use mathlib.Core.Bool.{Bool}
 use mathlib.Core.Path.{_∙_, sym, ap}
 use borrow.Author.Tests.{eq-eqb, ne-eqb}
@@ -23,11 +23,13 @@ returns : tie.Need-returns
 unfolding patchIn
 returns c =
     λ l own id. ap (λ (q : Reading Bool). q .value) (c .flag .ensures l)
-    ∙ ap (λ (q : Reading Override). q .value .excluded) (patch-yes _ _ own id (eq-eqb _ _ (sym (c .before .before .before .byte .ensures .is) ∙ c .before .before .if1 .taken)) l)
+    ∙ ap (λ (q : Reading Override). q .value .excluded)
+    (patch-yes _ _ own id (eq-eqb _ _ (sym (c .before .before .before .byte .ensures .is) ∙ c .before .before .if1 .taken)) l)
 
 returns-2 : tie.Need-returns-2
 returns-2 c =
-    λ l own id. ap (λ (q : Reading Override). q .value .excluded) (patch-no _ _ own id (ne-eqb _ _ (λ e. c .if1 .left (c .before .byte .ensures .is ∙ e))) l)
+    λ l own id. ap (λ (q : Reading Override). q .value .excluded)
+    (patch-no _ _ own id (ne-eqb _ _ (λ e. c .if1 .left (c .before .byte .ensures .is ∙ e))) l)
 
 pub is-excluded-spec : {M : Type 1} → statement M
 is-excluded-spec =

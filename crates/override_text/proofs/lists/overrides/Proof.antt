@@ -1,4 +1,4 @@
--- `override_text::lists::overrides` meets its contract.
+-- `override_text::lists::overrides` meets its contract: an object, or none.
 use mathlib.Core.Path.{_∙_, sym}
 use borrow.Author.Tests.{eq-eqb, ne-eqb}
 use Rattle.override_text.proofs.ListLaws.{filled-yes, filled-no}
@@ -23,7 +23,9 @@ same-length-3 c = search needs
 
 returns : tie.Need-returns
 returns c =
-    λ l own. filled-yes _ _ _ _ _ _ _ _ _ l own (eq-eqb _ _ (sym (c .before .before .before .before .before .before .before .before .before .before .before .byte .ensures .is) ∙ c .before .before .before .before .before .before .before .before .before .before .if1 .taken)) (c .before .before .before .before .before .before .fill .ensures l own)
+    λ l own. filled-yes _ _ _ _ _ _ _ _ _ l own
+    (eq-eqb _ _ (sym (c .before .before .before .before .before .before .before .before .before .before .before .byte .ensures .is) ∙ c .before .before .before .before .before .before .before .before .before .before .if1 .taken))
+    (c .before .before .before .before .before .before .fill .ensures l own)
 
 returns-2 : tie.Need-returns-2
 returns-2 c = λ l own. filled-no _ _ _ _ _ l own (ne-eqb _ _ (λ e. c .if1 .left (c .before .byte .ensures .is ∙ e)))
