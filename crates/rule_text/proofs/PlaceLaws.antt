@@ -1,10 +1,10 @@
 -- Lists of rules: their faults, and their rules by the places where they stand.
-use Prim.Native.Nat.{ℕ, suc, _≤_}
+use Prim.Native.Nat.{ℕ, zero, suc, _≤_, _<_}
 use mathlib.Core.Bool.{Bool, true, false}
 use mathlib.Core.List.{List, [], _∷_, map}
 use mathlib.Core.Path.{_≡_, refl, sym, ap, _∙_}
 use lib.Dec.{eqb, ltb}
-use lib.ListN.{length, take, length-map}
+use lib.ListN.{length, getD, take, length-map}
 use Rattle.signed.specs.Choose.{if_then_else_}
 use Rattle.fault.specs.Fault.{lower}
 use Rattle.rule_text.proofs.JoinLaws.{lower-limit, lower-zero}
@@ -21,7 +21,7 @@ use Rattle.rule.specs.Written.{RecurrenceRule}
 use Rattle.event.specs.Values.{listOf}
 use Rattle.event.specs.Reading.{Reading, wrong, orWrong, readAll, limited, atMost}
 use Rattle.event.specs.Rules.{readRule, readRules}
-use Rattle.rule_text.specs.Reads.{Entries}
+use Rattle.rule_text.specs.Reads.{entriesAt, Entries}
 use Rattle.rule_text.specs.Places.{valueOf, placesAt, Places, readPlace, rulesFault}
 use Rattle.rule_text.proofs.ListLaws.{array-is, array-not}
 
@@ -34,7 +34,7 @@ places-read l s (e ∷ es) = rw (place-tree l s (e .value), places-read l s es)
 
 module _ (s : List ℕ) (i : ℕ) where
   pub places-is : {before after : List ℕ} {m : ℕ} → eqb (byte s i) 0x5B ≡ true
-      → Entries (λ l. readAll readPlace (listOf (itemsOf (λ v. treeAt l s v) (elementsOf s i)))) before after m 0 → Places s i before after m
+      → Entries (λ l. entriesAt readPlace l s i) before after m 0 → Places s i before after m
   unfolding placesAt
   places-is e h =
       record {
@@ -58,7 +58,7 @@ each-rule l s [] = refl
 each-rule l s (e ∷ es) = rw (each-rule l s es)
 
 module _ (l : ℕ) (s : List ℕ) (i : ℕ) where
-  rules-is : eqb (byte s i) 0x5B ≡ true → readRules (treeAt (suc l) s i) ≡ limited 8 (readAll readRule (listOf (itemsOf (λ v. treeAt l s v) (elementsOf s i))))
+  rules-is : eqb (byte s i) 0x5B ≡ true → readRules (treeAt (suc l) s i) ≡ limited 8 (entriesAt readRule l s i)
   unfolding readRules orWrong
   rules-is e = rw (array-is l s i e)
 
@@ -66,8 +66,8 @@ module _ (l : ℕ) (s : List ℕ) (i : ℕ) where
   unfolding readRules orWrong
   rules-not e = rw (array-not l s i e)
 
-  pub rules-fault-is : {m n k : ℕ} → eqb (byte s i) 0x5B ≡ true → m ≡ length (readAll readRule (listOf (itemsOf (λ v. treeAt l s v) (elementsOf s i))) .value)
-      → n ≡ readAll readRule (listOf (itemsOf (λ v. treeAt l s v) (elementsOf s i))) .fault → k ≡ rulesFault m n → k ≡ readRules (treeAt (suc l) s i) .fault
+  pub rules-fault-is : {m n k : ℕ} → eqb (byte s i) 0x5B ≡ true → m ≡ length (entriesAt readRule l s i .value)
+      → n ≡ entriesAt readRule l s i .fault → k ≡ rulesFault m n → k ≡ readRules (treeAt (suc l) s i) .fault
   unfolding limited atMost rulesFault
   rules-fault-is {m} {n} {k} e p q r = rw (rules-is e, ← p, ← q) (r ∙ sym (lower-limit (ltb 8 m) n))
 
@@ -99,7 +99,7 @@ module _ (l : ℕ) (s : List ℕ) (i : ℕ) (none-at : readRules (treeAt (suc l)
     where
       go : (c : Bool) → eqb (byte s i) 0x5B ≡ c → length (if c then map valueOf (elementsOf s i) else []) ≤ 8
       go true e =
-          let all = readAll readRule (listOf (itemsOf (λ v. treeAt l s v) (elementsOf s i))) in
+          let all = entriesAt readRule l s i in
           let p : lower (all .fault) (if ltb 8 (length (all .value)) then 9 else 0) ≡ 0 = rw (rules-is l s i e) at none-at in
           let q : length (all .value) ≤ 8 = few-places (length (all .value)) (all .fault) _ refl p in
           let r : length (all .value) ≡ length (map valueOf (elementsOf s i)) = ap length (each-rule l s (elementsOf s i)) ∙ length-map (map valueOf (elementsOf s i)) (λ v. readRule (treeAt l s v) .value) in
@@ -112,7 +112,7 @@ module _ (l : ℕ) (s : List ℕ) (i : ℕ) (none-at : readRules (treeAt (suc l)
     where
       go : (c : Bool) → eqb (byte s i) 0x5B ≡ c → All (λ v. readRule (treeAt l s v) .fault ≡ 0) (if c then map valueOf (elementsOf s i) else [])
       go true e =
-          let all = readAll readRule (listOf (itemsOf (λ v. treeAt l s v) (elementsOf s i))) in
+          let all = entriesAt readRule l s i in
           let p : lower (all .fault) (atMost 8 (all .value)) ≡ 0 = rw (rules-is l s i e) at none-at in
           each-fault l s (elementsOf s i) (lower-zero (all .fault) _ p .0)
       go false e = nil
@@ -122,3 +122,19 @@ pub places-stored : (s : List ℕ) (i : ℕ) {before after : List ℕ} {m : ℕ}
 places-stored s i {before} {after} {m} h k =
     let p : m ≡ length (placesAt s i) = h .count in
     rw (h .list, p) (take-sets before (placesAt s i) (omega arith))
+
+-- ---- by number
+
+mapped-at : {A B : Type 0} (f : A → B) (xs : List A) (k : ℕ) (d : B) (e : A) → k < length xs → getD (map f xs) k d ≡ f (getD xs k e)
+mapped-at f [] k d e h = absurd (omega arith)
+mapped-at f (x ∷ xs) zero d e h = refl
+mapped-at f (x ∷ xs) (suc k) d e h = mapped-at f xs k d e (omega arith)
+
+-- The k-th rule is the one at the k-th place.
+pub rule-at : (l : ℕ) (s : List ℕ) (i k : ℕ) (d : RecurrenceRule) → k < length (placesAt s i) → getD (readRules (treeAt (suc l) s i) .value) k d ≡ readRule (treeAt l s (getD (placesAt s i) k 0)) .value
+rule-at l s i k d h = rw (rules-are l s i) (mapped-at (λ v. readRule (treeAt l s v) .value) (placesAt s i) k d 0 h)
+
+pub all-at : {A : Type 0} (P : A → Type 0) {xs : List A} → All P xs → (k : ℕ) (e : A) → k < length xs → P (getD xs k e)
+all-at P nil k e h = absurd (omega arith)
+all-at P (more p ps) zero e h = p
+all-at P (more p ps) (suc k) e h = all-at P ps k e (omega arith)
