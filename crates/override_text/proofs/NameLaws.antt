@@ -1,11 +1,11 @@
 -- The names of a patch: one turn of each loop, and the definitions of `event` by the members of the walk.
-use Prim.Native.Nat.{ℕ, zero, suc, _+_, _-_, _<_, _≤_}
+use Prim.Native.Nat.{ℕ, zero, suc, _-_, _<_, _≤_}
 use mathlib.Core.Bool.{Bool, true, false, _||_}
 use mathlib.Core.List.{List, [], _∷_}
 use mathlib.Core.Path.{_≡_, refl, ap, sym, _∙_}
 use native.Mathlib.Numerals.{sub-one}
 use native.Mathlib.Omega.{arith}
-use lib.Dec.{eqb, ltb}
+use lib.Dec.{eqb}
 use lib.ListN.{length, getD}
 use Rattle.fault.specs.Fault.{lower}
 use Rattle.json_walk.specs.Strings.{bytesAt, rawAt, ahead}
@@ -15,7 +15,7 @@ use Rattle.json_walk.specs.declared.MemberStep.{MemberStep}
 use Rattle.json_walk.specs.declared.MemberStep.the-variants.{One, End}
 use Rattle.json_walk.proofs.Laws.{bytes-ahead}
 use Rattle.json_walk.proofs.Walks.{members-end}
-use Rattle.json_tree.specs.Tree.{Json, Fields, fieldsOf}
+use Rattle.json_tree.specs.Tree.{Json, fieldsOf}
 use Rattle.event.specs.Overrides.{hasMark, nameFault, nameFaults, alone}
 use Rattle.override_text.specs.Names.{lowest, ofName, single}
 

@@ -3,7 +3,7 @@ use Prim.Native.Nat.{ℕ, zero, suc}
 use mathlib.Core.Bool.{Bool, true, false, not, _&&_}
 use mathlib.Core.List.{List}
 use mathlib.Core.Option.{Option, none, some}
-use mathlib.Core.Path.{_≡_, refl, sym, ap, _∙_}
+use mathlib.Core.Path.{_≡_, sym, ap, _∙_}
 use lib.Dec.{eqb}
 use Rattle.signed.specs.Choose.{if_then_else_}
 use Rattle.fault.specs.Fault.{lower}
@@ -82,38 +82,28 @@ joined id start length busy allDay title description excluded rest =
     }
 
 module _ (own : Details) (id : ℕ) (fields : Fields) (start : Reading ℕ) (length : Reading Length) (busy allDay : Reading Bool)
-    (title description : Reading (Option Text)) (excluded : Reading Bool) (single : Bool) (names : ℕ) where
-  pub patch-joined : start ≡ patchedStart id (member (ascii "start") fields)
-      → length ≡ patched (own .length) noLength readLength (member (ascii "duration") fields)
-      → busy ≡ patched (own .busy) true readBusy (member (ascii "freeBusyStatus") fields)
-      → allDay ≡ patched (own .allDay) false readBoolean (member (ascii "showWithoutTime") fields)
-      → title ≡ patched (own .title) none readText (member (ascii "title") fields)
-      → description ≡ patched (own .description) none readText (member (ascii "description") fields)
-      → excluded ≡ patched false false readBoolean (member (ascii "excluded") fields)
-      → single ≡ alone fields
-      → names ≡ nameFaults fields
-      → joined id start length busy allDay title description excluded (lower (if excluded .value && not single then 7 else 0) names) ≡ patchIn own id fields
+    (title description : Reading (Option Text)) (excluded : Reading Bool) (single : Bool) (names : ℕ)
+    (a : start ≡ patchedStart id (member (ascii "start") fields))
+    (b : length ≡ patched (own .length) noLength readLength (member (ascii "duration") fields))
+    (c : busy ≡ patched (own .busy) true readBusy (member (ascii "freeBusyStatus") fields))
+    (d : allDay ≡ patched (own .allDay) false readBoolean (member (ascii "showWithoutTime") fields))
+    (e : title ≡ patched (own .title) none readText (member (ascii "title") fields))
+    (f : description ≡ patched (own .description) none readText (member (ascii "description") fields))
+    (g : excluded ≡ patched false false readBoolean (member (ascii "excluded") fields))
+    (h : single ≡ alone fields) (k : names ≡ nameFaults fields) where
+  patch-joined : joined id start length busy allDay title description excluded (lower (if excluded .value && not single then 7 else 0) names)
+      ≡ patchIn own id fields
   unfolding patchIn excludedFault
-  patch-joined a b c d e f g h k =
-      λ i. joined id (a i) (b i) (c i) (d i) (e i) (f i) (g i) (lower (if g i .value && not (h i) then 7 else 0) (k i))
+  patch-joined = λ i. joined id (a i) (b i) (c i) (d i) (e i) (f i) (g i) (lower (if g i .value && not (h i) then 7 else 0) (k i))
 
-  -- the same, with the fault as it was joined
-  pub patch-made : start ≡ patchedStart id (member (ascii "start") fields)
-      → length ≡ patched (own .length) noLength readLength (member (ascii "duration") fields)
-      → busy ≡ patched (own .busy) true readBusy (member (ascii "freeBusyStatus") fields)
-      → allDay ≡ patched (own .allDay) false readBoolean (member (ascii "showWithoutTime") fields)
-      → title ≡ patched (own .title) none readText (member (ascii "title") fields)
-      → description ≡ patched (own .description) none readText (member (ascii "description") fields)
-      → excluded ≡ patched false false readBoolean (member (ascii "excluded") fields)
-      → single ≡ alone fields
-      → names ≡ nameFaults fields
-      → (beside rest fault : ℕ) → beside ≡ (if excluded .value && not single then 7 else 0) → rest ≡ lower beside names
+  -- the faults are joined from the last on: that of `excluded` beside others, with those of the names, with the others
+  pub patch-made : (beside rest fault : ℕ) → beside ≡ (if excluded .value && not single then 7 else 0) → rest ≡ lower beside names
       → fault ≡ joined id start length busy allDay title description excluded rest .fault
       → record { value = joined id start length busy allDay title description excluded rest .value; fault = fault } ≡ patchIn own id fields
-  patch-made a b c d e f g h k beside rest fault x y z =
+  patch-made beside rest fault x y z =
       (λ i. record { value = joined id start length busy allDay title description excluded rest .value; fault = z i })
       ∙ ap (λ (n : ℕ). joined id start length busy allDay title description excluded n) (y ∙ ap (λ (n : ℕ). lower n names) x)
-      ∙ patch-joined a b c d e f g h k
+      ∙ patch-joined
 
 -- ---- is it an object?
 

@@ -1,7 +1,7 @@
 -- A walk over members that joins their faults: where it stands, what was found and what is left make the whole.
-use Prim.Native.Nat.{ℕ, zero, suc, _+_, _-_, _<_, _≤_}
+use Prim.Native.Nat.{ℕ, _-_, _<_, _≤_}
 use mathlib.Core.List.{List, [], _∷_}
-use mathlib.Core.Path.{_≡_, refl, sym, ap, _∙_}
+use mathlib.Core.Path.{_≡_, sym, ap, _∙_}
 use lib.ListN.{length}
 use Rattle.fault.specs.Fault.{lower}
 use Rattle.fault.proofs.Laws.{none-lower, lower-none, lower-assoc}

@@ -1,13 +1,11 @@
 // The overrides one by one: their names are date-times, their values patches.
-ghost use Prim.Native.Nat.{ℕ, suc, _≤_};
+ghost use Prim.Native.Nat.{ℕ, suc};
 ghost use mathlib.Core.Path.{_≡_};
 ghost use lib.Dec.{ltb};
-ghost use lib.ListN.{length};
 ghost use Rattle.signed.specs.Choose.{if_then_else_};
 ghost use Rattle.fault.specs.Fault.{lower as Fault·lower};
 ghost use Rattle.json_walk.specs.Walk.{membersOf};
 ghost use Rattle.json_tree.specs.Tree.{treeAt};
-ghost use Rattle.event.specs.Types.{Details};
 ghost use Rattle.event.specs.Reading.{limited as Reading·limited};
 ghost use Rattle.event.specs.Properties.{dateTime};
 ghost use Rattle.event.specs.Overrides.{overrideOf, readOverrides};
@@ -52,7 +50,8 @@ fn limited(fault: u32, count: usize) -> u32
     fault
 }
 
-// The lowest fault of the members of the object at a place. All are read, also more than there may be.
+// The lowest fault of the members of the object at a place. All are read, also more than there may be. n falls with each member, so
+// text.len() - n of them have been read.
 fn faults(text: &[u8], at: usize, own: Own) -> u32
     ensures { λ r. ⌜ ((l : ℕ) → r ≡ Reading·limited 256 (entriesIn l (detailsIn (now (text .entry)) own) (now (text .entry)) (membersOf (now (text .entry)) at)) .fault) ⌝ }
 {

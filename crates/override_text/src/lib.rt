@@ -1,7 +1,8 @@
 // `recurrenceOverrides`, read at the place where it stands in a text that is known to be JSON. The text is the store: a patch is its place.
 pub mod entries;
-pub mod names;
-pub mod patched;
+pub mod lists;
+mod names;
+mod patched;
 pub mod patches;
 mod readings;
 

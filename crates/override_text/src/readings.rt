@@ -71,7 +71,7 @@ pub fn mark(f: Flag) -> Mark
     }
 }
 
-// The text itself does not matter: a place means the same in each.
+// The text is there for the contract: a place means the text that stands there.
 pub fn shown(text: &[u8], p: Passage) -> Shown
     ensures { λ r. ⌜ shownIn (now (text .entry)) r ≡ fromPassage (now (text .entry)) p ⌝ }
 {

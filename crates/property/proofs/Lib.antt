@@ -1,5 +1,7 @@
 pub mod Ends
+pub mod Faults
 pub mod Fields
+pub mod Ranges
 pub mod Readings
 pub mod Shapes
 pub mod Words

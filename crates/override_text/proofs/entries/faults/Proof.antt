@@ -1,4 +1,4 @@
--- `override_text::entries::faults` meets its contract.
+-- `override_text::entries::faults` meets its contract: what was found and what is left make the whole.
 use Rattle.override_text.specs.Meaning.{detailsIn}
 use Rattle.override_text.proofs.EntryLaws.{Walk, walk-start, walk-next, walk-end, walk-out}
 use borrow.Author.Needs.{needs}
@@ -49,7 +49,10 @@ loop-less c = search needs
 
 loop-again : tie.Need-loop-again Inv-loop μ-loop
 loop-again c =
-    walk-next _ _ _ _ _ _ (c .before .before .before .before .before .before .before .loop .inv) (c .before .before .before .before .before .before .loop-test .taken) _ (c .before .before .before .before .next .given .1) _
+    walk-next _ _ _ _ _ _
+    (c .before .before .before .before .before .before .before .loop .inv)
+    (c .before .before .before .before .before .before .loop-test .taken) _
+    (c .before .before .before .before .next .given .1) _
     (c .before .before .entry-fault .ensures) _ (c .before .lower .ensures) _ (c .next-member .ensures)
 
 limited-requires-2 : tie.Need-limited-requires-2 Inv-loop μ-loop

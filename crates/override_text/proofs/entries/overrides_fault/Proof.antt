@@ -1,4 +1,4 @@
--- `override_text::entries::overrides_fault` meets its contract.
+-- `override_text::entries::overrides_fault` meets its contract: an object, or none.
 use mathlib.Core.List.{List}
 use mathlib.Core.Path.{_∙_, sym, ap}
 use borrow.Author.Needs.{needs}
@@ -18,7 +18,8 @@ faults-requires c κs = search needs
 returns : tie.Need-returns
 returns c =
     λ l. c .faults .ensures l
-    ∙ ap (λ (r : Reading (List Override)). r .fault) (overrides-yes _ _ _ (eq-eqb _ _ (sym (c .before .before .byte .ensures .is) ∙ c .before .if1 .taken)) l)
+    ∙ ap (λ (r : Reading (List Override)). r .fault)
+    (overrides-yes _ _ _ (eq-eqb _ _ (sym (c .before .before .byte .ensures .is) ∙ c .before .if1 .taken)) l)
 
 returns-2 : tie.Need-returns-2
 returns-2 c =

@@ -1,21 +1,16 @@
+-- `override_text::names::first` meets its contract.
 use Rattle.property.proofs.Fields.{first-past}
 use mathlib.Core.Path.{sym}
 use borrow.Author.Needs.{needs}
 use Rattle.override_text.proofs.names.first.Statement.{statement}
 use Rattle.override_text.proofs.names.first.Tie as tie
-use Rattle.override_text.proofs.names.first.Reads as reads
-use Rattle.override_text.proofs.names.first.Lts as lts
-use Rattle.json_walk.proofs.objects.first_member.Reads as first-member-reads
 
--- src/names.rt:21:9
 first-member-requires : tie.Need-first-member-requires
 first-member-requires c κs = search needs
 
--- src/names.rt:21:9
 returns : tie.Need-returns
 returns c = search needs
 
--- src/names.rt:17:1
 returns-2 : tie.Need-returns-2
 returns-2 c = sym (first-past _ _ (c .if1 .left))
 

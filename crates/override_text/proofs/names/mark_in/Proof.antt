@@ -1,3 +1,4 @@
+-- `override_text::names::mark_in` meets its contract: what is left of the bytes answers as all of them do.
 use Rattle.event.specs.Overrides.{hasMark}
 use Rattle.json_walk.specs.Strings.{bytesAt}
 use Rattle.override_text.proofs.NameLaws.{mark-none, mark-step}
@@ -6,10 +7,6 @@ use borrow.Author.Tests.{eq-eqb, ne-eqb}
 use mathlib.Core.Path.{_≡_}
 use Rattle.override_text.proofs.names.mark_in.Statement.{statement}
 use Rattle.override_text.proofs.names.mark_in.Tie as tie
-use Rattle.override_text.proofs.names.mark_in.Reads as reads
-use Rattle.override_text.proofs.names.mark_in.Lts as lts
-use Rattle.json_text.proofs.bytes.byte.Reads as byte-reads
-use Rattle.json_walk.proofs.strings.step.Reads as step-reads
 
 abbrev Inv-loop : tie.InvT-loop
 Inv-loop text at count i₀ n₀ i n = hasMark (bytesAt n text i) ≡ hasMark (bytesAt count text at)
@@ -17,16 +14,13 @@ Inv-loop text at count i₀ n₀ i n = hasMark (bytesAt n text i) ≡ hasMark (b
 abbrev μ-loop : tie.MeasureT-loop
 μ-loop text at count i₀ n₀ i n = n
 
--- src/names.rt:32:5
 loop-holds : tie.Need-loop-holds Inv-loop μ-loop
 unfolding bytesAt hasMark
 loop-holds c = search needs
 
--- src/names.rt:33:13
 byte-requires : tie.Need-byte-requires Inv-loop μ-loop
 byte-requires c κs = search needs
 
--- src/names.rt:35:13
 returns : tie.Need-returns Inv-loop μ-loop
 unfolding bytesAt hasMark
 returns c =
@@ -37,7 +31,6 @@ returns c =
       eq-eqb _ _ (c .if1 .taken),
     )
 
--- src/names.rt:38:13
 returns-2 : tie.Need-returns-2 Inv-loop μ-loop
 unfolding bytesAt hasMark
 returns-2 c =
@@ -49,19 +42,15 @@ returns-2 c =
       eq-eqb _ _ (c .if2 .taken),
     )
 
--- src/names.rt:40:9
 step-requires : tie.Need-step-requires Inv-loop μ-loop
 step-requires c κs = search needs
 
--- src/names.rt:41:9
 sub-n : tie.Need-sub-n Inv-loop μ-loop
 sub-n c = search needs
 
--- src/names.rt:32:5
 loop-less : tie.Need-loop-less Inv-loop μ-loop
 loop-less c = search needs
 
--- src/names.rt:32:5
 loop-again : tie.Need-loop-again Inv-loop μ-loop
 unfolding bytesAt hasMark
 loop-again c =
@@ -74,7 +63,6 @@ loop-again c =
       ← (c .step .ensures),
     )
 
--- src/names.rt:27:1
 returns-3 : tie.Need-returns-3 Inv-loop μ-loop
 unfolding bytesAt hasMark
 returns-3 c =

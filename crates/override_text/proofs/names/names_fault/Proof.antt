@@ -1,4 +1,4 @@
--- `override_text::names::names_fault` meets its contract.
+-- `override_text::names::names_fault` meets its contract: what was found and what is left make the whole.
 use mathlib.Core.Path.{_∙_, ap}
 use Prim.Native.Nat.{ℕ}
 use Rattle.fault.specs.Fault.{lower}
@@ -46,8 +46,12 @@ loop-less c = search needs
 
 loop-again : tie.Need-loop-again Inv-loop μ-loop
 loop-again c =
-    left-next _ _ _ _ _ _ (c .before .before .before .before .before .before .before .loop .inv) (c .before .before .before .before .before .before .loop-test .taken) _ (c .before .before .before .before .next .given .1) _
-    (c .before .lower .ensures ∙ ap (λ (n : ℕ). lower (c .before .before .before .before .before .before .before .loop .found) n) (c .before .before .name-fault .ensures)) _ (c .next-member .ensures)
+    left-next _ _ _ _ _ _
+    (c .before .before .before .before .before .before .before .loop .inv)
+    (c .before .before .before .before .before .before .loop-test .taken) _
+    (c .before .before .before .before .next .given .1) _
+    (c .before .lower .ensures ∙ ap (λ (n : ℕ). lower (c .before .before .before .before .before .before .before .loop .found) n) (c .before .before .name-fault .ensures))
+    _ (c .next-member .ensures)
 
 returns-2 : tie.Need-returns-2 Inv-loop μ-loop
 returns-2 c = left-out _ _ _ _ _ _ (c .before .loop .inv) (c .loop-test .left)

@@ -24,7 +24,10 @@ enum-told : tie.Need-enum-told
 enum-told c = search needs
 
 returns : tie.Need-returns
-returns c = λ l. (c .when .ensures ∙ c .before .read-start .ensures l) ∙ start-read _ _ _ (here _ _ _ _ (c .before .before .before .before .before .member .ensures) _ (c .before .before .before .m .given .1) l)
+returns c =
+    λ l.
+    (c .when .ensures ∙ c .before .read-start .ensures l) ∙ start-read _ _ _
+    (here _ _ _ _ (c .before .before .before .before .before .member .ensures) _ (c .before .before .before .m .given .1) l)
 
 returns-2 : tie.Need-returns-2
 returns-2 c = λ l. start-own _ _ (missing _ _ _ _ (c .before .before .member .ensures) (c .enum-told .given .1) l)

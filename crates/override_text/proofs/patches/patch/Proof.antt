@@ -1,4 +1,4 @@
--- `override_text::patches::patch` meets its contract.
+-- `override_text::patches::patch` meets its contract: an object, or none.
 use mathlib.Core.Path.{_∙_, sym}
 use borrow.Author.Tests.{eq-eqb, ne-eqb}
 use Rattle.override_text.proofs.PatchLaws.{patch-yes, patch-no}

@@ -1,4 +1,4 @@
--- `override_text::patches::patch_in` meets its contract.
+-- `override_text::patches::patch_in` meets its contract: each property by its reader, and the faults joined.
 use mathlib.Core.Path.{_∙_}
 use Rattle.override_text.proofs.NameLaws.{alone-tree, names-tree}
 use Rattle.override_text.proofs.PatchLaws.{patch-made}

@@ -1,0 +1,3 @@
+pub mod Objects
+pub mod Events
+pub mod Accepted

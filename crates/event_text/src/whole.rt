@@ -1,0 +1,80 @@
+// The lowest of 5 to 9 that applies to a text.
+ghost use mathlib.Core.List.{[]};
+ghost use mathlib.Core.Path.{_≡_};
+ghost use Rattle.property.specs.From.{valueIn};
+ghost use Rattle.event.specs.Event.{eventFault};
+ghost use Rattle.event.specs.Overrides.{readOverrides};
+ghost use Rattle.event.specs.Reading.{optional};
+ghost use Rattle.event.specs.Rules.{readRules};
+ghost use Rattle.event_text.specs.Front.{inner, listsFault};
+ghost use Rattle.event_text.specs.Held.{fromHead};
+use crate::Head;
+use crate::heads::head_at;
+use crate::judged::no_event;
+use fault::lower;
+use json_text::bytes::byte;
+use json_text::bytes::space;
+use override_text::Own;
+use override_text::entries::overrides_fault;
+use property::Place;
+use rule_text::rules::rules_fault;
+
+// The lowest fault of a list of rules, which may be absent.
+fn rules_at(text: &[u8], place: Place) -> u32
+    ensures { λ r. ⌜ r ≡ optional [] readRules (valueIn inner (now (text .entry)) place) .fault ⌝ }
+{
+    match place {
+        Place::None => 0,
+        Place::At(at) => rules_fault(text, at),
+    }
+}
+
+// The lowest fault of the overrides, which may be absent.
+fn overrides_at(text: &[u8], head: Head) -> u32
+    ensures { λ r. ⌜ r ≡ optional [] (readOverrides (fromHead inner (now (text .entry)) head .details)) (fromHead inner (now (text .entry)) head .overrides) .fault ⌝ }
+{
+    let title = head.title;
+    let description = head.description;
+    let own = Own {
+        start: head.start,
+        days: head.days,
+        seconds: head.seconds,
+        busy: head.busy,
+        allday: head.allday,
+        title,
+        description,
+    };
+    let overrides = head.overrides;
+    match overrides {
+        Place::None => 0,
+        Place::At(at) => overrides_fault(text, at, own),
+    }
+}
+
+// The lowest fault of the three lists of an event.
+pub fn lists_fault(text: &[u8], head: Head) -> u32
+    ensures { λ r. ⌜ r ≡ listsFault (fromHead inner (now (text .entry)) head) ⌝ }
+{
+    let rules = head.rules;
+    let excluded = head.excluded;
+    let kept = rules_at(text, rules);
+    let left = rules_at(text, excluded);
+    let patched = overrides_at(text, head);
+    lower(kept, lower(left, patched))
+}
+
+// Where 5 applies, 6 to 9 are not judged.
+pub fn event_fault(text: &[u8]) -> u32
+    ensures { λ r. ⌜ r ≡ eventFault (now (text .entry)) ⌝ }
+{
+    let at = space(text, 0);
+    if byte(text, at) != 0x7B {
+        return 5;
+    }
+    if no_event(text, at) {
+        return 5;
+    }
+    let head = head_at(text, at);
+    let own = head.fault;
+    lower(own, lists_fault(text, head))
+}

@@ -1,0 +1,14 @@
+pub mod ReadLaws
+pub mod IntegerLaws
+pub mod FieldLaws
+pub mod EntryLaws
+pub mod ListLaws
+pub mod DayLaws
+pub mod JoinLaws
+pub mod EndLaws
+pub mod CollectLaws
+pub mod RuleLaws
+pub mod PlaceLaws
+pub mod MonthBounds
+pub mod UntilBounds
+pub mod BoundLaws

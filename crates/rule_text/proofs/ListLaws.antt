@@ -1,0 +1,112 @@
+-- A by-list at a place is the tree's.
+use Prim.Native.Nat.{ℕ, suc, _<_}
+use mathlib.Core.Bool.{Bool, true, false}
+use mathlib.Core.List.{List, [], _∷_}
+use mathlib.Core.Option.{none, some}
+use mathlib.Core.Path.{_≡_, refl}
+use native.Mathlib.Omega.{arith}
+use lib.Dec.{eqb, ltb}
+use lib.ListN.{length}
+use lib.Seq.{length-sets}
+use borrow.Author.Tests.{eqb-true, ne-eqb}
+use Rattle.signed.specs.Choose.{if_then_else_}
+use Rattle.json_text.specs.Bytes.{byte}
+use Rattle.json_walk.specs.Walk.{membersOf, elementsOf}
+use Rattle.json_tree.specs.Tree.{Json, scalarTree, treeBy, treeAt, itemsOf}
+use Rattle.json_tree.proofs.Trees.{choose, always, object-tree, array-tree}
+use Rattle.json_tree.specs.Finds.{findIn}
+use Rattle.json_tree.specs.declared.Found.{Found}
+use Rattle.json_tree.specs.declared.Found.the-variants.{Here, Missing}
+use Rattle.property.proofs.Fields.{foundIn, member-tree}
+use Rattle.event.specs.Values.{array, object, listOf}
+use Rattle.event.specs.Reading.{Reading, right, wrong, orWrong, optional, readAll, atMost, limited}
+use Rattle.event.specs.Rules.{entriesOf, byList}
+use Rattle.rule_text.specs.Members.{fieldsAt, memberAt}
+use Rattle.rule_text.specs.Reads.{Entries}
+use Rattle.rule_text.specs.Lists.{listPlace, Within, listFault}
+use Rattle.rule_text.specs.declared.Place.{Place}
+use Rattle.rule_text.proofs.JoinLaws.{lower-limit}
+use Rattle.rule_text.specs.declared.Place.the-variants.{At, Absent, Wrong}
+
+-- ---- arrays and objects
+
+module _ (l : ℕ) (s : List ℕ) (i : ℕ) where
+  pub array-is : eqb (byte s i) 0x5B ≡ true → array (treeAt (suc l) s i) ≡ some (listOf (itemsOf (λ v. treeAt l s v) (elementsOf s i)))
+  array-is e =
+      let b : byte s i ≡ 0x5B = eqb-true (byte s i) 0x5B e in
+      let d : eqb (byte s i) 0x7B ≡ false = rw b in
+      rw (array-tree l s i d e)
+
+  pub array-not : eqb (byte s i) 0x5B ≡ false → array (treeAt (suc l) s i) ≡ none
+  unfolding treeAt treeBy scalarTree
+  array-not e = rw e (simp (choose array, always))
+
+  pub object-is : eqb (byte s i) 0x7B ≡ true → object (treeAt (suc l) s i) ≡ some (fieldsAt l s i)
+  object-is e = rw (object-tree l s i e)
+
+  pub object-not : eqb (byte s i) 0x7B ≡ false → object (treeAt (suc l) s i) ≡ none
+  unfolding treeAt treeBy scalarTree
+  object-not e = rw e (simp (choose object, always))
+
+-- ---- a list by its place
+
+-- The list at a place, l levels below it.
+abbrev pub listAt : {A : Type 0} → (Json → Reading A) → ℕ → List ℕ → Place → Reading (List A)
+listAt f l s (At i) = entriesOf f (listOf (itemsOf (λ v. treeAt l s v) (elementsOf s i)))
+listAt f l s Absent = right []
+listAt f l s Wrong = wrong [] 6
+
+module _ {A : Type 0} (f : Json → Reading A) (l : ℕ) (s : List ℕ) where
+  array-place : (i : ℕ) (c : Bool) → eqb (byte s i) 0x5B ≡ c → orWrong [] (entriesOf f) (array (treeAt (suc l) s i)) ≡ listAt f l s (if c then At i else Wrong)
+  unfolding orWrong
+  array-place i true e = rw (array-is l s i e)
+  array-place i false e = rw (array-not l s i e)
+
+  found-place : (found : Found) → byList f (foundIn (suc l) s found) ≡ listAt f l s (listPlace s found)
+  unfolding byList optional listPlace
+  found-place (Here m) = array-place (m .value) _ refl
+  found-place Missing = refl
+
+  pub by-place : (i : ℕ) (name : List ℕ) → byList f (memberAt (suc l) s i name) ≡ listAt f l s (listPlace s (findIn s name (membersOf s i)))
+  by-place i name = rw (member-tree (suc l) s name (membersOf s i)) (found-place (findIn s name (membersOf s i)))
+
+-- ---- an array of entries, by all its entries
+
+module _ {A : Type 0} (f : Json → Reading A) where
+  pub entries-value : (vs : List Json) → entriesOf f vs .value ≡ readAll f vs .value
+  unfolding entriesOf readAll limited
+  entries-value [] = refl
+  entries-value (v ∷ vs) = refl
+
+  pub entries-fault : (vs : List Json) → entriesOf f vs .fault ≡ listFault (length (readAll f vs .value)) (readAll f vs .fault)
+  unfolding entriesOf readAll limited atMost listFault
+  entries-fault [] = refl
+  entries-fault (v ∷ vs) = rw (ne-eqb (suc (length (readAll f vs .value))) 0 (λ e. omega arith)) (lower-limit (ltb 64 (suc (length (readAll f vs .value)))) _)
+
+pub entries-same : {A : Type 0} {tree other : ℕ → Reading (List A)} {before after : List A} {m n : ℕ} → Entries other before after m n → ((l : ℕ) → tree l ≡ other l) → Entries tree before after m n
+entries-same {A} h e =
+    record {
+      list = λ l. rw (e l) (h .list l);
+      count = λ l. rw (e l) (h .count l);
+      fault = λ l. rw (e l) (h .fault l);
+    }
+
+pub entries-limited : {A : Type 0} (f : Json → Reading A) (vs : ℕ → List Json) {before after : List A} {m n k : ℕ} → Entries (λ l. readAll f (vs l)) before after m n
+    → k ≡ listFault m n → Entries (λ l. entriesOf f (vs l)) before after m k
+entries-limited f vs h e =
+    record {
+      list = λ l. rw (entries-value f (vs l)) (h .list l);
+      count = λ l. rw (entries-value f (vs l)) (h .count l);
+      fault = λ l. rw (entries-fault f (vs l), e, h .count l, h .fault l);
+    }
+
+-- A list with no entries stores nothing.
+pub entries-none : {A : Type 0} {before : List A} {n : ℕ} → Entries (λ l. wrong [] n) before before 0 n
+entries-none = record { list = λ l. refl; count = λ l. refl; fault = λ l. refl }
+
+pub entries-length : {A : Type 0} {tree : ℕ → Reading (List A)} {before after : List A} {m n : ℕ} → Entries tree before after m n → length after ≡ length before
+entries-length {A} {tree} {before} h = rw (h .list 0) (length-sets before 0 (tree 0 .value))
+
+-- An array that was found lies in the text.
+pub at-within : {p : Place} {n i : ℕ} → p ≡ At i → Within n p → i < n
+at-within e w = rw e at w

@@ -1,0 +1,6 @@
+pub mod Reads
+pub mod Members
+pub mod Lists
+pub mod Parts
+pub mod Places
+pub mod Bounds

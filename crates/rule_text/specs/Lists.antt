@@ -1,0 +1,69 @@
+-- The by-lists of a rule: where one stands, and its fault.
+use Prim.Native.Nat.{ℕ, _<_}
+use mathlib.Core.Bool.{Bool, true, false}
+use mathlib.Core.List.{List, map}
+use mathlib.Core.Option.{Option, none, some}
+use mathlib.Core.Path.{_≡_}
+use lib.Dec.{eqb, ltb}
+use lib.IntN.{ℤ, pos}
+use lib.ListN.{length}
+use lib.Seq.{sets}
+use Rattle.signed.specs.Choose.{if_then_else_}
+use Rattle.fault.specs.Fault.{lower}
+use Rattle.json_text.specs.Bytes.{byte}
+use Rattle.json_tree.specs.declared.Found.{Found}
+use Rattle.json_tree.specs.declared.Found.the-variants.{Here, Missing}
+use Rattle.rule.specs.Written.{NDay}
+use Rattle.event.specs.Reading.{Reading}
+use Rattle.event.specs.Rules.{anyNth}
+use Rattle.rule_text.specs.declared.Place.{Place}
+use Rattle.rule_text.specs.declared.Place.the-variants.{At, Absent, Wrong}
+
+-- The array that a member has, none where there is no such member, or another value.
+unfoldable pub listPlace : List ℕ → Found → Place
+listPlace s Missing = Absent
+listPlace s (Here m) = if eqb (byte s (m .value)) 0x5B then At (m .value) else Wrong
+
+abbrev pub Within : ℕ → Place → Type 0
+Within n (At i) = i < n
+Within n Absent = _≡_ {A = ℕ} 0 0
+Within n Wrong = _≡_ {A = ℕ} 0 0
+
+pub record Placed (s : List ℕ) (found : Found) (r : Place) : Type 0 where
+  pub is : r ≡ listPlace s found
+  pub within : Within (length s) r
+
+-- The fault of a list with so many entries, whose own lowest fault is n: 01, "An empty by-list answers 6"; 9: over "64 entries in a by-list".
+unfoldable pub listFault : ℕ → ℕ → ℕ
+listFault m n =
+    if eqb m 0 then 6 else
+    if ltb 64 m then lower n 9 else
+    n
+
+-- An `nthOfPeriod` as a number, 0 where there is none.
+abbrev pub nthNumber : Option ℤ → ℤ
+nthNumber none = pos 0
+nthNumber (some z) = z
+
+abbrev pub isSome : Option ℤ → Bool
+isSome none = false
+isSome (some z) = true
+
+abbrev pub dayOf : NDay → ℕ
+dayOf e = e .day
+
+abbrev pub nthOf : NDay → ℤ
+nthOf e = nthNumber (e .nthOfPeriod)
+
+-- What the reader of an entry of `byDay` answers, and that of the list.
+pub record DayReads (tree : ℕ → Reading NDay) (w : ℕ) (z : ℤ) (n : ℕ) : Type 0 where
+  pub day : (l : ℕ) → w ≡ dayOf (tree l .value)
+  pub nth : (l : ℕ) → z ≡ nthOf (tree l .value)
+  pub fault : (l : ℕ) → n ≡ tree l .fault
+
+pub record DayEntries (tree : ℕ → Reading (List NDay)) (ws ws2 : List ℕ) (zs zs2 : List ℤ) (m : ℕ) (b : Bool) (n : ℕ) : Type 0 where
+  pub weekdays : (l : ℕ) → ws2 ≡ sets ws 0 (map dayOf (tree l .value))
+  pub nths : (l : ℕ) → zs2 ≡ sets zs 0 (map nthOf (tree l .value))
+  pub count : (l : ℕ) → m ≡ length (tree l .value)
+  pub any : (l : ℕ) → b ≡ anyNth (tree l .value)
+  pub fault : (l : ℕ) → n ≡ tree l .fault

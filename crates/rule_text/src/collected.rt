@@ -1,0 +1,51 @@
+// The by-lists in arrays of their own.
+ghost use Prim.Native.Nat.{suc};
+ghost use Rattle.event.specs.Ascii.{ascii};
+ghost use Rattle.event.specs.Rules.{readSigned, readMonth, readNDay, byList};
+ghost use Rattle.rule_text.specs.Members.{memberAt};
+ghost use Rattle.rule_text.specs.Parts.{Collected, DaysCollected};
+use crate::DayList;
+use crate::MonthList;
+use crate::NumberList;
+use crate::lists::day_list;
+use crate::lists::month_list;
+use crate::lists::signed_list;
+
+pub fn numbers(text: &[u8], at: usize, name: &[u8], most: u32) -> NumberList
+    ensures { λ r. ⌜ Collected (λ l. byList (readSigned most) (memberAt (suc l) (now (text .entry)) at (now (name .entry)))) (r .list) (r .count) (r .fault) ⌝ }
+{
+    let mut list = [0i64; 64];
+    let all = signed_list(text, at, name, most, &mut list);
+    NumberList {
+        list,
+        count: all.count,
+        fault: all.fault,
+    }
+}
+
+pub fn months(text: &[u8], at: usize) -> MonthList
+    ensures { λ r. ⌜ Collected (λ l. byList readMonth (memberAt (suc l) (now (text .entry)) at (ascii "byMonth"))) (r .list) (r .count) (r .fault) ⌝ }
+{
+    let mut list = [0u32; 64];
+    let all = month_list(text, at, &mut list);
+    MonthList {
+        list,
+        count: all.count,
+        fault: all.fault,
+    }
+}
+
+pub fn weekdays(text: &[u8], at: usize) -> DayList
+    ensures { λ r. ⌜ DaysCollected (λ l. byList readNDay (memberAt (suc (suc l)) (now (text .entry)) at (ascii "byDay"))) (r .weekdays) (r .nths) (r .count) (r .any) (r .fault) ⌝ }
+{
+    let mut weekdays = [0u32; 64];
+    let mut nths = [0i64; 64];
+    let all = day_list(text, at, &mut weekdays, &mut nths);
+    DayList {
+        weekdays,
+        nths,
+        count: all.count,
+        any: all.nth,
+        fault: all.fault,
+    }
+}

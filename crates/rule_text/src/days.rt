@@ -1,0 +1,87 @@
+// byDay: entries that are objects.
+ghost use mathlib.Core.Path.{_≡_};
+ghost use Prim.Native.Nat.{suc, _<_};
+ghost use lib.ListN.{length};
+ghost use Rattle.json_tree.specs.Tree.{treeAt};
+ghost use mathlib.Core.Bool.{_||_};
+ghost use Rattle.rule.specs.Read.{nthFrom};
+ghost use Rattle.event.specs.Rules.{readNDay};
+ghost use Rattle.rule_text.specs.Reads.{entriesAt};
+ghost use Rattle.rule_text.specs.Lists.{isSome, DayReads, DayEntries};
+use crate::DayRead;
+use crate::DaysListed;
+use crate::entries::put;
+use crate::entries::put_name;
+use crate::members::day_in;
+use crate::members::nth_in;
+use crate::members::type_in;
+use crate::spelled::fault_of;
+use crate::spelled::number_of;
+use fault::lower;
+use json_text::bytes::byte;
+use json_walk::ElementStep;
+use json_walk::arrays::first_element;
+use json_walk::arrays::next_element;
+use signed::negative_part;
+use signed::positive_part;
+
+// An entry of byDay.
+pub fn read_nday(text: &[u8], at: usize) -> DayRead
+    ensures { λ r. ⌜ DayReads (λ l. readNDay (treeAt (suc l) (now (text .entry)) at)) (r .weekday) (r .nth) (r .fault) ⌝ }
+{
+    if byte(text, at) != 0x7B {
+        return DayRead {
+            weekday: 0,
+            nth: 0,
+            fault: 6,
+        };
+    }
+    let day = day_in(text, at);
+    let nth = nth_in(text, at);
+    let others = lower(fault_of(day), nth.fault);
+    DayRead {
+        weekday: number_of(day),
+        nth: nth.value,
+        fault: lower(type_in(text, at, b"NDay"), others),
+    }
+}
+
+// Had an entry an nthOfPeriod, or has this one?
+fn or_nth(any: bool, nth: i64) -> bool
+    ensures { λ r. ⌜ r ≡ (any || isSome (nthFrom nth)) ⌝ }
+{
+    if any {
+        return true;
+    }
+    if 0 < positive_part(nth) {
+        return true;
+    }
+    0 < negative_part(nth)
+}
+
+pub fn day_entries(text: &[u8], at: usize, weekdays: &mut [u32], nths: &mut [i64]) -> DaysListed
+    requires { ⌜ at < length (now text) ⌝ }
+    ensures { λ r. ⌜ DayEntries (λ l. entriesAt readNDay (suc l) (now (text .entry)) at) (now (weekdays .entry)) (now (weekdays .exit)) (now (nths .entry)) (now (nths .exit)) (r .count) (r .nth) (r .fault) ⌝ }
+{
+    let mut step = first_element(text, at);
+    let mut n = text.len();
+    let mut count = 0;
+    let mut nth = false;
+    let mut fault = 0;
+    while 0 < n {
+        match step {
+            ElementStep::Next(e) => {
+                let one = read_nday(text, e.value);
+                put_name(weekdays, count, one.weekday);
+                put(nths, count, one.nth);
+                nth = or_nth(nth, one.nth);
+                fault = lower(fault, one.fault);
+                step = next_element(text, e.after);
+            }
+            ElementStep::Stop => return DaysListed { count, nth, fault },
+        }
+        count += 1;
+        n -= 1;
+    }
+    DaysListed { count, nth, fault }
+}

@@ -1,0 +1,82 @@
+// The entries of the by-lists, one after the other. All entries are read, also those that there is no room for: their faults count.
+ghost use mathlib.Core.Path.{_≡_};
+ghost use Prim.Native.Nat.{_<_};
+ghost use lib.ListN.{length, set};
+ghost use Rattle.event.specs.Rules.{readSigned, readMonth};
+ghost use Rattle.rule_text.specs.Reads.{entriesAt, Entries};
+use crate::Listed;
+use crate::numbers::signed_up_to;
+use crate::spelled::fault_of;
+use crate::spelled::number_of;
+use crate::spelled::read_month;
+use fault::lower;
+use json_walk::ElementStep;
+use json_walk::arrays::first_element;
+use json_walk::arrays::next_element;
+
+// An entry goes to its place where there is room.
+pub fn put(list: &mut [i64], at: usize, entry: i64)
+    ensures { λ r. ⌜ now (list .exit) ≡ set (now (list .entry)) at entry ⌝ }
+{
+    if at < list.len() {
+        list[at] = entry;
+        return;
+    }
+}
+
+pub fn put_name(list: &mut [u32], at: usize, entry: u32)
+    ensures { λ r. ⌜ now (list .exit) ≡ set (now (list .entry)) at entry ⌝ }
+{
+    if at < list.len() {
+        list[at] = entry;
+        return;
+    }
+}
+
+pub fn signed_entries(text: &[u8], at: usize, most: u32, list: &mut [i64]) -> Listed
+    requires { ⌜ at < length (now text) ⌝ }
+    ensures { λ r. ⌜ Entries (λ l. entriesAt (readSigned most) l (now (text .entry)) at) (now (list .entry)) (now (list .exit)) (r .count) (r .fault) ⌝ }
+{
+    let mut step = first_element(text, at);
+    let mut n = text.len();
+    let mut count = 0;
+    let mut fault = 0;
+    while 0 < n {
+        match step {
+            ElementStep::Next(e) => {
+                let one = signed_up_to(text, e.value, most);
+                put(list, count, one.value);
+                fault = lower(fault, one.fault);
+                step = next_element(text, e.after);
+            }
+            ElementStep::Stop => return Listed { count, fault },
+        }
+        count += 1;
+        n -= 1;
+    }
+    Listed { count, fault }
+}
+
+pub fn month_entries(text: &[u8], at: usize, list: &mut [u32]) -> Listed
+    requires { ⌜ at < length (now text) ⌝ }
+    ensures { λ r. ⌜ Entries (λ l. entriesAt readMonth l (now (text .entry)) at) (now (list .entry)) (now (list .exit)) (r .count) (r .fault) ⌝ }
+{
+    let mut step = first_element(text, at);
+    let mut n = text.len();
+    let mut count = 0;
+    let mut fault = 0;
+    while 0 < n {
+        match step {
+            ElementStep::Next(e) => {
+                let one = read_month(text, e.value);
+                put_name(list, count, number_of(one));
+                fault = lower(fault, fault_of(one));
+                step = next_element(text, e.after);
+            }
+            ElementStep::Stop => return Listed { count, fault },
+        }
+        count += 1;
+        n -= 1;
+    }
+    Listed { count, fault }
+}

@@ -1,0 +1,54 @@
+// A rule's type, frequency, interval and first day of the week.
+ghost use mathlib.Core.Path.{_≡_};
+ghost use Rattle.event.specs.Rules.{fromRate};
+ghost use Rattle.rule_text.specs.Parts.{HeadRead};
+use crate::Head;
+use crate::members::first_in;
+use crate::members::frequency_in;
+use crate::members::interval_in;
+use crate::members::type_in;
+use crate::spelled::fault_of;
+use crate::spelled::number_of;
+use fault::lower;
+use rule::Frequency;
+use words::Rate;
+
+fn frequency_of(x: Rate) -> Frequency
+    ensures { λ r. ⌜ r ≡ fromRate x .value ⌝ }
+{
+    match x {
+        Rate::Daily => Frequency::Daily,
+        Rate::Weekly => Frequency::Weekly,
+        Rate::Monthly => Frequency::Monthly,
+        Rate::Yearly => Frequency::Yearly,
+        Rate::Fault(_) => Frequency::Yearly,
+    }
+}
+
+fn rate_fault(x: Rate) -> u32
+    ensures { λ r. ⌜ r ≡ fromRate x .fault ⌝ }
+{
+    match x {
+        Rate::Daily => 0,
+        Rate::Weekly => 0,
+        Rate::Monthly => 0,
+        Rate::Yearly => 0,
+        Rate::Fault(n) => n,
+    }
+}
+
+pub fn read_head(text: &[u8], at: usize) -> Head
+    ensures { λ r. ⌜ HeadRead (now (text .entry)) at (r .frequency) (r .interval) (r .first) (r .fault) ⌝ }
+{
+    let rate = frequency_in(text, at);
+    let interval = interval_in(text, at);
+    let first = first_in(text, at);
+    let week = lower(interval.fault, fault_of(first));
+    let rest = lower(rate_fault(rate), week);
+    Head {
+        frequency: frequency_of(rate),
+        interval: interval.value,
+        first: number_of(first),
+        fault: lower(type_in(text, at, b"RecurrenceRule"), rest),
+    }
+}

@@ -1,0 +1,63 @@
+// The faults of a rule beside those of its values.
+ghost use Prim.Native.Nat.{ℕ};
+ghost use mathlib.Core.Path.{_≡_};
+ghost use Rattle.event.specs.Rules.{unsupportedLists};
+ghost use Rattle.rule_text.specs.Members.{fieldsAt};
+ghost use Rattle.rule_text.specs.Parts.{otherFault, nthFault, joined};
+use crate::members::scale_in;
+use crate::members::skip_in;
+use crate::members::unsupported_in;
+use fault::lower;
+use rule::Frequency;
+
+fn unsupported_lists(text: &[u8], at: usize) -> u32
+    ensures { λ r. ⌜ ((l : ℕ) → r ≡ unsupportedLists (fieldsAt l (now (text .entry)) at)) ⌝ }
+{
+    let day = unsupported_in(text, at, b"byYearDay");
+    let week = unsupported_in(text, at, b"byWeekNo");
+    let hour = unsupported_in(text, at, b"byHour");
+    let minute = unsupported_in(text, at, b"byMinute");
+    let second = unsupported_in(text, at, b"bySecond");
+    lower(day, lower(week, lower(hour, lower(minute, second))))
+}
+
+pub fn other_fault(text: &[u8], at: usize) -> u32
+    ensures { λ r. ⌜ ((l : ℕ) → r ≡ otherFault l (now (text .entry)) at) ⌝ }
+{
+    let scale = scale_in(text, at);
+    let skip = skip_in(text, at);
+    lower(scale, lower(skip, unsupported_lists(text, at)))
+}
+
+// An nthOfPeriod under weekly or daily.
+pub fn nth_fault(frequency: Frequency, any: bool) -> u32
+    ensures { λ r. ⌜ r ≡ nthFault frequency any ⌝ }
+{
+    if !any {
+        return 0;
+    }
+    match frequency {
+        Frequency::Daily => 7,
+        Frequency::Weekly => 7,
+        Frequency::Monthly => 0,
+        Frequency::Yearly => 0,
+    }
+}
+
+// The faults of the parts of a rule, joined.
+pub fn join(
+    head: u32,
+    days: u32,
+    dates: u32,
+    months: u32,
+    positions: u32,
+    ends: u32,
+    nth: u32,
+    other: u32,
+) -> u32
+    ensures { λ r. ⌜ r ≡ joined head days dates months positions ends nth other ⌝ }
+{
+    let last = lower(ends, lower(nth, other));
+    let lists = lower(dates, lower(months, lower(positions, last)));
+    lower(head, lower(days, lists))
+}

@@ -1,0 +1,51 @@
+// The places of the rules of a list, so that each is read when it is its turn.
+ghost use Prim.Native.Nat.{_<_};
+ghost use mathlib.Core.Path.{_≡_};
+ghost use lib.ListN.{length, set};
+ghost use Rattle.rule_text.specs.Reads.{entriesAt, Entries};
+ghost use Rattle.rule_text.specs.Places.{readPlace, Places};
+use crate::Listed;
+use json_text::bytes::byte;
+use json_walk::ElementStep;
+use json_walk::arrays::first_element;
+use json_walk::arrays::next_element;
+
+fn put_place(list: &mut [usize], at: usize, entry: usize)
+    ensures { λ r. ⌜ now (list .exit) ≡ set (now (list .entry)) at entry ⌝ }
+{
+    if at < list.len() {
+        list[at] = entry;
+        return;
+    }
+}
+
+fn place_entries(text: &[u8], at: usize, list: &mut [usize]) -> usize
+    requires { ⌜ at < length (now text) ⌝ }
+    ensures { λ r. ⌜ Entries (λ l. entriesAt readPlace l (now (text .entry)) at) (now (list .entry)) (now (list .exit)) r 0 ⌝ }
+{
+    let mut step = first_element(text, at);
+    let mut n = text.len();
+    let mut count = 0;
+    while 0 < n {
+        match step {
+            ElementStep::Next(e) => {
+                put_place(list, count, e.value);
+                step = next_element(text, e.after);
+            }
+            ElementStep::Stop => return count,
+        }
+        count += 1;
+        n -= 1;
+    }
+    count
+}
+
+// The places of the rules of the array at a place, as many as there is room for, and how many there are.
+pub fn rule_places(text: &[u8], at: usize, list: &mut [usize]) -> usize
+    ensures { λ r. ⌜ Places (now (text .entry)) at (now (list .entry)) (now (list .exit)) r ⌝ }
+{
+    if byte(text, at) != 0x5B {
+        return 0;
+    }
+    place_entries(text, at, list)
+}

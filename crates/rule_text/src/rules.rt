@@ -1,0 +1,153 @@
+// A whole rule, and a list of rules.
+ghost use Prim.Native.Nat.{ℕ, suc, _<_};
+ghost use mathlib.Core.Path.{_≡_};
+ghost use lib.ListN.{length};
+ghost use Rattle.json_tree.specs.Tree.{treeAt};
+ghost use Rattle.rule.specs.Read.{written};
+ghost use Rattle.event.specs.Rules.{standIn, readRule, readRules};
+ghost use Rattle.rule_text.specs.Reads.{entriesAt};
+ghost use Rattle.rule_text.specs.Parts.{RuleIn, RuleRead};
+ghost use Rattle.rule_text.specs.Places.{Tally, rulesFault};
+use crate::Listed;
+use crate::Read;
+use crate::collected::months;
+use crate::collected::numbers;
+use crate::collected::weekdays;
+use crate::ends::read_ends;
+use crate::heads::read_head;
+use crate::others::join;
+use crate::others::nth_fault;
+use crate::others::other_fault;
+use fault::lower;
+use json_text::bytes::byte;
+use json_walk::ElementStep;
+use json_walk::arrays::first_element;
+use json_walk::arrays::next_element;
+use rule::End;
+use rule::Frequency;
+use rule::Rule;
+
+// Stands in for a rule that is no object.
+fn stand_in() -> Rule
+    ensures { λ r. ⌜ written r ≡ standIn ⌝ }
+{
+    Rule {
+        frequency: Frequency::Yearly,
+        interval: 1,
+        first: 0,
+        weekdays: [0u32; 64],
+        nths: [0i64; 64],
+        days: 0,
+        dates: [0i64; 64],
+        datecount: 0,
+        months: [0u32; 64],
+        monthcount: 0,
+        positions: [0i64; 64],
+        positioncount: 0,
+        end: End::Never,
+    }
+}
+
+// The rule whose members are those of the object at a place.
+fn rule_in(text: &[u8], at: usize) -> Read
+    ensures { λ r. ⌜ RuleIn (now (text .entry)) at (r .rule) (r .fault) ⌝ }
+{
+    let head = read_head(text, at);
+    let days = weekdays(text, at);
+    let dates = numbers(text, at, b"byMonthDay", 31);
+    let year = months(text, at);
+    let positions = numbers(text, at, b"bySetPosition", 366);
+    let ends = read_ends(text, at);
+    let frequency = head.frequency;
+    let nth = nth_fault(frequency, days.any);
+    let other = other_fault(text, at);
+    let fault = join(
+        head.fault,
+        days.fault,
+        dates.fault,
+        year.fault,
+        positions.fault,
+        ends.fault,
+        nth,
+        other,
+    );
+    let named = days.weekdays;
+    let nths = days.nths;
+    let datelist = dates.list;
+    let monthlist = year.list;
+    let positionlist = positions.list;
+    let end = ends.end;
+    let rule = Rule {
+        frequency,
+        interval: head.interval,
+        first: head.first,
+        weekdays: named,
+        nths,
+        days: days.count,
+        dates: datelist,
+        datecount: dates.count,
+        months: monthlist,
+        monthcount: year.count,
+        positions: positionlist,
+        positioncount: positions.count,
+        end,
+    };
+    Read { rule, fault }
+}
+
+// The rule at a place.
+pub fn read_rule(text: &[u8], at: usize) -> Read
+    ensures { λ r. ⌜ RuleRead (now (text .entry)) at (r .rule) (r .fault) ⌝ }
+{
+    if byte(text, at) != 0x7B {
+        return Read {
+            rule: stand_in(),
+            fault: 6,
+        };
+    }
+    rule_in(text, at)
+}
+
+// All rules of the array at a place: how many, and the lowest fault in them.
+fn rule_entries(text: &[u8], at: usize) -> Listed
+    requires { ⌜ at < length (now text) ⌝ }
+    ensures { λ r. ⌜ Tally (λ l. entriesAt readRule (suc (suc (suc l))) (now (text .entry)) at) (r .count) (r .fault) ⌝ }
+{
+    let mut step = first_element(text, at);
+    let mut n = text.len();
+    let mut count = 0;
+    let mut fault = 0;
+    while 0 < n {
+        match step {
+            ElementStep::Next(e) => {
+                let one = read_rule(text, e.value);
+                fault = lower(fault, one.fault);
+                step = next_element(text, e.after);
+            }
+            ElementStep::Stop => return Listed { count, fault },
+        }
+        count += 1;
+        n -= 1;
+    }
+    Listed { count, fault }
+}
+
+fn limit(count: usize, fault: u32) -> u32
+    ensures { λ r. ⌜ r ≡ rulesFault count fault ⌝ }
+{
+    if 8 < count {
+        return lower(fault, 9);
+    }
+    fault
+}
+
+// The fault of a list of rules.
+pub fn rules_fault(text: &[u8], at: usize) -> u32
+    ensures { λ r. ⌜ ((l : ℕ) → r ≡ readRules (treeAt (suc (suc (suc (suc l)))) (now (text .entry)) at) .fault) ⌝ }
+{
+    if byte(text, at) != 0x5B {
+        return 6;
+    }
+    let all = rule_entries(text, at);
+    limit(all.count, all.fault)
+}
