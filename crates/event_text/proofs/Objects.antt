@@ -1,0 +1,49 @@
+-- The fields of a text's object are those at its place; a value that is no object has as many members as the end of the text.
+use Prim.Native.Nat.{ℕ, zero, suc, _≤_}
+use mathlib.Core.Bool.{Bool, true, false}
+use mathlib.Core.List.{List}
+use mathlib.Core.Option.{Option, none, some}
+use mathlib.Core.Path.{_≡_, refl}
+use native.Mathlib.Omega.{arith}
+use lib.Dec.{eqb}
+use lib.ListN.{length}
+use Rattle.json_text.specs.Bytes.{byte, spaceAt}
+use Rattle.json_tree.proofs.Trees.{choose, always, object-tree}
+use Rattle.json_tree.specs.Tree.{Json, Fields, Items, noField, fieldsOf, scalarTree, treeBy, treeAt, textTree}
+use Rattle.property.proofs.Fields.{no-members}
+use Rattle.event.specs.Values.{object}
+use Rattle.event_text.specs.Front.{Front, fieldsFrom, frontIn, frontOf, inner}
+use Rattle.event_text.specs.Held.{fieldsIn}
+
+pub object-some : (l : ℕ) (s : List ℕ) (i : ℕ) → eqb (byte s i) 0x7B ≡ true → object (treeAt (suc l) s i) ≡ some (fieldsIn l s i)
+object-some l s i e = rw (object-tree l s i e)
+
+other-by : (fields : Fields) (items : Items) (s : List ℕ) (i : ℕ) → eqb (byte s i) 0x7B ≡ false → object (treeBy fields items s i) ≡ none
+unfolding treeBy scalarTree
+other-by fields items s i e = rw e (simp (choose object, always))
+
+pub object-none : (l : ℕ) (s : List ℕ) (i : ℕ) → eqb (byte s i) 0x7B ≡ false → object (treeAt l s i) ≡ none
+unfolding treeAt
+object-none zero s i e = other-by _ _ s i e
+object-none (suc l) s i e = other-by _ _ s i e
+
+-- What is read at the place i of a text's value, whose first byte is b.
+module _ (s : List ℕ) (i b : ℕ) (at : i ≡ spaceAt s 0) (is : b ≡ byte s i) where
+  first : (t : Bool) → eqb b 0x7B ≡ t → eqb (byte s (spaceAt s 0)) 0x7B ≡ t
+  first t e = rw (← at, ← is) e
+
+  pub tree-object : eqb b 0x7B ≡ true → object (textTree s) ≡ some (fieldsIn inner s i)
+  unfolding textTree
+  tree-object e = rw (object-some inner s (spaceAt s 0) (first true e), at)
+
+  pub tree-none : eqb b 0x7B ≡ false → object (textTree s) ≡ none
+  unfolding textTree
+  tree-none e = object-none (suc inner) s (spaceAt s 0) (first false e)
+
+  pub front-object : eqb b 0x7B ≡ true → frontOf s ≡ frontIn (fieldsIn inner s i)
+  unfolding frontOf
+  front-object e = rw (tree-object e)
+
+  pub front-none : eqb b 0x7B ≡ false → frontOf s ≡ frontIn (fieldsIn inner s (length s))
+  unfolding frontOf fieldsOf
+  front-none e = rw (tree-none e, no-members s (length s) (omega arith))

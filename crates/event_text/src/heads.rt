@@ -1,0 +1,75 @@
+// The head of an event: all but its lists.
+ghost use Prim.Native.Nat.{ℕ};
+ghost use mathlib.Core.Path.{_≡_};
+ghost use Rattle.property.specs.From.{valueIn};
+ghost use Rattle.event.specs.Values.{member};
+ghost use Rattle.event_text.specs.Held.{fieldsIn, fromHead};
+ghost use Rattle.event_text.specs.Front.{frontIn, frontOf, inner};
+use crate::Head;
+use crate::judged::id_fault;
+use crate::judged::uid_fault;
+use crate::judged::updated_fault;
+use crate::marks::privacy;
+use crate::own::own_details;
+use crate::spots::zone;
+use fault::lower;
+use json_text::bytes::byte;
+use json_text::bytes::space;
+use json_tree::Found;
+use property::Place;
+use property::members::member;
+
+// The place of the value of a member.
+pub fn place(text: &[u8], at: usize, name: &[u8]) -> Place
+    ensures { λ r. ⌜ ((l : ℕ) → valueIn l (now (text .entry)) r ≡ member (now (name .entry)) (fieldsIn l (now (text .entry)) at)) ⌝ }
+{
+    match member(text, at, name) {
+        Found::Here(m) => Place::At(m.value),
+        Found::Missing => Place::None,
+    }
+}
+
+// The head of the object at a place.
+pub fn head_at(text: &[u8], at: usize) -> Head
+    ensures { λ r. ⌜ ((l : ℕ) → fromHead l (now (text .entry)) r ≡ frontIn (fieldsIn l (now (text .entry)) at)) ⌝ }
+{
+    let zone = zone(text, at);
+    let access = privacy(text, at);
+    let own = own_details(text, at);
+    let rules = place(text, at, b"recurrenceRules");
+    let excluded = place(text, at, b"excludedRecurrenceRules");
+    let overrides = place(text, at, b"recurrenceOverrides");
+    let details = lower(own.fault, id_fault(text, at));
+    let named = lower(zone.fault, lower(access.fault, details));
+    let fault = lower(uid_fault(text, at), lower(updated_fault(text, at), named));
+    let name = zone.place;
+    let privacy = access.privacy;
+    let title = own.title;
+    let description = own.description;
+    Head {
+        zone: name,
+        privacy,
+        start: own.start,
+        days: own.days,
+        seconds: own.seconds,
+        busy: own.busy,
+        allday: own.allday,
+        title,
+        description,
+        rules,
+        excluded,
+        overrides,
+        fault,
+    }
+}
+
+// The head of the event of a text. A value that is no object has no members; the end of the text has none either.
+pub fn head(text: &[u8]) -> Head
+    ensures { λ r. ⌜ fromHead inner (now (text .entry)) r ≡ frontOf (now (text .entry)) ⌝ }
+{
+    let at = space(text, 0);
+    if byte(text, at) != 0x7B {
+        return head_at(text, text.len());
+    }
+    head_at(text, at)
+}

@@ -1,0 +1,70 @@
+// The event of a text that is past answers 1 to 4: what stands in its own members, and the lowest of 5 to 9 that applies.
+pub mod heads;
+pub mod judged;
+pub mod marks;
+pub mod own;
+pub mod spots;
+pub mod times;
+
+use property::Place;
+use words::Privacy;
+
+// What was read of a member, with its fault, 0 where there is none: a moment, in seconds from 1600-01-01T00:00:00;
+pub struct Moment {
+    pub value: u64,
+    pub fault: u32,
+}
+
+// a length, its days apart from its seconds;
+pub struct Lasting {
+    pub days: u64,
+    pub seconds: u64,
+    pub fault: u32,
+}
+
+// a mark;
+pub struct Mark {
+    pub value: bool,
+    pub fault: u32,
+}
+
+// who may see the event;
+pub struct Access {
+    pub privacy: Privacy,
+    pub fault: u32,
+}
+
+// a string, by its place.
+pub struct Spot {
+    pub place: Place,
+    pub fault: u32,
+}
+
+// What an occurrence has of its own. Texts are places of opening quotes.
+pub struct Details {
+    pub start: u64,
+    pub days: u64,
+    pub seconds: u64,
+    pub busy: bool,
+    pub allday: bool,
+    pub title: Place,
+    pub description: Place,
+    pub fault: u32,
+}
+
+// An event but for its lists, of which it has the places.
+pub struct Head {
+    pub zone: Place,
+    pub privacy: Privacy,
+    pub start: u64,
+    pub days: u64,
+    pub seconds: u64,
+    pub busy: bool,
+    pub allday: bool,
+    pub title: Place,
+    pub description: Place,
+    pub rules: Place,
+    pub excluded: Place,
+    pub overrides: Place,
+    pub fault: u32,
+}

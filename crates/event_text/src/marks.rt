@@ -1,0 +1,98 @@
+// The marks of the event.
+ghost use Prim.Native.Nat.{ℕ};
+ghost use mathlib.Core.Bool.{true, false};
+ghost use mathlib.Core.Path.{_≡_};
+ghost use Rattle.words.specs.declared.Privacy.the-variants.{Public};
+ghost use Rattle.property.specs.From.{fromFlag, fromSetting};
+ghost use Rattle.event.specs.Ascii.{ascii};
+ghost use Rattle.event.specs.Properties.{fromStatus, readBusy, readBoolean, readPrivacy};
+ghost use Rattle.event.specs.Reading.{optional};
+ghost use Rattle.event.specs.Values.{member};
+ghost use Rattle.event_text.specs.Held.{fieldsIn, fromMark, fromAccess};
+use crate::Access;
+use crate::Mark;
+use json_tree::Found;
+use property::Flag;
+use property::Setting;
+use property::marks::read_boolean;
+use property::marks::read_busy;
+use property::marks::read_privacy;
+use property::members::member;
+use words::FreeBusy;
+use words::Privacy;
+
+fn status(read: FreeBusy) -> Mark
+    ensures { λ r. ⌜ fromMark r ≡ fromStatus read ⌝ }
+{
+    match read {
+        FreeBusy::Free => Mark {
+            value: false,
+            fault: 0,
+        },
+        FreeBusy::Busy => Mark {
+            value: true,
+            fault: 0,
+        },
+        FreeBusy::Fault(fault) => Mark { value: true, fault },
+    }
+}
+
+pub fn busy(text: &[u8], at: usize) -> Mark
+    ensures { λ r. ⌜ ((l : ℕ) → fromMark r ≡ optional true readBusy (member (ascii "freeBusyStatus") (fieldsIn l (now (text .entry)) at))) ⌝ }
+{
+    match member(text, at, b"freeBusyStatus") {
+        Found::Here(m) => status(read_busy(text, m.value)),
+        Found::Missing => Mark {
+            value: true,
+            fault: 0,
+        },
+    }
+}
+
+fn mark(read: Flag) -> Mark
+    ensures { λ r. ⌜ fromMark r ≡ fromFlag read ⌝ }
+{
+    match read {
+        Flag::Is(value) => Mark { value, fault: 0 },
+        Flag::Fault(fault) => Mark {
+            value: false,
+            fault,
+        },
+    }
+}
+
+pub fn all_day(text: &[u8], at: usize) -> Mark
+    ensures { λ r. ⌜ ((l : ℕ) → fromMark r ≡ optional false readBoolean (member (ascii "showWithoutTime") (fieldsIn l (now (text .entry)) at))) ⌝ }
+{
+    match member(text, at, b"showWithoutTime") {
+        Found::Here(m) => mark(read_boolean(text, m.value)),
+        Found::Missing => Mark {
+            value: false,
+            fault: 0,
+        },
+    }
+}
+
+fn access(read: Setting) -> Access
+    ensures { λ r. ⌜ fromAccess r ≡ fromSetting read ⌝ }
+{
+    match read {
+        Setting::Is(privacy) => Access { privacy, fault: 0 },
+        Setting::Fault(fault) => Access {
+            privacy: Privacy::Private,
+            fault,
+        },
+    }
+}
+
+pub fn privacy(text: &[u8], at: usize) -> Access
+    ensures { λ r. ⌜ ((l : ℕ) → fromAccess r ≡ optional Public readPrivacy (member (ascii "privacy") (fieldsIn l (now (text .entry)) at))) ⌝ }
+{
+    match member(text, at, b"privacy") {
+        Found::Here(m) => access(read_privacy(text, m.value)),
+        Found::Missing => Access {
+            privacy: Privacy::Public,
+            fault: 0,
+        },
+    }
+}

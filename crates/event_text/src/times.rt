@@ -1,0 +1,65 @@
+// When the event starts and how long it lasts.
+ghost use Prim.Native.Nat.{ℕ};
+ghost use mathlib.Core.Path.{_≡_};
+ghost use Rattle.event.specs.Ascii.{ascii};
+ghost use Rattle.event.specs.Properties.{fromLocal, fromSpan, noLength, readStart, readLength};
+ghost use Rattle.event.specs.Reading.{optional};
+ghost use Rattle.event.specs.Rules.{required};
+ghost use Rattle.event.specs.Values.{member};
+ghost use Rattle.event_text.specs.Held.{fieldsIn, fromMoment, fromLasting};
+use crate::Lasting;
+use crate::Moment;
+use date_time::DateTime;
+use duration::Span;
+use json_tree::Found;
+use property::dates::read_start;
+use property::lengths::read_length;
+use property::members::member;
+
+fn moment(read: DateTime) -> Moment
+    ensures { λ r. ⌜ fromMoment r ≡ fromLocal read ⌝ }
+{
+    match read {
+        DateTime::At(value) => Moment { value, fault: 0 },
+        DateTime::Fault(fault) => Moment { value: 0, fault },
+    }
+}
+
+pub fn start(text: &[u8], at: usize) -> Moment
+    ensures { λ r. ⌜ ((l : ℕ) → fromMoment r ≡ required 0 readStart (member (ascii "start") (fieldsIn l (now (text .entry)) at))) ⌝ }
+{
+    match member(text, at, b"start") {
+        Found::Here(m) => moment(read_start(text, m.value)),
+        Found::Missing => Moment { value: 0, fault: 6 },
+    }
+}
+
+fn lasting(read: Span) -> Lasting
+    ensures { λ r. ⌜ fromLasting r ≡ fromSpan read ⌝ }
+{
+    match read {
+        Span::Of(days, seconds) => Lasting {
+            days,
+            seconds,
+            fault: 0,
+        },
+        Span::Fault(fault) => Lasting {
+            days: 0,
+            seconds: 0,
+            fault,
+        },
+    }
+}
+
+pub fn length(text: &[u8], at: usize) -> Lasting
+    ensures { λ r. ⌜ ((l : ℕ) → fromLasting r ≡ optional noLength readLength (member (ascii "duration") (fieldsIn l (now (text .entry)) at))) ⌝ }
+{
+    match member(text, at, b"duration") {
+        Found::Here(m) => lasting(read_length(text, m.value)),
+        Found::Missing => Lasting {
+            days: 0,
+            seconds: 0,
+            fault: 0,
+        },
+    }
+}

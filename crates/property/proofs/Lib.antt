@@ -1,0 +1,5 @@
+pub mod Ends
+pub mod Fields
+pub mod Readings
+pub mod Shapes
+pub mod Words
