@@ -12,7 +12,7 @@ use Rattle.rule.specs.declared.Rule.{Rule}
 use Rattle.rule.specs.Written.{RecurrenceRule}
 use Rattle.rule.specs.Read.{written}
 use Rattle.track.specs.declared.Track.{Track}
-use Rattle.track.specs.Settle.{SettledBy, Settled}
+use Rattle.track.specs.Settle.{SettledBy, Settled, cleared}
 use Rattle.track.proofs.SettleLaws.{settled}
 use Rattle.dates.specs.declared.Tracks.{Tracks}
 use Rattle.dates.specs.Tracked.{tracksOf, Weeks}
@@ -85,6 +85,7 @@ module _ (excluded : Bool) (start limit : ℕ) (rule : Rule) (list : List Track)
       ∙ (ap (take 1574) (loads .clear) ∙ (ap (λ (k : ℕ). take 1574 (replicate k false)) left ∙ take-clear 1574 (12592 - 1574 * (n + 1))))
 
   made : Settled excluded start limit (written rule) ys t
+  unfolding cleared
   made = settled excluded rule start limit ys t (season .low) (season .within) (subst (λ (l : List Bool). SettledBy excluded rule start limit l ys t) clear-row is)
 
   same : length ys ≡ 1574 * n + 1574 - 1574 * n
