@@ -1,3 +1,4 @@
 pub mod Objects
 pub mod Events
 pub mod Accepted
+pub mod FromHead
