@@ -127,3 +127,23 @@ module _ (excluded : Bool) (r : Rule) (start limit : ℕ) (ts : Tracks) (before 
         few = omega arith;
         weeks = rw more (weeks-more (tracksOf ts) (a .track) (k .weeks) (added .week));
       }
+
+-- ---- no rules
+
+take-none : (n : ℕ) (l : List Track) → n ≡ 0 → take n l ≡ []
+take-none n l e = rw e
+
+-- as the list begins
+pub none-tracked : (ts : Tracks) (flags : ℕ) → ts .count ≡ 0 → Tracked ts flags
+none-tracked ts flags e =
+    record {
+      list = omega arith;
+      rows = omega arith;
+      few = omega arith;
+      weeks = subst Weeks (sym (take-none (ts .count) (ts .list) e)) tt;
+    }
+
+pub none-settles : (excluded : Bool) (start limit : ℕ) (ts : Tracks) (flags : List Bool) → ts .count ≡ 0
+    → Settles excluded start limit [] (tracksOf ts) flags
+none-settles excluded start limit ts flags e =
+    subst (λ (l : List Track). Settles excluded start limit [] l flags) (sym (take-none (ts .count) (ts .list) e)) tt

@@ -9,6 +9,7 @@ use lib.Dec.{eqb, leb, ltb}
 use lib.ListN.{length, getD}
 use borrow.Author.Tests.{ltb-true, ltb-false, leb-true, leb-false, eqb-true, eqb-false, eq-eqb}
 use Rattle.signed.specs.Choose.{if_then_else_}
+use Rattle.rule.specs.Gives.{endDay}
 use Rattle.rule.proofs.Bools.{by}
 use Rattle.matcher.specs.Walk.{firstFrom}
 use Rattle.matcher.proofs.FirstLaws.{First, first-is, first-none, first-here, first-later}
@@ -89,7 +90,7 @@ module _ (hits : List Bool) (first start at to : ℕ) (s : Stretch first (length
     found : First (atHit hits) (length hits - from) from i
     found = subst (First (atHit hits) (length hits - from) from) (sym is-i) (first-is (atHit hits) (length hits - from) from)
 
-    pub hit-index : first + i ≤ 3067672
+    pub hit-index : first + i ≤ endDay
     hit-index =
         let high = found .high in
         let most = day-high in

@@ -6,6 +6,7 @@ use mathlib.Core.Path.{_≡_}
 use lib.Dec.{eqb, leb, ltb}
 use lib.ListN.{length, getD}
 use Rattle.signed.specs.Choose.{if_then_else_}
+use Rattle.rule.specs.Gives.{endDay}
 use Rattle.matcher.specs.Walk.{firstFrom}
 use Rattle.dates.specs.Overrides.{isNamed, isKept}
 
@@ -52,4 +53,4 @@ pub record Stretch (first n at to : ℕ) : Type 0 where
   pub low : 86400 * first ≤ at
   pub order : at ≤ to
   pub high : to ≤ 86400 * (first + n)
-  pub days : first + n ≤ 3067672
+  pub days : first + n ≤ endDay
