@@ -10,6 +10,10 @@ pub fn number(n: u64) {
     io::print_decimal(1, n);
 }
 
+pub fn small(n: u32) {
+    number(n as u64);
+}
+
 pub fn signed(z: i64) {
     let below = signed::negative_part(z);
     if 0 < below {

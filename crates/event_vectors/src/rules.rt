@@ -1,10 +1,8 @@
 // A list of rules on the output, a line each.
-ghost use Rattle.rule.specs.Read.{Sized};
-ghost use mathlib.Core.Path.{_≡_};
-ghost use lib.ListN.{length};
 use crate::print::number;
 use crate::print::say;
 use crate::print::signed;
+use crate::print::small;
 use property::Place;
 use rule::End;
 use rule::Frequency;
@@ -33,10 +31,14 @@ fn end(end: End) {
     }
 }
 
-fn numbers(name: &[u8], list: &[i64]) {
+// The first entries of a list.
+fn numbers(name: &[u8], list: &[i64], count: usize) {
     say(name);
     let mut i = 0;
     while i < list.len() {
+        if count <= i {
+            return;
+        }
         say(b" ");
         let z = list[i];
         signed(z);
@@ -44,24 +46,33 @@ fn numbers(name: &[u8], list: &[i64]) {
     }
 }
 
-fn months(list: &[u32]) {
+fn months(list: &[u32], count: usize) {
     say(b" months");
     let mut i = 0;
     while i < list.len() {
+        if count <= i {
+            return;
+        }
         say(b" ");
-        number(list[i] as u64);
+        let month = list[i];
+        small(month);
         i += 1;
     }
 }
 
-fn days(weekdays: &[u32], nths: &[i64])
-    requires { ⌜ length (now weekdays) ≡ length (now nths) ⌝ }
-{
+fn days(weekdays: &[u32], nths: &[i64], count: usize) {
     say(b" days");
     let mut i = 0;
     while i < weekdays.len() {
+        if count <= i {
+            return;
+        }
+        if nths.len() <= i {
+            return;
+        }
         say(b" ");
-        number(weekdays[i] as u64);
+        let weekday = weekdays[i];
+        small(weekday);
         say(b":");
         let z = nths[i];
         signed(z);
@@ -69,22 +80,16 @@ fn days(weekdays: &[u32], nths: &[i64])
     }
 }
 
-fn lists(rule: Rule)
-    requires { ⌜ Sized rule ⌝ }
-{
+fn lists(rule: Rule) {
     let weekdays = rule.weekdays;
     let nths = rule.nths;
     let dates = rule.dates;
     let year = rule.months;
     let positions = rule.positions;
-    let n = rule.days;
-    days(&weekdays[..n], &nths[..n]);
-    let k = rule.datecount;
-    numbers(b" dates", &dates[..k]);
-    let m = rule.monthcount;
-    months(&year[..m]);
-    let p = rule.positioncount;
-    numbers(b" positions", &positions[..p]);
+    days(&weekdays, &nths, rule.days);
+    numbers(b" dates", &dates, rule.datecount);
+    months(&year, rule.monthcount);
+    numbers(b" positions", &positions, rule.positioncount);
 }
 
 fn line(kind: &[u8], text: &[u8], at: usize) {
@@ -98,7 +103,7 @@ fn line(kind: &[u8], text: &[u8], at: usize) {
         say(b" interval ");
         number(rule.interval);
         say(b" first ");
-        number(rule.first as u64);
+        small(rule.first);
         lists(rule);
         let last = rule.end;
         end(last);
@@ -114,7 +119,8 @@ fn all(kind: &[u8], text: &[u8], at: usize) {
         if n <= i {
             return;
         }
-        line(kind, text, places[i]);
+        let place = places[i];
+        line(kind, text, place);
         i += 1;
     }
 }

@@ -1,2 +1,0 @@
-// What a call keeps of an event: its rules, each settled, with a row of flags for each.
-pub mod rules;
