@@ -2,6 +2,7 @@
 // read of an accepted event. The input comes in blocks of 262,144 bytes; a text does not go over from one to the next.
 ghost use Prim.Native.Nat.{_≤_};
 ghost use lib.ListN.{length};
+
 mod events;
 mod print;
 mod rules;
