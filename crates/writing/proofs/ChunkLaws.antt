@@ -13,9 +13,10 @@ use Rattle.dates.specs.Loaded.{Loaded, isIn, isOn}
 use Rattle.record.proofs.RowLaws.{sets-append}
 use Rattle.window.specs.Next.{isThere, Stretch}
 use Rattle.window.proofs.RunLaws.{run-there}
-use Rattle.writing.specs.Those.{those, rowsOf}
+use Rattle.window.specs.Lists.{listIn}
+use Rattle.writing.specs.Rows.{rowsOf}
 use Rattle.writing.specs.Runs.{Written}
-use Rattle.writing.proofs.ThoseLaws.{those-same, those-split, those-count}
+use Rattle.window.proofs.ListLaws.{list-same, list-split, list-length}
 use Rattle.writing.proofs.WriteLaws.{WriteAt}
 
 module _ (l : Loaded) (hits : List Bool) (first n : ℕ) (is : hits ≡ run (isOn l) first n) (from to : ℕ) (s : Stretch first n from to) where
@@ -33,7 +34,7 @@ module _ (l : Loaded) (hits : List Bool) (first n : ℕ) (is : hits ≡ run (isO
       → Written row (isThere hits first (l .start) (l .ids) (l .gone)) from to at before after behind → Written row (isIn l) from to at before after behind
   chunk-written row at before after behind w =
       record {
-        bytes = w .bytes ∙ ap (λ (xs : List ℕ). sets before at (rowsOf row xs)) (those-same (isThere hits first (l .start) (l .ids) (l .gone)) (isIn l) from (to - from) same-there);
+        bytes = w .bytes ∙ ap (λ (xs : List ℕ). sets before at (rowsOf row xs)) (list-same (isThere hits first (l .start) (l .ids) (l .gone)) (isIn l) from (to - from) same-there);
         place = w .place ∙ ap (λ (k : ℕ). at + 28 * k) same-count;
       }
 
@@ -61,21 +62,21 @@ module _ (row : ℕ → List ℕ) (size : (x : ℕ) → length (row x) ≡ 28) (
       let there : second + (end - second) ≡ end = omega arith in
       ap (countIn p second) parts ∙ (count-split p second (end - second) (to - end) ∙ ap (λ (k : ℕ). countIn p second (end - second) + countIn p k (to - end)) there)
 
-  lists : those p second (to - second) ≡ those p second (end - second) ++ those p end (to - end)
+  lists : listIn p second (to - second) ≡ listIn p second (end - second) ++ listIn p end (to - end)
   lists =
       let parts : to - second ≡ (end - second) + (to - end) = omega arith in
       let there : second + (end - second) ≡ end = omega arith in
-      ap (those p second) parts ∙ (those-split p second (end - second) (to - end) ∙ ap (λ (k : ℕ). those p second (end - second) ++ those p k (to - end)) there)
+      ap (listIn p second) parts ∙ (list-split p second (end - second) (to - end) ∙ ap (λ (k : ℕ). listIn p second (end - second) ++ listIn p k (to - end)) there)
 
   pub next-room : at + 28 * countIn p from (to - from) ≤ length before → place + 28 * countIn p second (end - second) ≤ length buf
   next-room h = omega (arith, counts, w .room, w .same)
 
   pub next-chunk : (after : List ℕ) (behind : ℕ) → Written row p second end place buf after behind → WriteAt row p from to at before end behind after
   next-chunk after behind c =
-      let here = rowsOf row (those p second (end - second)) in
-      let later = rowsOf row (those p end (to - end)) in
+      let here = rowsOf row (listIn p second (end - second)) in
+      let later = rowsOf row (listIn p end (to - end)) in
       let long : length here ≡ 28 * countIn p second (end - second) =
-      rows-length row size (those p second (end - second)) ∙ ap (λ (k : ℕ). 28 * k) (those-count p second (end - second)) in
+      rows-length row size (listIn p second (end - second)) ∙ ap (λ (k : ℕ). 28 * k) (list-length p second (end - second)) in
       record {
         low = omega (arith, w .low);
         order = high;
@@ -85,5 +86,5 @@ module _ (row : ℕ → List ℕ) (size : (x : ℕ) → length (row x) ≡ 28) (
             ap (λ (l : List ℕ). sets l behind later) (c .bytes)
             ∙ (ap (λ (k : ℕ). sets (sets buf place here) k later) (c .place ∙ sym (ap (λ (k : ℕ). place + k) long))
             ∙ (sym (sets-append here later buf place)
-            ∙ (ap (sets buf place) (sym (ap (rowsOf row) lists ∙ rows-append row (those p second (end - second)) (those p end (to - end)))) ∙ w .rest)));
+            ∙ (ap (sets buf place) (sym (ap (rowsOf row) lists ∙ rows-append row (listIn p second (end - second)) (listIn p end (to - end)))) ∙ w .rest)));
       }

@@ -1,4 +1,3 @@
-pub mod ThoseLaws
 pub mod DetailsLaws
 pub mod WriteLaws
 pub mod ChunkLaws

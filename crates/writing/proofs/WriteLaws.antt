@@ -18,10 +18,11 @@ use Rattle.dates.specs.Overrides.{isKept}
 use Rattle.window.specs.Next.{nextOf, isHit, isThere, lower, renewed}
 use Rattle.window.proofs.NextLaws.{Next, next-is, count-next, count-over}
 use Rattle.window.proofs.RunLaws.{there-next, renewed-is}
-use Rattle.writing.specs.Those.{those, rowsOf}
+use Rattle.window.specs.Lists.{listIn}
+use Rattle.writing.specs.Rows.{rowsOf}
 use Rattle.writing.specs.Details.{rowBy}
 use Rattle.writing.specs.Runs.{Written}
-use Rattle.writing.proofs.ThoseLaws.{those-next, those-over}
+use Rattle.window.proofs.ListLaws.{list-next, list-over}
 
 -- ---- a row has 28 bytes
 
@@ -55,7 +56,7 @@ pub record WriteAt (row : ℕ → List ℕ) (p : ℕ → Bool) (from to at : ℕ
   pub order : second ≤ to
   pub same : length buf ≡ length before
   pub room : place + 28 * countIn p second (to - second) ≡ at + 28 * countIn p from (to - from)
-  pub rest : sets buf place (rowsOf row (those p second (to - second))) ≡ sets before at (rowsOf row (those p from (to - from)))
+  pub rest : sets buf place (rowsOf row (listIn p second (to - second))) ≡ sets before at (rowsOf row (listIn p from (to - from)))
 
 module _ (row : ℕ → List ℕ) (size : (x : ℕ) → length (row x) ≡ 28) (p : ℕ → Bool) (from to at : ℕ) (before : List ℕ) where
   pub write-starts : from ≤ to → WriteAt row p from to at before from at before
@@ -65,7 +66,7 @@ module _ (row : ℕ → List ℕ) (size : (x : ℕ) → length (row x) ≡ 28) (
     pub write-none : to ≤ x → Written row p from to at before buf place
     write-none h =
         let none : countIn p second (to - second) ≡ 0 = count-over p second to x next h in
-        let nothing : rowsOf row (those p second (to - second)) ≡ [] = ap (rowsOf row) (those-over p second to x next h) ∙ rows-none row in
+        let nothing : rowsOf row (listIn p second (to - second)) ≡ [] = ap (rowsOf row) (list-over p second to x next h) ∙ rows-none row in
         record { bytes = sym (ap (sets buf place) nothing) ∙ w .rest; place = omega (arith, w .room) }
 
     pub write-one : x < to → (after : List ℕ) → after ≡ sets buf place (row x) → WriteAt row p from to at before (x + 1) (place + 28) after
@@ -73,17 +74,18 @@ module _ (row : ℕ → List ℕ) (size : (x : ℕ) → length (row x) ≡ 28) (
         let low = next .low in
         let more = count-next p second to x next h in
         let room = w .room in
-        let list : rowsOf row (those p second (to - second)) ≡ row x ++ rowsOf row (those p (x + 1) (to - (x + 1))) =
-        ap (rowsOf row) (those-next p second to x next h) ∙ rows-more row x (those p (x + 1) (to - (x + 1))) in
+        let one : suc x ≡ x + 1 = omega arith in
+        let list : rowsOf row (listIn p second (to - second)) ≡ row x ++ rowsOf row (listIn p (x + 1) (to - (x + 1))) =
+        ap (rowsOf row) (list-next p second to x next h) ∙ (ap (λ (k : ℕ). rowsOf row (x ∷ listIn p k (to - k))) one ∙ rows-more row x (listIn p (x + 1) (to - (x + 1)))) in
         record {
           low = omega (arith, w .low);
           order = omega arith;
           same = ap length is ∙ (length-sets buf place (row x) ∙ w .same);
           room = omega arith;
           rest =
-              ap (λ (l : List ℕ). sets l (place + 28) (rowsOf row (those p (x + 1) (to - (x + 1))))) is
-              ∙ (ap (λ (n : ℕ). sets (sets buf place (row x)) (place + n) (rowsOf row (those p (x + 1) (to - (x + 1))))) (sym (size x))
-              ∙ (sym (sets-append (row x) (rowsOf row (those p (x + 1) (to - (x + 1)))) buf place)
+              ap (λ (l : List ℕ). sets l (place + 28) (rowsOf row (listIn p (x + 1) (to - (x + 1))))) is
+              ∙ (ap (λ (n : ℕ). sets (sets buf place (row x)) (place + n) (rowsOf row (listIn p (x + 1) (to - (x + 1))))) (sym (size x))
+              ∙ (sym (sets-append (row x) (rowsOf row (listIn p (x + 1) (to - (x + 1)))) buf place)
               ∙ (ap (sets buf place) (sym list) ∙ w .rest)));
         }
 

@@ -1,3 +1,3 @@
-pub mod Those
+pub mod Rows
 pub mod Details
 pub mod Runs

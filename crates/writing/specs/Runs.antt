@@ -9,7 +9,8 @@ use Rattle.rule.specs.Lists.{countIn}
 use Rattle.zone.specs.Table.{validTable}
 use Rattle.event.specs.Types.{Details}
 use Rattle.record.specs.Occurrences.{Small}
-use Rattle.writing.specs.Those.{those, rowsOf}
+use Rattle.window.specs.Lists.{listIn}
+use Rattle.writing.specs.Rows.{rowsOf}
 use Rattle.writing.specs.Details.{timesIn}
 
 -- Each override has an id, a mark and the place of its patch.
@@ -17,12 +18,12 @@ pub record Overridden (ids gone places : ℕ) : Type 0 where
   pub marks : ids ≡ gone
   pub patches : ids ≡ places
 
--- The zone table is valid, and the times of every occurrence are those of the profile.
+-- The zone table is valid, and the times of every occurrence are listIn of the profile.
 pub record Timed (initial : ℤ) (instants offsets : List ℤ) (details : ℕ → Details) : Type 0 where
   pub valid : validTable initial instants offsets ≡ true
   pub small : (x : ℕ) → x < 2 ^ 60 → Small x (timesIn (details x))
 
 -- The rows of the seconds of a stretch that pass, one behind the other, and the place behind them.
 pub record Written (row : ℕ → List ℕ) (p : ℕ → Bool) (from to at : ℕ) (before after : List ℕ) (behind : ℕ) : Type 0 where
-  pub bytes : after ≡ sets before at (rowsOf row (those p from (to - from)))
+  pub bytes : after ≡ sets before at (rowsOf row (listIn p from (to - from)))
   pub place : behind ≡ at + 28 * countIn p from (to - from)

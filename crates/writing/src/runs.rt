@@ -2,11 +2,9 @@
 ghost use mathlib.Core.Path.{_≡_};
 ghost use Prim.Native.Nat.{_+_, _-_, _*_, _≤_};
 ghost use lib.ListN.{length};
-ghost use lib.Seq.{sets};
 ghost use Rattle.rule.specs.Lists.{countIn};
 ghost use Rattle.override_text.specs.Meaning.{detailsIn};
 ghost use Rattle.window.specs.Next.{isThere, Stretch};
-ghost use Rattle.writing.specs.Those.{those, rowsOf};
 ghost use Rattle.writing.specs.Details.{detailsBy, rowBy};
 ghost use Rattle.writing.specs.Runs.{Overridden, Timed, Written};
 use crate::times::put_at;
