@@ -1,0 +1,52 @@
+// The rules of a list, read one after the other and settled.
+ghost use mathlib.Core.Path.{_≡_};
+ghost use Prim.Native.Nat.{_≤_};
+ghost use lib.ListN.{length};
+ghost use Rattle.json_tree.specs.Tree.{treeAt};
+ghost use Rattle.event.specs.Rules.{readRules};
+ghost use Rattle.loading.specs.Rules.{Season, Faultless, rulesAt, Settled};
+use dates::Tracks;
+use dates::load::load;
+use dates::load::no_tracks;
+use rule_text::places::rule_places;
+use rule_text::rules::read_rule;
+
+// The rules at these places. The flags are room for eight rows.
+fn load_places(
+    text: &[u8],
+    places: &[usize],
+    excluded: bool,
+    start: u64,
+    limit: u32,
+    flags: &mut [bool],
+) -> Tracks
+    requires { ⌜ Faultless (now text) (now places) × (Season start limit × (length (now flags) ≡ 12592)) ⌝ }
+    ensures { λ r. ⌜ Settled excluded start limit (rulesAt (now (text .entry)) (now (places .entry))) r (now (flags .exit)) ⌝ }
+{
+    let mut tracks = no_tracks();
+    let mut i = 0;
+    while i < places.len() {
+        let read = read_rule(text, places[i]);
+        let rule = read.rule;
+        tracks = load(excluded, rule, start, limit, tracks, flags);
+        i += 1;
+    }
+    tracks
+}
+
+// The rules of the list at a place, which was read without a fault.
+pub fn load_rules(
+    text: &[u8],
+    at: usize,
+    excluded: bool,
+    start: u64,
+    limit: u32,
+    flags: &mut [bool],
+) -> Tracks
+    requires { ⌜ (readRules (treeAt 15 (now text) at) .fault ≡ 0) × (Season start limit × (length (now flags) ≡ 12592)) ⌝ }
+    ensures { λ r. ⌜ Settled excluded start limit (readRules (treeAt 15 (now (text .entry)) at) .value) r (now (flags .exit)) ⌝ }
+{
+    let mut places = [0usize; 8];
+    let n = rule_places(text, at, &mut places);
+    load_places(text, &places[..n], excluded, start, limit, flags)
+}
