@@ -9,8 +9,8 @@ use native.Mathlib.Omega.{arith}
 use Rattle.signed.specs.Choose.{if_then_else_}
 use Rattle.fault.specs.Fault.{lower}
 use Rattle.json_tree.specs.Tree.{Json, Fields, textTree}
-use Rattle.property.proofs.Faults.{lower-zero}
-use Rattle.property.proofs.Ranges.{Within, Short, start-range, length-range}
+use Rattle.fault.proofs.Laws.{lower-zero}
+use Rattle.property.proofs.Ranges.{Within, Short, start-range, length-range, six-zero}
 use Rattle.event.specs.Event.{detailsIn, noEvent, eventFault}
 use Rattle.event.specs.Overrides.{readOverrides}
 use Rattle.event.specs.Properties.{noLength, readStart, readLength}
@@ -27,9 +27,6 @@ pub record Accepted (f : Front) : Type 0 where
   pub rules : optional [] readRules (f .rules) .fault ≡ 0
   pub excluded : optional [] readRules (f .excludedRules) .fault ≡ 0
   pub overrides : optional [] (readOverrides (f .details)) (f .overrides) .fault ≡ 0
-
-six-zero : {P : Type 0} → _≡_ {A = ℕ} 6 0 → P
-six-zero e = absurd (omega arith)
 
 start-within : (v : Option Json) → required 0 readStart v .fault ≡ 0 → Within (366 * 86400) (3067672 * 86400) (required 0 readStart v .value)
 unfolding required

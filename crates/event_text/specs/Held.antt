@@ -3,8 +3,6 @@ use Prim.Native.Nat.{ℕ}
 use mathlib.Core.Bool.{Bool}
 use mathlib.Core.List.{List}
 use mathlib.Core.Option.{Option}
-use Rattle.json_walk.specs.Walk.{membersOf}
-use Rattle.json_tree.specs.Tree.{Fields, fieldsOf, treeAt}
 use Rattle.words.specs.declared.Privacy.{Privacy}
 use Rattle.property.specs.From.{textIn, nameIn, valueIn}
 use Rattle.event.specs.Types
@@ -18,10 +16,6 @@ use Rattle.event_text.specs.declared.Spot.{Spot}
 use Rattle.event_text.specs.declared.Details.{Details}
 use Rattle.event_text.specs.declared.Head.{Head}
 use Rattle.event_text.specs.Front.{Front}
-
--- The fields of the object at a place, whose values have so many levels.
-abbrev pub fieldsIn : ℕ → List ℕ → ℕ → Fields
-fieldsIn l s at = fieldsOf (λ v. treeAt l s v) s (membersOf s at)
 
 abbrev pub fromMoment : Moment → Reading ℕ
 fromMoment r = record { value = r .value; fault = r .fault }

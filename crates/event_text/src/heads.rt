@@ -1,9 +1,9 @@
 // The head of an event: all but its lists.
 ghost use Prim.Native.Nat.{ℕ};
 ghost use mathlib.Core.Path.{_≡_};
-ghost use Rattle.property.specs.From.{valueIn};
+ghost use Rattle.property.specs.From.{valueIn, fieldsIn};
 ghost use Rattle.event.specs.Values.{member};
-ghost use Rattle.event_text.specs.Held.{fieldsIn, fromHead};
+ghost use Rattle.event_text.specs.Held.{fromHead};
 ghost use Rattle.event_text.specs.Front.{frontIn, frontOf, inner};
 use crate::Head;
 use crate::judged::id_fault;

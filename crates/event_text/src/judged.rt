@@ -10,7 +10,7 @@ ghost use Rattle.event.specs.Properties.{readUid, readUpdated};
 ghost use Rattle.event.specs.Reading.{unsupported};
 ghost use Rattle.event.specs.Rules.{required};
 ghost use Rattle.event.specs.Values.{string, member};
-ghost use Rattle.event_text.specs.Held.{fieldsIn};
+ghost use Rattle.property.specs.From.{fieldsIn};
 use json_text::bytes::byte;
 use json_tree::Found;
 use property::dates::read_updated;

@@ -2,7 +2,8 @@
 ghost use Prim.Native.Nat.{ℕ};
 ghost use mathlib.Core.Path.{_≡_};
 ghost use Rattle.event.specs.Event.{detailsIn};
-ghost use Rattle.event_text.specs.Held.{fieldsIn, fromDetails};
+ghost use Rattle.property.specs.From.{fieldsIn};
+ghost use Rattle.event_text.specs.Held.{fromDetails};
 use crate::Details;
 use crate::marks::all_day;
 use crate::marks::busy;

@@ -2,12 +2,12 @@
 ghost use Prim.Native.Nat.{ℕ};
 ghost use mathlib.Core.Option.{none};
 ghost use mathlib.Core.Path.{_≡_};
-ghost use Rattle.property.specs.From.{fromZone, fromPassage};
+ghost use Rattle.property.specs.From.{fromZone, fromPassage, fieldsIn};
 ghost use Rattle.event.specs.Ascii.{ascii};
 ghost use Rattle.event.specs.Properties.{readZone, readText};
 ghost use Rattle.event.specs.Reading.{optional};
 ghost use Rattle.event.specs.Values.{member};
-ghost use Rattle.event_text.specs.Held.{fieldsIn, fromName, fromText};
+ghost use Rattle.event_text.specs.Held.{fromName, fromText};
 use crate::Spot;
 use json_tree::Found;
 use property::Passage;

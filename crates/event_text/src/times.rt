@@ -6,7 +6,8 @@ ghost use Rattle.event.specs.Properties.{fromLocal, fromSpan, noLength, readSta
 ghost use Rattle.event.specs.Reading.{optional};
 ghost use Rattle.event.specs.Rules.{required};
 ghost use Rattle.event.specs.Values.{member};
-ghost use Rattle.event_text.specs.Held.{fieldsIn, fromMoment, fromLasting};
+ghost use Rattle.property.specs.From.{fieldsIn};
+ghost use Rattle.event_text.specs.Held.{fromMoment, fromLasting};
 use crate::Lasting;
 use crate::Moment;
 use date_time::DateTime;

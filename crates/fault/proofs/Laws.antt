@@ -29,6 +29,16 @@ pub lower-same : (a : ℕ) → lower a a ≡ a
 lower-same zero = none-lower 0
 lower-same (suc a) = lower-left (suc a) (suc a) (omega arith) (omega arith)
 
+-- A join is no fault only where neither of the two is.
+pub lower-zero : (a b : ℕ) → lower a b ≡ 0 → (a ≡ 0) × (b ≡ 0)
+lower-zero zero b e = (refl, sym (none-lower b) ∙ e)
+lower-zero (suc a) zero e = let p : suc a ≡ 0 = sym (lower-none (suc a)) ∙ e in absurd (omega arith)
+lower-zero (suc a) (suc b) e = go (decLe (suc a) (suc b))
+  where
+    go : Dec (suc a ≤ suc b) → (suc a ≡ 0) × (suc b ≡ 0)
+    go (yes h) = let p : suc a ≡ 0 = sym (lower-left (suc a) (suc b) (omega arith) h) ∙ e in absurd (omega arith)
+    go (no h) = let p : suc b ≡ 0 = sym (lower-right (suc a) (suc b) (omega arith) (omega arith)) ∙ e in absurd (omega arith)
+
 -- One of the two is none, or one is the lower.
 data Pick (a b : ℕ) : Type 0 where
   first : a ≡ 0 → Pick a b

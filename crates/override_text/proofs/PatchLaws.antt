@@ -22,15 +22,16 @@ use Rattle.event.specs.Reading.{Reading, right, wrong, orWrong}
 use Rattle.event.specs.Properties.{noLength, readStart, readLength, readBusy, readBoolean, readText}
 use Rattle.event.specs.Overrides.{patched, patchedStart, patchIn, excludedFault, nameFaults, alone}
 use Rattle.property.proofs.Fields.{foundIn, member-tree}
-use Rattle.override_text.specs.Patched.{patchFields, patchAt}
+use Rattle.property.specs.From.{fieldsIn}
+use Rattle.override_text.specs.Patched.{patchAt}
 
 -- ---- the member, by what was found
 
 module _ (s name : List ℕ) (at : ℕ) (f : Found) (p : f ≡ findIn s name (membersOf s at)) where
-  pub here : (m : Member) → f ≡ Here m → (l : ℕ) → member name (patchFields l s at) ≡ some (treeAt l s (m .value))
+  pub here : (m : Member) → f ≡ Here m → (l : ℕ) → member name (fieldsIn l s at) ≡ some (treeAt l s (m .value))
   here m q l = member-tree l s name (membersOf s at) ∙ ap (foundIn l s) (sym p ∙ q)
 
-  pub missing : f ≡ Missing → (l : ℕ) → member name (patchFields l s at) ≡ none
+  pub missing : f ≡ Missing → (l : ℕ) → member name (fieldsIn l s at) ≡ none
   missing q l = member-tree l s name (membersOf s at) ∙ ap (foundIn l s) (sym p ∙ q)
 
 -- ---- a patched property, by its member
@@ -115,7 +116,7 @@ object-no s at e (suc l) = rw e (simp (choose object, always))
 module _ (s : List ℕ) (at : ℕ) where
   -- what an object gives at a place, and what stands in for it where there is none
   pub at-object : {B : Type 0} (b : B) (f : Fields → Reading B) → eqb (byte s at) 0x7B ≡ true → (l : ℕ)
-      → f (patchFields l s at) ≡ orWrong b f (object (treeAt (suc l) s at))
+      → f (fieldsIn l s at) ≡ orWrong b f (object (treeAt (suc l) s at))
   unfolding orWrong
   at-object b f e l = sym (ap (λ (v : Json). orWrong b f (object v)) (object-tree l s at e))
 
@@ -124,7 +125,7 @@ module _ (s : List ℕ) (at : ℕ) where
   unfolding orWrong
   at-other b f e l = sym (ap (orWrong b f) (object-no s at e (suc l)))
 
-  pub patch-yes : (own : Details) (id : ℕ) → eqb (byte s at) 0x7B ≡ true → (l : ℕ) → patchIn own id (patchFields l s at) ≡ patchAt l own id s at
+  pub patch-yes : (own : Details) (id : ℕ) → eqb (byte s at) 0x7B ≡ true → (l : ℕ) → patchIn own id (fieldsIn l s at) ≡ patchAt l own id s at
   patch-yes own id e l = at-object _ (patchIn own id) e l
 
   pub patch-no : (own : Details) (id : ℕ) → eqb (byte s at) 0x7B ≡ false → (l : ℕ)

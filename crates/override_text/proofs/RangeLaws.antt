@@ -16,7 +16,7 @@ use Rattle.event.specs.Values.{isNull, object}
 use Rattle.event.specs.Reading.{right, orWrong, limited, atMost}
 use Rattle.event.specs.Properties.{noLength, dateTime, readLength}
 use Rattle.event.specs.Overrides.{patched, patchedStart, patchIn, overrideOf, overridesIn, readOverrides}
-use Rattle.property.proofs.Faults.{lower-zero}
+use Rattle.fault.proofs.Laws.{lower-zero}
 use Rattle.property.proofs.Ranges.{Within, Short, date-range, start-range, length-range}
 use Rattle.override_text.specs.Lists.{Filled}
 

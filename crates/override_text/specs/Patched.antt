@@ -3,32 +3,29 @@ use Prim.Native.Nat.{ℕ, suc}
 use mathlib.Core.Bool.{Bool, true, false}
 use mathlib.Core.List.{List}
 use mathlib.Core.Option.{Option, none}
-use Rattle.json_walk.specs.Walk.{membersOf}
-use Rattle.json_tree.specs.Tree.{Fields, fieldsOf, treeAt}
+use Rattle.json_tree.specs.Tree.{treeAt}
 use Rattle.event.specs.Ascii.{ascii}
 use Rattle.event.specs.Types.{Text, Length, Details, Override}
 use Rattle.event.specs.Values.{member, object}
 use Rattle.event.specs.Reading.{Reading, orWrong}
 use Rattle.event.specs.Properties.{noLength, readLength, readBusy, readBoolean, readText}
 use Rattle.event.specs.Overrides.{patched, patchedStart, patchIn}
-
-abbrev pub patchFields : ℕ → List ℕ → ℕ → Fields
-patchFields l s at = fieldsOf (λ v. treeAt l s v) s (membersOf s at)
+use Rattle.property.specs.From.{fieldsIn}
 
 abbrev pub startIn : ℕ → ℕ → List ℕ → ℕ → Reading ℕ
-startIn l id s at = patchedStart id (member (ascii "start") (patchFields l s at))
+startIn l id s at = patchedStart id (member (ascii "start") (fieldsIn l s at))
 
 abbrev pub lengthIn : ℕ → Length → List ℕ → ℕ → Reading Length
-lengthIn l own s at = patched own noLength readLength (member (ascii "duration") (patchFields l s at))
+lengthIn l own s at = patched own noLength readLength (member (ascii "duration") (fieldsIn l s at))
 
 abbrev pub busyIn : ℕ → Bool → List ℕ → ℕ → Reading Bool
-busyIn l own s at = patched own true readBusy (member (ascii "freeBusyStatus") (patchFields l s at))
+busyIn l own s at = patched own true readBusy (member (ascii "freeBusyStatus") (fieldsIn l s at))
 
 abbrev pub flagIn : ℕ → List ℕ → Bool → List ℕ → ℕ → Reading Bool
-flagIn l name own s at = patched own false readBoolean (member name (patchFields l s at))
+flagIn l name own s at = patched own false readBoolean (member name (fieldsIn l s at))
 
 abbrev pub textFor : ℕ → List ℕ → Option Text → List ℕ → ℕ → Reading (Option Text)
-textFor l name own s at = patched own none readText (member name (patchFields l s at))
+textFor l name own s at = patched own none readText (member name (fieldsIn l s at))
 
 -- "patch objects": what an override has of the value at a place.
 abbrev pub patchAt : ℕ → Details → ℕ → List ℕ → ℕ → Reading Override

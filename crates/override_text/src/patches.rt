@@ -5,8 +5,9 @@ ghost use mathlib.Core.Path.{_≡_};
 ghost use Rattle.signed.specs.Choose.{if_then_else_};
 ghost use Rattle.fault.specs.Fault.{lower as Fault·lower};
 ghost use Rattle.event.specs.Overrides.{patchIn};
+ghost use Rattle.property.specs.From.{fieldsIn};
 ghost use Rattle.override_text.specs.Meaning.{detailsIn, overrideIn};
-ghost use Rattle.override_text.specs.Patched.{patchFields, patchAt};
+ghost use Rattle.override_text.specs.Patched.{patchAt};
 use crate::Own;
 use crate::Patch;
 use crate::names::alone;
@@ -51,7 +52,7 @@ fn excluded_fault(excluded: bool, single: bool) -> u32
 
 // The patch object at a place.
 fn patch_in(text: &[u8], at: usize, own: Own, id: u64) -> Patch
-    ensures { λ r. ⌜ ((l : ℕ) → overrideIn (now (text .entry)) id r ≡ patchIn (detailsIn (now (text .entry)) own) id (patchFields l (now (text .entry)) at)) ⌝ }
+    ensures { λ r. ⌜ ((l : ℕ) → overrideIn (now (text .entry)) id r ≡ patchIn (detailsIn (now (text .entry)) own) id (fieldsIn l (now (text .entry)) at)) ⌝ }
 {
     let shown = own.title;
     let told = own.description;

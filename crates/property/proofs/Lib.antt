@@ -1,5 +1,4 @@
 pub mod Ends
-pub mod Faults
 pub mod Fields
 pub mod Ranges
 pub mod Readings

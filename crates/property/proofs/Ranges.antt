@@ -89,7 +89,7 @@ local-seconds end s e =
     record { from = omega arith; to = omega arith }
 
 -- No fault is 0, so that what has the fault 0 was read.
-six-zero : {P : Type 0} → _≡_ {A = ℕ} 6 0 → P
+pub six-zero : {P : Type 0} → _≡_ {A = ℕ} 6 0 → P
 six-zero e = absurd (omega arith)
 
 fraction-fault : {P : Type 0} (s : List ℕ) → fractionFault s ≡ 0 → P

@@ -3,7 +3,8 @@ use Prim.Native.Nat.{ℕ, _+_}
 use mathlib.Core.Bool.{Bool, false}
 use mathlib.Core.List.{List}
 use mathlib.Core.Option.{Option, none, some}
-use Rattle.json_tree.specs.Tree.{Json, treeAt}
+use Rattle.json_walk.specs.Walk.{membersOf}
+use Rattle.json_tree.specs.Tree.{Json, Fields, fieldsOf, treeAt}
 use Rattle.words.specs.declared.Privacy.{Privacy}
 use Rattle.words.specs.declared.Privacy.the-variants.{Private}
 use Rattle.event.specs.Types.{Text}
@@ -53,3 +54,7 @@ valueIn l s (place.At i) = some (treeAt l s i)
 abbrev pub fromPassage : List ℕ → Passage → Reading (Option Text)
 fromPassage s (passage.At i) = right (some (textAt s i))
 fromPassage s (passage.Fault n) = wrong none n
+
+-- The fields of the object at a place, whose values have so many levels.
+abbrev pub fieldsIn : ℕ → List ℕ → ℕ → Fields
+fieldsIn l s at = fieldsOf (λ v. treeAt l s v) s (membersOf s at)

@@ -14,7 +14,8 @@ use Rattle.event.specs.Rules.{required, maybe, atLeastOne, readCount, readSigne
 use Rattle.rule_text.specs.Parts.{RuleRead}
 use Rattle.rule_text.specs.Bounds.{All, nil, more, Given, SizeIn, MonthIn, AtLeastOne, DayIn, Bounded}
 use Rattle.rule_text.proofs.IntegerLaws.{signed-within}
-use Rattle.rule_text.proofs.JoinLaws.{lower-zero, rule-faults, no-faults}
+use Rattle.fault.proofs.Laws.{lower-zero}
+use Rattle.rule_text.proofs.JoinLaws.{rule-faults, no-faults}
 use Rattle.rule_text.proofs.RuleLaws.{weekday-below, first-below}
 use Rattle.rule_text.proofs.MonthBounds.{month-in}
 use Rattle.rule_text.proofs.UntilBounds.{until-given}

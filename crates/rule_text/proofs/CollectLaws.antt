@@ -20,7 +20,7 @@ use Rattle.event.specs.Rules.{readNDay, entriesOf, byList}
 use Rattle.rule_text.specs.Reads.{Entries}
 use Rattle.rule_text.specs.Lists.{dayOf, nthOf, DayEntries}
 use Rattle.rule_text.specs.Parts.{Collected, DaysCollected}
-use Rattle.rule_text.proofs.JoinLaws.{lower-zero}
+use Rattle.fault.proofs.Laws.{lower-zero}
 use Rattle.rule_text.proofs.ListLaws.{entries-value, entries-length}
 use Rattle.rule_text.proofs.DayLaws.{ndays-back, weekdays-length, nths-length}
 

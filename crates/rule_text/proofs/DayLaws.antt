@@ -22,7 +22,7 @@ use Rattle.json_tree.specs.Tree.{Json, Fields, treeAt}
 use Rattle.event.specs.Values.{object}
 use Rattle.event.specs.Reading.{Reading, right, wrong, orWrong, readAll}
 use Rattle.event.specs.Rules.{anyNth, readNth, ndayIn, readNDay, entriesOf}
-use Rattle.rule_text.specs.Members.{fieldsAt}
+use Rattle.property.specs.From.{fieldsIn}
 use Rattle.rule_text.specs.Lists.{nthNumber, isSome, dayOf, nthOf, listFault, DayEntries}
 use Rattle.rule_text.proofs.EntryLaws.{restOf, Counting, Storing, rest-next, counting-ends, storing-ends}
 use Rattle.rule_text.proofs.IntegerLaws.{nth-read}
@@ -78,7 +78,7 @@ ndays-back (v ∷ vs) = rw (nday-nth v, ndays-back vs)
 
 -- An entry that is an object, and one that is not.
 module _ (s : List ℕ) (i : ℕ) where
-  pub nday-is : eqb (byte s i) 0x7B ≡ true → (l : ℕ) → readNDay (treeAt (suc l) s i) ≡ ndayIn (fieldsAt l s i)
+  pub nday-is : eqb (byte s i) 0x7B ≡ true → (l : ℕ) → readNDay (treeAt (suc l) s i) ≡ ndayIn (fieldsIn l s i)
   unfolding readNDay orWrong
   nday-is e l = rw (object-is l s i e)
 

@@ -14,7 +14,7 @@ use Rattle.event.specs.Properties.{readUntil}
 use Rattle.event.specs.Rules.{maybe, bothEnds, readCount}
 use Rattle.rule_text.specs.Members.{memberAt}
 use Rattle.rule_text.specs.Parts.{EndsRead}
-use Rattle.rule_text.proofs.JoinLaws.{lower-zero}
+use Rattle.fault.proofs.Laws.{lower-zero}
 
 never : {P : Type 0} (a b : ℕ) → lower a (lower b 7) ≡ 0 → P
 never a b e = let p : _≡_ {A = ℕ} 7 0 = lower-zero b 7 (lower-zero a _ e .1) .1 in absurd (omega arith)

@@ -21,7 +21,8 @@ use Rattle.property.proofs.Fields.{foundIn, member-tree}
 use Rattle.event.specs.Values.{array, object, listOf}
 use Rattle.event.specs.Reading.{Reading, right, wrong, orWrong, optional, readAll, atMost, limited}
 use Rattle.event.specs.Rules.{entriesOf, byList}
-use Rattle.rule_text.specs.Members.{fieldsAt, memberAt}
+use Rattle.property.specs.From.{fieldsIn}
+use Rattle.rule_text.specs.Members.{memberAt}
 use Rattle.rule_text.specs.Reads.{Entries}
 use Rattle.rule_text.specs.Lists.{listPlace, Within, listFault}
 use Rattle.rule_text.specs.declared.Place.{Place}
@@ -41,7 +42,7 @@ module _ (l : ℕ) (s : List ℕ) (i : ℕ) where
   unfolding treeAt treeBy scalarTree
   array-not e = rw e (simp (choose array, always))
 
-  pub object-is : eqb (byte s i) 0x7B ≡ true → object (treeAt (suc l) s i) ≡ some (fieldsAt l s i)
+  pub object-is : eqb (byte s i) 0x7B ≡ true → object (treeAt (suc l) s i) ≡ some (fieldsIn l s i)
   object-is e = rw (object-tree l s i e)
 
   pub object-not : eqb (byte s i) 0x7B ≡ false → object (treeAt (suc l) s i) ≡ none

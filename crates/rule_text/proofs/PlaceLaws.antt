@@ -7,7 +7,8 @@ use lib.Dec.{eqb, ltb}
 use lib.ListN.{length, getD, take, length-map}
 use Rattle.signed.specs.Choose.{if_then_else_}
 use Rattle.fault.specs.Fault.{lower}
-use Rattle.rule_text.proofs.JoinLaws.{lower-limit, lower-zero}
+use Rattle.fault.proofs.Laws.{lower-zero}
+use Rattle.rule_text.proofs.JoinLaws.{lower-limit}
 use Rattle.rule_text.specs.Bounds.{All, nil, more}
 use Rattle.rule_text.proofs.CollectLaws.{take-sets}
 use borrow.Author.Tests.{ltb-false}

@@ -25,7 +25,8 @@ use Rattle.event.specs.Ascii.{ascii}
 use Rattle.event.specs.Values.{word}
 use Rattle.event.specs.Reading.{wrong, orWrong, optional}
 use Rattle.event.specs.Rules.{fromNamed, readWeekday, readSigned, readMonth, readNDay, byList, anyNth, nthUnder, standIn, ruleIn, readRule}
-use Rattle.rule_text.specs.Members.{fieldsAt, memberAt}
+use Rattle.property.specs.From.{fieldsIn}
+use Rattle.rule_text.specs.Members.{memberAt}
 use Rattle.rule_text.specs.Parts.{HeadRead, EndsRead, Collected, DaysCollected, nthFault, joined, otherFault, RuleIn, RuleRead}
 use Rattle.rule_text.proofs.JoinLaws.{rule-faults, no-faults}
 use Rattle.rule_text.proofs.ListLaws.{object-is, object-not}
@@ -106,7 +107,7 @@ module _ (s : List ℕ) (i : ℕ) {f : Frequency} {a w n1 : ℕ} {ws : List ℕ}
         end = e;
       }
 
-  fault-made : (l : ℕ) → n ≡ ruleIn (fieldsAt (suc (suc l)) s i) .fault
+  fault-made : (l : ℕ) → n ≡ ruleIn (fieldsIn (suc (suc l)) s i) .fault
   unfolding ruleIn
   fault-made l =
       all
@@ -114,7 +115,7 @@ module _ (s : List ℕ) (i : ℕ) {f : Frequency} {a w n1 : ℕ} {ws : List ℕ}
       (nth ∙ ap₂ nthFault (head .frequency (suc (suc l))) (days .any l) ∙ sym (nth-under _ _)) (other (suc (suc l)))
       ∙ sym (rule-faults _ _ _ _ _ _ _ _ _ _ _ _ _ _ _)
 
-  value-made : n ≡ 0 → (l : ℕ) → written made ≡ ruleIn (fieldsAt (suc (suc l)) s i) .value
+  value-made : n ≡ 0 → (l : ℕ) → written made ≡ ruleIn (fieldsIn (suc (suc l)) s i) .value
   unfolding ruleIn written
   value-made z l =
       let no = no-faults n1 n2 n3 n4 n5 n6 n7 n8 (sym all ∙ z) in
@@ -139,7 +140,7 @@ module _ (s : List ℕ) (i : ℕ) {f : Frequency} {a w n1 : ℕ} {ws : List ℕ}
 -- ---- a rule at its place
 
 module _ (s : List ℕ) (i : ℕ) where
-  rule-is : eqb (byte s i) 0x7B ≡ true → (l : ℕ) → readRule (treeAt (suc (suc (suc l))) s i) ≡ ruleIn (fieldsAt (suc (suc l)) s i)
+  rule-is : eqb (byte s i) 0x7B ≡ true → (l : ℕ) → readRule (treeAt (suc (suc (suc l))) s i) ≡ ruleIn (fieldsIn (suc (suc l)) s i)
   unfolding readRule orWrong
   rule-is e l = rw (object-is (suc (suc l)) s i e)
 

@@ -18,7 +18,8 @@ use Rattle.event.specs.Ascii.{ascii}
 use Rattle.event.specs.Properties.{readUntil}
 use Rattle.event.specs.Reading.{Reading, optional}
 use Rattle.event.specs.Rules.{typed, required, maybe, bothEnds, anyNth, readFrequency, readCount, readWeekday, readScale, readSkip, unsupportedLists, ruleIn, readRule}
-use Rattle.rule_text.specs.Members.{fieldsAt, memberAt}
+use Rattle.property.specs.From.{fieldsIn}
+use Rattle.rule_text.specs.Members.{memberAt}
 
 module _ (l : ℕ) (s : List ℕ) (i : ℕ) where
   abbrev pub frequencyAt : Reading Frequency
@@ -43,7 +44,7 @@ module _ (l : ℕ) (s : List ℕ) (i : ℕ) where
   abbrev pub otherFault : ℕ
   otherFault =
       lower (optional true readScale (memberAt l s i (ascii "rscale")) .fault) (lower (optional true readSkip (memberAt l s i (ascii "skip")) .fault)
-      (unsupportedLists (fieldsAt l s i)))
+      (unsupportedLists (fieldsIn l s i)))
 
 pub record HeadRead (s : List ℕ) (i : ℕ) (f : Frequency) (m w n : ℕ) : Type 0 where
   pub frequency : (l : ℕ) → f ≡ frequencyAt l s i .value
@@ -84,8 +85,8 @@ joined head days dates months positions ends nth other =
 
 -- The rule of an object's members. Lists of objects are read, so the members are two levels deep at least.
 pub record RuleIn (s : List ℕ) (i : ℕ) (rule : Rule) (n : ℕ) : Type 0 where
-  pub fault : (l : ℕ) → n ≡ ruleIn (fieldsAt (suc (suc l)) s i) .fault
-  pub value : n ≡ 0 → (l : ℕ) → written rule ≡ ruleIn (fieldsAt (suc (suc l)) s i) .value
+  pub fault : (l : ℕ) → n ≡ ruleIn (fieldsIn (suc (suc l)) s i) .fault
+  pub value : n ≡ 0 → (l : ℕ) → written rule ≡ ruleIn (fieldsIn (suc (suc l)) s i) .value
   pub sized : n ≡ 0 → Sized rule
 
 -- A rule that was read. A rule holds lists of objects, so its tree is three levels deep at least.

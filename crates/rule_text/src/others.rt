@@ -2,7 +2,7 @@
 ghost use Prim.Native.Nat.{ℕ};
 ghost use mathlib.Core.Path.{_≡_};
 ghost use Rattle.event.specs.Rules.{unsupportedLists};
-ghost use Rattle.rule_text.specs.Members.{fieldsAt};
+ghost use Rattle.property.specs.From.{fieldsIn};
 ghost use Rattle.rule_text.specs.Parts.{otherFault, nthFault, joined};
 use crate::members::scale_in;
 use crate::members::skip_in;
@@ -11,7 +11,7 @@ use fault::lower;
 use rule::Frequency;
 
 fn unsupported_lists(text: &[u8], at: usize) -> u32
-    ensures { λ r. ⌜ ((l : ℕ) → r ≡ unsupportedLists (fieldsAt l (now (text .entry)) at)) ⌝ }
+    ensures { λ r. ⌜ ((l : ℕ) → r ≡ unsupportedLists (fieldsIn l (now (text .entry)) at)) ⌝ }
 {
     let day = unsupported_in(text, at, b"byYearDay");
     let week = unsupported_in(text, at, b"byWeekNo");
