@@ -21,14 +21,14 @@ use Rattle.dates.specs.Load.{put, Loading, Added}
 use Rattle.dates.specs.Tracked.{tracksOf, Tracked}
 use Rattle.dates.specs.Stands.{Settles}
 use Rattle.dates.proofs.LoadLaws.{loaded-settles, loaded-tracked, none-tracked, none-settles}
-use Rattle.loading.specs.Rules.{Season, Faultless, rulesAt, Settled}
+use Rattle.loading.specs.Rules.{Season, Faultless, rulesAt, SettledRules}
 
 pub record LoadedTo (excluded : Bool) (start limit : ℕ) (s places : List ℕ) (ts : Tracks) (flags : List Bool) (i : ℕ) : Type 0 where
   pub within : i ≤ length places
   pub count : ts .count ≡ i
   pub list : length (ts .list) ≡ 8
   pub rows : length flags ≡ 12592
-  pub settled : Settled excluded start limit (rulesAt s (take i places)) ts flags
+  pub settled : SettledRules excluded start limit (rulesAt s (take i places)) ts flags
 
 map-append : (f : ℕ → RecurrenceRule) (a b : List ℕ) → map f (a ++ b) ≡ map f a ++ map f b
 map-append f [] b = refl
@@ -93,8 +93,8 @@ module _ (excluded : Bool) (start limit : ℕ) (s places : List ℕ) where
           }
 
   pub loading-ends : (ts : Tracks) (flags : List Bool) (i : ℕ) → LoadedTo excluded start limit s places ts flags i → length places ≤ i
-      → Settled excluded start limit (rulesAt s places) ts flags
-  loading-ends ts flags i w h = subst (λ (l : List ℕ). Settled excluded start limit (rulesAt s l) ts flags) (take-all i places h) (w .settled)
+      → SettledRules excluded start limit (rulesAt s places) ts flags
+  loading-ends ts flags i w h = subst (λ (l : List ℕ). SettledRules excluded start limit (rulesAt s l) ts flags) (take-all i places h) (w .settled)
 
 -- ---- the list at a place
 
@@ -120,6 +120,6 @@ module _ (s : List ℕ) (at : ℕ) (none : readRules (treeAt 15 s at) .fault ≡
   unfolding rulesAt
   rules-same = ap (rulesAt s) places-are ∙ sym (rules-are 14 s at)
 
-  pub list-settled : (excluded : Bool) (start limit : ℕ) (ts : Tracks) (flags : List Bool) → Settled excluded start limit (rulesAt s (take n after)) ts flags
-      → Settled excluded start limit (readRules (treeAt 15 s at) .value) ts flags
-  list-settled excluded start limit ts flags w = subst (λ (l : List RecurrenceRule). Settled excluded start limit l ts flags) rules-same w
+  pub list-settled : (excluded : Bool) (start limit : ℕ) (ts : Tracks) (flags : List Bool) → SettledRules excluded start limit (rulesAt s (take n after)) ts flags
+      → SettledRules excluded start limit (readRules (treeAt 15 s at) .value) ts flags
+  list-settled excluded start limit ts flags w = subst (λ (l : List RecurrenceRule). SettledRules excluded start limit l ts flags) rules-same w

@@ -27,6 +27,6 @@ pub record Faultless (s places : List ℕ) : Type 0 where
   pub few : length places ≤ 8
   pub each : (k : ℕ) → k < length places → readRule (treeAt 14 s (getD places k 0)) .fault ≡ 0
 
-pub record Settled (excluded : Bool) (start limit : ℕ) (rules : List RecurrenceRule) (ts : Tracks) (flags : List Bool) : Type 0 where
+pub record SettledRules (excluded : Bool) (start limit : ℕ) (rules : List RecurrenceRule) (ts : Tracks) (flags : List Bool) : Type 0 where
   pub settles : Settles excluded start limit rules (tracksOf ts) flags
   pub tracked : Tracked ts (length flags)

@@ -4,7 +4,7 @@ ghost use Prim.Native.Nat.{_≤_};
 ghost use lib.ListN.{length};
 ghost use Rattle.json_tree.specs.Tree.{treeAt};
 ghost use Rattle.event.specs.Rules.{readRules};
-ghost use Rattle.loading.specs.Rules.{Season, Faultless, rulesAt, Settled};
+ghost use Rattle.loading.specs.Rules.{Season, Faultless, rulesAt, SettledRules};
 use dates::Tracks;
 use dates::load::load;
 use dates::load::no_tracks;
@@ -21,7 +21,7 @@ fn load_places(
     flags: &mut [bool],
 ) -> Tracks
     requires { ⌜ Faultless (now text) (now places) × (Season start limit × (length (now flags) ≡ 12592)) ⌝ }
-    ensures { λ r. ⌜ Settled excluded start limit (rulesAt (now (text .entry)) (now (places .entry))) r (now (flags .exit)) ⌝ }
+    ensures { λ r. ⌜ SettledRules excluded start limit (rulesAt (now (text .entry)) (now (places .entry))) r (now (flags .exit)) ⌝ }
 {
     let mut tracks = no_tracks();
     let mut i = 0;
@@ -44,7 +44,7 @@ pub fn load_rules(
     flags: &mut [bool],
 ) -> Tracks
     requires { ⌜ (readRules (treeAt 15 (now text) at) .fault ≡ 0) × (Season start limit × (length (now flags) ≡ 12592)) ⌝ }
-    ensures { λ r. ⌜ Settled excluded start limit (readRules (treeAt 15 (now (text .entry)) at) .value) r (now (flags .exit)) ⌝ }
+    ensures { λ r. ⌜ SettledRules excluded start limit (readRules (treeAt 15 (now (text .entry)) at) .value) r (now (flags .exit)) ⌝ }
 {
     let mut places = [0usize; 8];
     let n = rule_places(text, at, &mut places);
