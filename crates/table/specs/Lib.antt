@@ -4,3 +4,4 @@ pub mod Bytes
 pub mod Answer
 pub mod Agree
 pub mod Call
+pub mod Results
