@@ -37,18 +37,18 @@ pub record Listed (zones : ZoneTable) (e : Event) (from to : ℤ) (buffer : List
   pub bytes : expanded zones e from to buffer .buffer ≡ sets buffer 0 (recordsOf zones e ids ++ trailerOf (length ids))
   pub size : expanded zones e from to buffer .length ≡ 28 * length ids + 12
 
-record-length : (zones : ZoneTable) (e : Event) (x : ℕ) → length (recordOf zones (e .zone) x (detailsAt e x)) ≡ 28
+pub record-length : (zones : ZoneTable) (e : Event) (x : ℕ) → length (recordOf zones (e .zone) x (detailsAt e x)) ≡ 28
 unfolding recordOf
 record-length zones e x = simp (length-append, bytes-length) refl
 
-records-length : (zones : ZoneTable) (e : Event) (xs : List ℕ) → length (recordsOf zones e xs) ≡ 28 * length xs
+pub records-length : (zones : ZoneTable) (e : Event) (xs : List ℕ) → length (recordsOf zones e xs) ≡ 28 * length xs
 unfolding recordsOf
 records-length zones e [] = refl
 records-length zones e (x ∷ xs) =
     length-append (recordOf zones (e .zone) x (detailsAt e x)) (recordsOf zones e xs)
     ∙ omega (arith, record-length zones e x, records-length zones e xs)
 
-trailer-length : (n : ℕ) → length (trailerOf n) ≡ 12
+pub trailer-length : (n : ℕ) → length (trailerOf n) ≡ 12
 unfolding trailerOf
 trailer-length n = simp (length-append, bytes-length) refl
 

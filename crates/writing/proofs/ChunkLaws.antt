@@ -49,7 +49,7 @@ rows-append row (x ∷ a) b = rw (rows-append row a b) (sym (append-assoc (row x
     append-assoc [] q r = refl
     append-assoc (y ∷ p) q r = ap (λ (t : List ℕ). y ∷ t) (append-assoc p q r)
 
-rows-length : (row : ℕ → List ℕ) → ((x : ℕ) → length (row x) ≡ 28) → (xs : List ℕ) → length (rowsOf row xs) ≡ 28 * length xs
+pub rows-length : (row : ℕ → List ℕ) → ((x : ℕ) → length (row x) ≡ 28) → (xs : List ℕ) → length (rowsOf row xs) ≡ 28 * length xs
 unfolding rowsOf
 rows-length row size [] = refl
 rows-length row size (x ∷ xs) = length-append (row x) (rowsOf row xs) ∙ (omega (arith, size x, rows-length row size xs))

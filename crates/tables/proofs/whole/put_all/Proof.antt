@@ -1,0 +1,40 @@
+-- `tables::whole::put_all` meets its contract: the trailer stands behind the records.
+use native.Mathlib.Omega.{arith}
+use mir.Facts.{toZ-ofZ}
+use Rattle.override_text.specs.Meaning.{detailsIn}
+use Rattle.dates.specs.Loaded.{loaded, isIn}
+use Rattle.writing.specs.Details.{detailsBy, rowBy}
+use Rattle.writing.proofs.WriteLaws.{by-length}
+use Rattle.tables.proofs.SheetLaws.{count-small, sheet-written}
+use borrow.Author.Needs.{needs}
+use Rattle.tables.proofs.whole.put_all.Statement.{statement}
+use Rattle.tables.proofs.whole.put_all.Tie as tie
+
+write-ids-requires : tie.Need-write-ids-requires
+write-ids-requires c κs =
+    let p = c .before .before .before .before .before .before .before .before .before .before .pre in
+    (p .0, (p .1 .0, (p .1 .1 .0, (rw (toZ-ofZ (c .before .before .before .before .before .before .before .before .before .before .fits .initial)) (p .1 .1 .1 .0), omega (arith, p .1 .1 .1 .1)))))
+
+put-trailer-requires : tie.Need-put-trailer-requires
+put-trailer-requires c κs =
+    let q = c .before .before .before .before .before .before .before .before .before .before .before .before .before .before .before .before in
+    let p = q .pre .1 .1 .1 .1 in (
+      omega (arith, p, c .before .before .before .before .before .write-ids .ensures .place, c .before .before .before .before .before .write-ids .kept .0),
+      omega (arith, p .0, count-small (isIn (loaded (q .args .own .start) (q .args .rules) (q .args .rulerows .now) (q .args .excluded) (q .args .excludedrows .now) (q .args .ids .now) (q .args .gone .now))) _ _ _ (q .pre .1 .0)),
+    )
+
+same-length : tie.Need-same-length
+same-length c = search needs
+
+same-length-2 : tie.Need-same-length-2
+same-length-2 c = search needs
+
+returns : tie.Need-returns
+returns c =
+    let q = c .before .before .before .before .before .before .before .before .before .before .before .before .before .before .before .before .before .before .before in
+    sheet-written (rowBy (q .args .floating) _ (q .args .instants .now) (q .args .offsets .now) (detailsBy (q .args .text .now) (detailsIn (q .args .text .now) (q .args .own)) (q .args .ids .now) (q .args .places .now))) (by-length (q .args .floating) _ (q .args .instants .now) (q .args .offsets .now) (detailsBy (q .args .text .now) (detailsIn (q .args .text .now) (q .args .own)) (q .args .ids .now) (q .args .places .now)))
+    (isIn (loaded (q .args .own .start) (q .args .rules) (q .args .rulerows .now) (q .args .excluded) (q .args .excludedrows .now) (q .args .ids .now) (q .args .gone .now))) _ _ _ (q .pre .1 .1 .1 .1 .0) _ _ _ _ (rw (toZ-ofZ (q .fits .initial)) at (c .before .before .before .before .before .before .before .before .write-ids .ensures)) (c .before .before .put-trailer .ensures)
+
+pub put-all-spec : {M : Type 1} → statement M
+put-all-spec =
+    tie.close (tie.spec write-ids-requires put-trailer-requires same-length same-length-2 returns)

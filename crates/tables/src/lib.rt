@@ -1,0 +1,3 @@
+// The table of occurrences, written into a lent buffer: its records and its trailer, or nothing where the buffer is too short.
+pub mod nothing;
+pub mod whole;
