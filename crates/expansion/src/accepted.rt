@@ -1,0 +1,59 @@
+// The expansion of an accepted event: 10 to 12 are found before its lists are read; a secret event shows none of them.
+ghost use mathlib.Core.Path.{_≡_};
+ghost use Rattle.event.specs.Event.{eventFault, eventOf};
+ghost use Rattle.table.specs.Answer.{expanded};
+ghost use Rattle.table.specs.Results.{zonesOf, Gives};
+use crate::shown::put_shown;
+use answers::calls::call_fault;
+use answers::calls::is_secret;
+use event_text::heads::head;
+use record::window::since_1600;
+use tables::nothing::put_trailer_alone;
+
+pub fn expand_accepted(
+    text: &[u8],
+    name: &[u8],
+    initial: i64,
+    instants: &[i64],
+    offsets: &[i64],
+    from: i64,
+    to: i64,
+    buffer: &mut [u8],
+    length: &mut u64,
+) -> u32
+    requires { ⌜ eventFault (now text) ≡ 0 ⌝ }
+    ensures { λ r. ⌜ Gives (expanded (zonesOf (now (name .entry)) initial (now (instants .entry)) (now (offsets .entry))) (eventOf (now (text .entry))) from to (now (buffer .entry))) r (now (length .exit)) (now (buffer .exit)) ⌝ }
+{
+    let event = head(text);
+    let privacy = event.privacy;
+    let zone = event.zone;
+    let refused = call_fault(
+        text,
+        privacy,
+        zone,
+        name,
+        initial,
+        instants,
+        offsets,
+        from,
+        to,
+    );
+    if refused != 0 {
+        *length = 0;
+        return refused;
+    }
+    if is_secret(privacy) {
+        return put_trailer_alone(buffer, length);
+    }
+    put_shown(
+        text,
+        event,
+        initial,
+        instants,
+        offsets,
+        since_1600(from),
+        since_1600(to),
+        buffer,
+        length,
+    )
+}

@@ -1,0 +1,82 @@
+// The table of an event that is not secret: its lists are loaded once, then the table is counted and written.
+ghost use mathlib.Core.Bool.{true};
+ghost use mathlib.Core.List.{List};
+ghost use mathlib.Core.Path.{_≡_};
+ghost use Prim.Native.Nat.{ℕ, _*_, _/_, _≤_};
+ghost use Rattle.zone.specs.Table.{validTable};
+ghost use Rattle.event.specs.Event.{eventFault, eventOf};
+ghost use Rattle.event_text.specs.Front.{frontOf, inner};
+ghost use Rattle.event_text.specs.Held.{fromHead};
+ghost use Rattle.table.specs.Results.{zonesOf, Gives};
+ghost use Rattle.tables.specs.Sheet.{fitted};
+ghost use Rattle.expansion.specs.Shown.{Span, limitOf, sheetOf};
+use answers::calls::is_floating;
+use event_loading::lists::load_list;
+use event_loading::lists::load_overrides;
+use event_text::Head;
+use event_text::heads::own_of;
+use tables::whole::put_table;
+
+// The day behind the last one that the window may ask for.
+fn limit_of(to: u64) -> u32
+    ensures { λ r. ⌜ r ≡ limitOf to ⌝ }
+{
+    let day = to / 86400;
+    if 3067672 <= day {
+        return 3067672;
+    }
+    day as u32 + 1
+}
+
+// The flags are rows for eight rules of each list; the hits are one chunk of days.
+pub fn put_shown(
+    text: &[u8],
+    event: Head,
+    initial: i64,
+    instants: &[i64],
+    offsets: &[i64],
+    from: u64,
+    to: u64,
+    buffer: &mut [u8],
+    length: &mut u64,
+) -> u32
+    requires { ⌜ (fromHead inner (now text) event ≡ frontOf (now text)) × ((eventFault (now text) ≡ 0)
+        × ((validTable initial (now instants) (now offsets) ≡ true) × Span from to)) ⌝ }
+    ensures { λ r. ⌜ ((name : List ℕ) → Gives (fitted (sheetOf (zonesOf name initial (now (instants .entry)) (now (offsets .entry))) (eventOf (now (text .entry))) from to) (now (buffer .entry))) r (now (length .exit)) (now (buffer .exit))) ⌝ }
+{
+    let limit = limit_of(to);
+    let start = event.start;
+    let rules = event.rules;
+    let excluded = event.excluded;
+    let overrides = event.overrides;
+    let zone = event.zone;
+    let mut rulerows = [false; 12592];
+    let mut excludedrows = [false; 12592];
+    let mut ids = [0u64; 256];
+    let mut gone = [false; 256];
+    let mut places = [0usize; 256];
+    let mut hits = [false; 1024];
+    let kept = load_list(text, rules, false, start, limit, &mut rulerows);
+    let left = load_list(text, excluded, true, start, limit, &mut excludedrows);
+    let n = load_overrides(text, overrides, &mut ids, &mut gone, &mut places);
+    put_table(
+        buffer,
+        length,
+        text,
+        own_of(event),
+        &ids[..n],
+        &gone[..n],
+        &places[..n],
+        is_floating(text, zone),
+        initial,
+        instants,
+        offsets,
+        kept,
+        &rulerows,
+        left,
+        &excludedrows,
+        &mut hits,
+        from,
+        to,
+    )
+}
