@@ -1,6 +1,5 @@
 -- `tables::whole::put_table` meets its contract: the records are counted, and written only where they and the trailer fit.
 use native.Mathlib.Omega.{arith}
-use mathlib.Core.Path.{sym, ap, _∙_}
 use mir.Facts.{toZ-ofZ}
 use Rattle.override_text.specs.Meaning.{detailsIn}
 use Rattle.dates.specs.Loaded.{loaded, isIn}
