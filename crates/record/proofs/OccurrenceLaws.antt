@@ -29,7 +29,7 @@ again z = toZ w64 (ofZ w64 z)
 
 -- ---- the same record by the definitions of `table`
 
-pub times : Details → Times
+unfoldable pub times : Details → Times
 times d = record { start = d .start; seconds = secondsIn (d .length); busy = d .busy; allday = d .allDay }
 
 utc-by : (table : ZoneTable) (zone : Option (List ℕ)) (local : ℤ)

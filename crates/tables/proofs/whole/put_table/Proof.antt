@@ -1,6 +1,5 @@
 -- `tables::whole::put_table` meets its contract: the records are counted, and written only where they and the trailer fit.
 use native.Mathlib.Omega.{arith}
-use mathlib.Core.Path.{sym, ap, _∙_}
 use mir.Facts.{toZ-ofZ}
 use Rattle.override_text.specs.Meaning.{detailsIn}
 use Rattle.dates.specs.Loaded.{loaded, isIn}
@@ -31,7 +30,7 @@ returns : tie.Need-returns
 returns c =
     let q = c .before .before .before .before .before .before .before .before .before .before .before .before .before in
     sheet-short (rowBy (q .args .floating) _ (q .args .instants .now) (q .args .offsets .now) (detailsBy (q .args .text .now) (detailsIn (q .args .text .now) (q .args .own)) (q .args .ids .now) (q .args .places .now))) (by-length (q .args .floating) _ (q .args .instants .now) (q .args .offsets .now) (detailsBy (q .args .text .now) (detailsIn (q .args .text .now) (q .args .own)) (q .args .ids .now) (q .args .places .now)))
-    (isIn (loaded (q .args .own .start) (q .args .rules) (q .args .rulerows .now) (q .args .excluded) (q .args .excludedrows .now) (q .args .ids .now) (q .args .gone .now))) _ _ _ (c .before .before .before .count-ids .ensures) _ (c .if1 .taken)
+    (isIn (loaded (q .args .own .start) (q .args .rules) (q .args .rulerows .now) (q .args .excluded) (q .args .excludedrows .now) (q .args .ids .now) (q .args .gone .now))) _ _ _ (c .before .before .before .count-ids .ensures) _ (omega (arith, c .if1 .taken))
 
 put-all-requires : tie.Need-put-all-requires
 put-all-requires c κs =
@@ -45,7 +44,7 @@ put-all-requires c κs =
       },
       (
         p .1 .0,
-        (p .1 .1 .0, (rw (toZ-ofZ (q .fits .initial)) (p .1 .1 .1), (c .before .before .before .before .before .count-ids .ensures, c .before .before .if1 .left))),
+        (p .1 .1 .0, (rw (toZ-ofZ (q .fits .initial)) (p .1 .1 .1), (c .before .before .before .before .before .count-ids .ensures, omega (arith, c .before .before .if1 .left)))),
       ),
     )
 
@@ -59,7 +58,7 @@ returns-2 : tie.Need-returns-2
 returns-2 c =
     let q = c .before .before .before .before .before .before .before .before .before .before .before .before .before .before .before .before .before .before .before .before in
     sheet-fits (rowBy (q .args .floating) _ (q .args .instants .now) (q .args .offsets .now) (detailsBy (q .args .text .now) (detailsIn (q .args .text .now) (q .args .own)) (q .args .ids .now) (q .args .places .now))) (by-length (q .args .floating) _ (q .args .instants .now) (q .args .offsets .now) (detailsBy (q .args .text .now) (detailsIn (q .args .text .now) (q .args .own)) (q .args .ids .now) (q .args .places .now)))
-    (isIn (loaded (q .args .own .start) (q .args .rules) (q .args .rulerows .now) (q .args .excluded) (q .args .excludedrows .now) (q .args .ids .now) (q .args .gone .now))) _ _ _ (c .before .before .before .before .before .before .before .before .before .before .count-ids .ensures) _ (c .before .before .before .before .before .before .before .if1 .left) _ (rw (toZ-ofZ (q .fits .initial)) at (c .before .before .before .before .put-all .ensures))
+    (isIn (loaded (q .args .own .start) (q .args .rules) (q .args .rulerows .now) (q .args .excluded) (q .args .excludedrows .now) (q .args .ids .now) (q .args .gone .now))) _ _ _ (c .before .before .before .before .before .before .before .before .before .before .count-ids .ensures) _ (omega (arith, c .before .before .before .before .before .before .before .if1 .left)) _ (rw (toZ-ofZ (q .fits .initial)) at (c .before .before .before .before .put-all .ensures))
 
 pub put-table-spec : {M : Type 1} → statement M
 put-table-spec =
