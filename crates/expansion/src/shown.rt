@@ -2,31 +2,22 @@
 ghost use mathlib.Core.Bool.{true};
 ghost use mathlib.Core.List.{List};
 ghost use mathlib.Core.Path.{_≡_};
-ghost use Prim.Native.Nat.{ℕ, _*_, _/_, _≤_};
+ghost use Prim.Native.Nat.{ℕ};
 ghost use Rattle.zone.specs.Table.{validTable};
 ghost use Rattle.event.specs.Event.{eventFault, eventOf};
 ghost use Rattle.event_text.specs.Front.{frontOf, inner};
 ghost use Rattle.event_text.specs.Held.{fromHead};
 ghost use Rattle.table.specs.Results.{zonesOf, Gives};
 ghost use Rattle.tables.specs.Sheet.{fitted};
-ghost use Rattle.expansion.specs.Shown.{Span, limitOf, sheetOf};
+ghost use Rattle.window.specs.Chunks.{Window};
+ghost use Rattle.expansion.specs.Shown.{sheetOf};
 use answers::calls::is_floating;
+use event_loading::limits::limit_of;
 use event_loading::lists::load_list;
 use event_loading::lists::load_overrides;
 use event_text::Head;
 use event_text::heads::own_of;
 use tables::whole::put_table;
-
-// The day behind the last one that the window may ask for.
-fn limit_of(to: u64) -> u32
-    ensures { λ r. ⌜ r ≡ limitOf to ⌝ }
-{
-    let day = to / 86400;
-    if 3067672 <= day {
-        return 3067672;
-    }
-    day as u32 + 1
-}
 
 // The flags are rows for eight rules of each list; the hits are one chunk of days.
 pub fn put_shown(
@@ -41,7 +32,7 @@ pub fn put_shown(
     length: &mut u64,
 ) -> u32
     requires { ⌜ (fromHead inner (now text) event ≡ frontOf (now text)) × ((eventFault (now text) ≡ 0)
-        × ((validTable initial (now instants) (now offsets) ≡ true) × Span from to)) ⌝ }
+        × ((validTable initial (now instants) (now offsets) ≡ true) × Window (event .start) from to)) ⌝ }
     ensures { λ r. ⌜ ((name : List ℕ) → Gives (fitted (sheetOf (zonesOf name initial (now (instants .entry)) (now (offsets .entry))) (eventOf (now (text .entry))) from to) (now (buffer .entry))) r (now (length .exit)) (now (buffer .exit))) ⌝ }
 {
     let limit = limit_of(to);

@@ -1,0 +1,91 @@
+-- The answers of a call, one after the other: a refusal is the whole outcome, and what is not refused is the table, as far as it fits.
+use Prim.Native.Nat.{ℕ}
+use mathlib.Core.Bool.{Bool, true, false}
+use mathlib.Core.List.{List, _++_}
+use mathlib.Core.Option.{Option}
+use mathlib.Core.Path.{_≡_, refl, sym, ap, subst, _∙_}
+use lib.Dec.{eqb, ltb}
+use lib.IntN.{ℤ}
+use lib.ListN.{length}
+use borrow.Author.Tests.{eqb-true, eqb-false, eq-eqb, ne-eqb}
+use Rattle.signed.specs.Choose.{if_then_else_}
+use Rattle.signed.proofs.Parts.{false-true, true-false}
+use Rattle.json.specs.Answer.{answerOf}
+use Rattle.words.specs.declared.Privacy.{Privacy}
+use Rattle.words.specs.declared.Privacy.the-variants.{Public, Private, Secret}
+use Rattle.event.specs.Types.{Event}
+use Rattle.event.specs.Event.{eventFault, eventOf}
+use Rattle.table.specs.Window.{since1600}
+use Rattle.table.specs.Bytes.{ZoneTable, recordsOf, trailerOf, listed, tableOf}
+use Rattle.table.specs.Answer.{isSecret, Outcome, answerFor, outcomeBy, expanded}
+use Rattle.table.specs.Call.{textFault, expandText}
+use Rattle.table.specs.Results.{Gives}
+use Rattle.answers.specs.Refusal.{refusalFor}
+use Rattle.answers.proofs.RefusalLaws.{answer-left, answer-refused}
+use Rattle.tables.specs.Sheet.{fitted}
+use Rattle.expansion.specs.Shown.{sheetOf}
+
+-- ---- 1 to 9
+
+pub event-accepted : (s : List ℕ) (f : ℕ) → f ≡ textFault s → f ≡ 0 → eventFault s ≡ 0
+unfolding textFault
+event-accepted s f e z = go (eqb (answerOf s) 0) refl (sym e ∙ z)
+  where
+    go : (c : Bool) → eqb (answerOf s) 0 ≡ c → (if c then eventFault s else answerOf s) ≡ 0 → eventFault s ≡ 0
+    go true p q = q
+    go false p q = absurd (eqb-false (answerOf s) 0 p q)
+
+module _ (zones : ZoneTable) (s : List ℕ) (from to : ℤ) (buffer : List ℕ) (f : ℕ) (e : f ≡ textFault s) where
+  pub text-refused : (f ≡ 0 → ⊥) → Gives (expandText zones s from to buffer) f 0 buffer
+  unfolding expandText
+  text-refused h = rw (← e, ne-eqb f 0 h) (record { answer-is = refl; length-is = refl; buffer-is = refl })
+
+  pub text-accepted : f ≡ 0 → (r n : ℕ) (after : List ℕ) → Gives (expanded zones (eventOf s) from to buffer) r n after
+      → Gives (expandText zones s from to buffer) r n after
+  unfolding expandText
+  text-accepted z r n after g = rw (← e, eq-eqb f 0 z) g
+
+-- ---- 10 to 13
+
+module _ (zones : ZoneTable) (e : Event) (from to : ℤ) (buffer : List ℕ) (r : ℕ) (is : r ≡ refusalFor zones from to (e .privacy) (e .zone)) where
+  pub call-refused : (r ≡ 0 → ⊥) → Gives (expanded zones e from to buffer) r 0 buffer
+  unfolding expanded outcomeBy
+  call-refused h =
+      let refused = answer-refused zones from to (e .privacy) (e .zone) (λ z. h (is ∙ z)) (tableOf zones e from to) buffer in
+      rw (refused, ← is, ne-eqb r 0 h) (record { answer-is = refl; length-is = refl; buffer-is = refl })
+
+  call-fits : r ≡ 0 → expanded zones e from to buffer ≡ fitted (tableOf zones e from to) buffer
+  unfolding expanded fitted
+  call-fits z =
+      ap (λ (answer : ℕ). outcomeBy answer (tableOf zones e from to) buffer)
+      (answer-left zones from to (e .privacy) (e .zone) (sym is ∙ z) (tableOf zones e from to) buffer)
+
+  gives-table : r ≡ 0 → (table : List ℕ) → tableOf zones e from to ≡ table → (n k : ℕ) (after : List ℕ) → Gives (fitted table buffer) n k after
+      → Gives (expanded zones e from to buffer) n k after
+  gives-table z table same n k after g =
+      subst (λ (o : Outcome). Gives o n k after) (sym (call-fits z ∙ ap (λ (t : List ℕ). fitted t buffer) same)) g
+
+  tableFor : Privacy → List ℕ
+  tableFor p = let xs = listed e p (since1600 from) (since1600 to) in recordsOf zones e xs ++ trailerOf (length xs)
+
+  secret-table : (p : Privacy) → isSecret p ≡ true → tableFor p ≡ trailerOf 0
+  unfolding tableFor listed recordsOf
+  secret-table Public h = false-true h
+  secret-table Private h = false-true h
+  secret-table Secret h = refl
+
+  shown-table : (p : Privacy) → isSecret p ≡ false → tableFor p ≡ sheetOf zones e (since1600 from) (since1600 to)
+  unfolding tableFor listed sheetOf
+  shown-table Public h = refl
+  shown-table Private h = refl
+  shown-table Secret h = true-false h
+
+  pub call-secret : r ≡ 0 → isSecret (e .privacy) ≡ true → (n k : ℕ) (after : List ℕ) → Gives (fitted (trailerOf 0) buffer) n k after
+      → Gives (expanded zones e from to buffer) n k after
+  unfolding tableOf tableFor
+  call-secret z h n k after g = gives-table z (trailerOf 0) (secret-table (e .privacy) h) n k after g
+
+  pub call-shown : r ≡ 0 → isSecret (e .privacy) ≡ false → (n k : ℕ) (after : List ℕ)
+      → Gives (fitted (sheetOf zones e (since1600 from) (since1600 to)) buffer) n k after → Gives (expanded zones e from to buffer) n k after
+  unfolding tableOf tableFor
+  call-shown z h n k after g = gives-table z (sheetOf zones e (since1600 from) (since1600 to)) (shown-table (e .privacy) h) n k after g

@@ -1,0 +1,1 @@
+-- What the calls of `put_shown` say, joined.
