@@ -47,9 +47,11 @@ fn put_all(
         (rowBy floating initial (now (instants .entry)) (now (offsets .entry)) (detailsBy (now (text .entry)) (detailsIn (now (text .entry)) own) (now (ids .entry)) (now (places .entry))))
         (isIn (loaded (own .start) rules (now (rulerows .entry)) excluded (now (excludedrows .entry)) (now (ids .entry)) (now (gone .entry)))) from to) ⌝ }
 {
+    let stop = (28 * count) as usize;
     let behind = write_ids(
         buffer,
         0,
+        stop,
         text,
         own,
         ids,

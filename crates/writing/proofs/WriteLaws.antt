@@ -8,6 +8,7 @@ use lib.IntN.{ℤ}
 use lib.ListN.{length, length-append}
 use lib.Seq.{sets, length-sets}
 use Rattle.rule.specs.Lists.{countIn}
+use Rattle.rule.proofs.Counting.{count-most}
 use Rattle.little_endian.specs.Bytes.{bytesOf, twos}
 use Rattle.little_endian.proofs.ByteLaws.{bytes-length}
 use Rattle.record.specs.Rows.{rowOf}
@@ -22,7 +23,7 @@ use Rattle.window.specs.Lists.{listIn}
 use Rattle.writing.specs.Rows.{rowsOf}
 use Rattle.writing.specs.Details.{rowBy}
 use Rattle.writing.specs.Runs.{Written}
-use Rattle.window.proofs.ListLaws.{list-next, list-over}
+use Rattle.window.proofs.ListLaws.{list-length, list-next, list-over}
 
 -- ---- a row has 28 bytes
 
@@ -98,6 +99,26 @@ module _ (row : ℕ → List ℕ) (size : (x : ℕ) → length (row x) ≡ 28) (
   write-ends second place buf w h =
       let n = next-is p second to (w .order) in
       write-none second place buf w (nextOf p second to) n (omega (arith, n .low))
+
+-- ---- the place behind the last one is known
+
+nothing-left : (p : ℕ → Bool) (a n : ℕ) → countIn p a n ≡ 0 → listIn p a n ≡ []
+nothing-left p a n none = empty (listIn p a n) (list-length p a n ∙ none)
+  where
+    empty : (xs : List ℕ) → length xs ≡ 0 → xs ≡ []
+    empty [] h = refl
+    empty (x ∷ xs) h = absurd (omega arith)
+
+module _ (row : ℕ → List ℕ) (p : ℕ → Bool) (from to at : ℕ) (before : List ℕ) (second place : ℕ) (buf : List ℕ) (w : WriteAt row p from to at before second place buf)
+    (stop : ℕ) (last : stop ≡ at + 28 * countIn p from (to - from)) where
+  pub some-left : place < stop → second < to
+  some-left h = omega (arith, w .room, count-most p second (to - second))
+
+  pub none-left : stop ≤ place → Written row p from to at before buf place
+  none-left h =
+      let none : countIn p second (to - second) ≡ 0 = omega (arith, w .room) in
+      let nothing : rowsOf row (listIn p second (to - second)) ≡ [] = ap (rowsOf row) (nothing-left p second (to - second) none) ∙ rows-none row in
+      record { bytes = sym (ap (sets buf place) nothing) ∙ w .rest; place = omega (arith, w .room) }
 
 -- ---- what is next
 

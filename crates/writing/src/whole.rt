@@ -75,10 +75,12 @@ fn write_chunk(
     )
 }
 
-// The records of the whole window, the first of them at a place of the buffer; the place behind the last one.
+// The records of the whole window, the first of them at a place of the buffer; the place behind the last one. That place is known from their
+// number: once it is reached no later chunk has any.
 pub fn write_ids(
     buf: &mut [u8],
     at: usize,
+    stop: usize,
     text: &[u8],
     own: Own,
     ids: &[u64],
@@ -99,13 +101,14 @@ pub fn write_ids(
     requires { ⌜ Ready rules (length (now rulerows)) excluded (length (now excludedrows)) (length (now ids)) (length (now gone)) (length (now hits))
         × (Window (own .start) from to × (Overridden (length (now ids)) (length (now gone)) (length (now places))
         × (Timed initial (now instants) (now offsets) (detailsBy (now text) (detailsIn (now text) own) (now ids) (now places))
-        × (at + 28 * countIn (isIn (loaded (own .start) rules (now rulerows) excluded (now excludedrows) (now ids) (now gone))) from (to - from) ≤ length (now buf))))) ⌝ }
+        × ((stop ≡ at + 28 * countIn (isIn (loaded (own .start) rules (now rulerows) excluded (now excludedrows) (now ids) (now gone))) from (to - from))
+        × (stop ≤ length (now buf)))))) ⌝ }
     ensures { λ r. ⌜ Written (rowBy floating initial (now (instants .entry)) (now (offsets .entry)) (detailsBy (now (text .entry)) (detailsIn (now (text .entry)) own) (now (ids .entry)) (now (places .entry))))
         (isIn (loaded (own .start) rules (now (rulerows .entry)) excluded (now (excludedrows .entry)) (now (ids .entry)) (now (gone .entry)))) from to at (now (buf .entry)) (now (buf .exit)) r ⌝ }
 {
     let mut place = at;
     let mut second = from;
-    while second < to {
+    while place < stop {
         let k = chunk_days(second, hits.len());
         let end = chunk_end(second, to, k);
         place = write_chunk(

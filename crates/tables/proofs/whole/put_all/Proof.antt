@@ -10,10 +10,16 @@ use borrow.Author.Needs.{needs}
 use Rattle.tables.proofs.whole.put_all.Statement.{statement}
 use Rattle.tables.proofs.whole.put_all.Tie as tie
 
+mul-stop : tie.Need-mul-stop
+mul-stop c =
+    let q = c .before .before .before .before .before .before .before .before in
+    omega (arith, q .pre .1 .1 .1 .1 .0, count-small (isIn (loaded (q .args .own .start) (q .args .rules) (q .args .rulerows .now) (q .args .excluded) (q .args .excludedrows .now) (q .args .ids .now) (q .args .gone .now))) _ _ _ (q .pre .1 .0))
+
 write-ids-requires : tie.Need-write-ids-requires
 write-ids-requires c κs =
-    let p = c .before .before .before .before .before .before .before .before .before .before .pre in
-    (p .0, (p .1 .0, (p .1 .1 .0, (rw (toZ-ofZ (c .before .before .before .before .before .before .before .before .before .before .fits .initial)) (p .1 .1 .1 .0), omega (arith, p .1 .1 .1 .1)))))
+    let q = c .before .before .before .before .before .before .before .before .before .before in
+    let p = q .pre in
+    (p .0, (p .1 .0, (p .1 .1 .0, (rw (toZ-ofZ (q .fits .initial)) (p .1 .1 .1 .0), (omega (arith, p .1 .1 .1 .1 .0), omega (arith, p .1 .1 .1 .1 .1))))))
 
 put-trailer-requires : tie.Need-put-trailer-requires
 put-trailer-requires c κs =
@@ -37,4 +43,4 @@ returns c =
 
 pub put-all-spec : {M : Type 1} → statement M
 put-all-spec =
-    tie.close (tie.spec write-ids-requires put-trailer-requires same-length same-length-2 returns)
+    tie.close (tie.spec mul-stop write-ids-requires put-trailer-requires same-length same-length-2 returns)
