@@ -1,5 +1,19 @@
-"""The cases of crates/ids_vectors: events with windows, and the dates that their documents print where they do."""
+"""The cases of crates/call_vectors: events with windows and buffers, and what their documents print of them where they do."""
 import datetime
+import json
+from typing import NamedTuple
+
+
+class Case(NamedTuple):
+    event: dict
+    window: tuple
+    room: int = 8192
+    # the ids, and the bytes, that a document prints
+    printed: list = None
+    bytes: str = None
+    # a text that is spelled otherwise, and the answer that 01 gives for it
+    text: str = None
+    answer: int = None
 
 
 def dates(text, time='09:00:00'):
@@ -102,7 +116,7 @@ WORKED = [
 ]
 
 
-def cases():
+def dated():
     for start, made, end, printed in RFC5545:
         yield event(start, made), window('1601-01-01', end), dates(printed)
     for start, rules, excluded, overrides, printed in WORKED:
@@ -149,3 +163,62 @@ def cases():
     yield event('2024-01-03', rule('daily')), window('2024-01-05T09:00:00', '2024-01-05T09:00:00'), None
     yield event('2024-01-03', rule('daily')), window('2024-01-05T09:00:00', '2024-01-05T09:00:01'), None
     yield event('2024-01-03', rule('daily')), window('2024-01-05T09:00:01', '2024-01-06T09:00:00'), None
+
+
+def plain(**more):
+    return {**event('2020-11-01', time='01:30:00'), 'timeZone': 'America/New_York', 'duration': 'PT1H', **more}
+
+
+TRAILER = '1c0001000000000000000000'
+
+
+def nested(levels):
+    """A text whose member x opens the levels that the event itself leaves."""
+    made = json.dumps(plain(), separators=(',', ':'))
+    return made[:-1] + ',"x":' + '[' * (levels - 1) + ']' * (levels - 1) + '}'
+
+
+def sized(n):
+    made = json.dumps(plain(), separators=(',', ':'))
+    return made + ' ' * (n - len(made))
+
+
+def whole():
+    """01's cases without a star, and what a call has besides dates."""
+    widest = window(*WIDE)
+    # "Window with equal ends: the trailer alone; 12 bytes of buffer suffice, 11 answer 13."
+    instant = window('2024-01-03', '2024-01-03')
+    yield Case(event('2024-01-03', rule('daily')), instant, 12, bytes=TRAILER)
+    yield Case(event('2024-01-03', rule('daily')), instant, 11, answer=13)
+    yield Case(event('2024-01-03'), widest, 40)
+    yield Case(event('2024-01-03'), widest, 39, answer=13)
+    # "Text of 65,536 bytes is read, 65,537 answers 1. 16 levels pass, 17 answer 2."
+    yield Case(plain(), widest, text=sized(65536))
+    yield Case(None, widest, text=sized(65537), answer=1)
+    yield Case(plain(), widest, text=nested(16))
+    yield Case(None, widest, text=nested(17), answer=2)
+    # overlap and gap: the offset before
+    for time in ('00:59:59', '01:00:00', '01:30:00', '01:59:59', '02:00:00', '03:00:00'):
+        yield Case({**plain(), 'start': f'2020-11-01T{time}'}, widest)
+        yield Case({**plain(), 'start': f'2021-03-14T{time}'}, widest)
+    # marks, lengths, patches
+    yield Case(plain(freeBusyStatus='free', showWithoutTime=True, duration='P1W2D'), widest)
+    yield Case(plain(timeZone=None, showWithoutTime=True), widest)
+    yield Case(plain(recurrenceRules=[rule('weekly', count=5)], recurrenceOverrides={
+        '2020-11-08T01:30:00': {'start': '2020-11-09T23:00:00', 'duration': 'PT2H', 'freeBusyStatus': 'free'},
+        '2020-11-15T01:30:00': {'excluded': True},
+        '2020-11-10T00:00:00': {'showWithoutTime': True, 'title': 'once more'}}), window('2020-11-01', '2020-11-25'))
+    # privacy: 12 tells no secret event's zone
+    for privacy in ('public', 'private', 'secret', 'whatever'):
+        yield Case(plain(privacy=privacy), widest)
+        yield Case(plain(privacy=privacy, timeZone='Europe/London'), widest)
+        yield Case(plain(privacy=privacy), widest, 11, answer=13)
+    # a start in the table's place must be in the window by its id
+    yield Case(plain(), window('2020-11-01T01:30:00', '2020-11-01T01:30:01'))
+    yield Case(plain(), window('2020-11-01T01:30:01', '2020-12-01'), bytes=TRAILER)
+
+
+def cases():
+    for made, span, printed in dated():
+        yield Case(made, span, printed=printed)
+    yield from whole()

@@ -1,11 +1,14 @@
 #!/usr/bin/env python3
-"""What crates/ids_vectors must print: `python3 tests/ids_vectors.py > crates/ids_vectors/stdout`.
+"""What crates/call_vectors must print: `python3 tests/call_vectors.py > crates/call_vectors/stdout`.
 
-Its input: `python3 tests/ids_vectors.py texts > crates/ids_vectors/stdin`. Each case is an event's text and a window; what is printed are the
-recurrence ids in the window. They are found here from document 01's six numbered rules by going through all days of every period, with Python's
-datetime; nothing is shared with the proved code. Where a case names the dates that its document prints, they are compared first."""
+Its input: `python3 tests/call_vectors.py texts > crates/call_vectors/stdin`. Each case is an event's text, a window and the length of a buffer; what is
+printed is what the whole call gives. The recurrence ids are found here from document 01's six numbered rules by going through all days of every
+period, with Python's datetime, the table from 01's "The sheet and the words"; nothing is shared with the proved code. Where a case names the dates
+that its document prints, or the answer, they are compared first."""
 import datetime
 import json
+import re
+import struct
 import sys
 
 DAYS = ['mo', 'tu', 'we', 'th', 'fr', 'sa', 'su']
@@ -143,17 +146,77 @@ def seconds(moment):
     return since.days * 86400 + since.seconds
 
 
-def check(event, window, printed):
-    found = ids(event, window)
-    if printed is not None and found != printed:
-        sys.exit(f'the document prints other dates: {event}')
+# "The offset for a local time is that after the last transition whose mark is at or before it, else the initial one." The table of the program.
+ZONE = 'America/New_York'
+INITIAL = -14400
+ENTRIES = [(1604210400, -18000), (1615705200, -14400)]
+
+
+def offset(local):
+    before, found = INITIAL, INITIAL
+    for instant, after in ENTRIES:
+        if instant + max(before, after) <= local:
+            found = after
+        before = after
     return found
 
 
+def duration(text):
+    weeks, days, hours, minutes, secs = (int(n or 0) for n in re.fullmatch(r'P(?:(\d+)W)?(?:(\d+)D)?(?:T(?:(\d+)H)?(?:(\d+)M)?(?:(\d+)S)?)?', text).groups())
+    return ((weeks * 7 + days) * 24 + hours) * 3600 + minutes * 60 + secs
+
+
+def record(event, moment):
+    """28 bytes: id, UTC start, UTC end, marks, three zeros."""
+    patch = event.get('recurrenceOverrides', {}).get(moment.isoformat(), {})
+    after = {**event, 'start': moment.isoformat(), **patch}
+    local = seconds(stamp(after['start']))
+    floating = event.get('timeZone') is None
+    start = local if floating else local - offset(local)
+    marks = (after.get('freeBusyStatus', 'busy') == 'busy') + 2 * after.get('showWithoutTime', False) + 4 * floating
+    return struct.pack('<qqqI', seconds(moment), start, start + duration(after.get('duration', 'PT0S')), marks)
+
+
+def table(event, window):
+    secret = event.get('privacy') == 'secret'
+    found = [] if secret else ids(event, window)
+    records = b''.join(record(event, x) for x in found)
+    return records + struct.pack('<HHII', 28, 1, len(found), 28 * len(found))
+
+
+def outcome(event, window, room):
+    """The answer and the bytes: 12, 13 or 0. What is wrong with a text is said by the case."""
+    if event.get('privacy') != 'secret' and event.get('timeZone') not in (None, ZONE):
+        return 12, b''
+    made = table(event, window)
+    return (13, b'') if room < len(made) else (0, made)
+
+
+def line(answer, made):
+    """The last number: how many bytes behind the table changed."""
+    return f'{answer} {len(made)} {made.hex()} 0'
+
+
+def from_1600(moment):
+    return seconds(moment) + 11676096000
+
+
+def expected(case):
+    if case.answer is not None:
+        return line(case.answer, b'')
+    if case.printed is not None and ids(case.event, case.window) != case.printed:
+        sys.exit(f'the document prints other dates: {case.event}')
+    answer, made = outcome(case.event, case.window, case.room)
+    if case.bytes is not None and made.hex() != case.bytes:
+        sys.exit(f'the document prints other bytes: {case.event}')
+    return line(answer, made)
+
+
 if __name__ == '__main__':
-    from ids_cases import cases
-    for made, span, printed in cases():
+    from call_cases import cases
+    for case in cases():
         if sys.argv[1:] == ['texts']:
-            print(seconds(span[0]), seconds(span[1]), json.dumps(made, separators=(',', ':')))
+            text = case.text if case.text is not None else json.dumps(case.event, separators=(',', ':'))
+            sys.stdout.write(f'{from_1600(case.window[0])} {from_1600(case.window[1])} {case.room} {text}\x1e')
         else:
-            print(*[seconds(x) for x in check(made, span, printed)])
+            print(expected(case))

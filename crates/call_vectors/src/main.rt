@@ -1,0 +1,49 @@
+// Reads the cases of its input and writes what the whole call gives for each: the answer, the length, the table in hexadecimal digits, and how
+// many bytes of the buffer changed that are none of the table's. A case is three numbers, each with a space behind it (the window's ends as
+// seconds from 1600, the buffer's length), and an event's text with byte 0x1E behind it. The zone table is New York's in 2020 and 2021.
+ghost use Prim.Native.Nat.{_≤_, _<_, _^_};
+ghost use lib.ListN.{length};
+
+mod calls;
+mod numbers;
+mod print;
+
+// What ends a text.
+const MARK: u8 = 0x1E;
+
+// The end of the text that begins at a place.
+fn text_end(all: &[u8], from: usize) -> usize
+    requires { ⌜ from ≤ length (now all) ⌝ }
+    ensures { λ r. ⌜ (from ≤ r) × (r ≤ length (now (all .entry))) ⌝ }
+{
+    let mut i = from;
+    while i < all.len() {
+        if all[i] == MARK {
+            return i;
+        }
+        i += 1;
+    }
+    i
+}
+
+fn read_all(all: &[u8]) {
+    let mut at = 0;
+    while at < all.len() {
+        let from = numbers::number_at(all, at);
+        let to = numbers::number_at(all, from.next);
+        let room = numbers::number_at(all, to.next);
+        let text = room.next;
+        let end = text_end(all, text);
+        if end == all.len() {
+            return;
+        }
+        calls::call(&all[text..end], from.value, to.value, room.value);
+        at = end + 1;
+    }
+}
+
+fn main() {
+    let mut input = [0u8; 262144];
+    let n = io::read_full(0, &mut input);
+    read_all(&input[..n]);
+}
