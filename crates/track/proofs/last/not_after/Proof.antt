@@ -1,9 +1,9 @@
--- `matcher::member::not_after` meets its contract: the tests of the definition in their order.
+-- `track::last::not_after` meets its contract: the tests of the definition in their order.
 use Rattle.rule.specs.Lists.{notAfter}
 use Rattle.rule.specs.Read.{untilFrom}
 use borrow.Author.Needs.{needs}
-use Rattle.matcher.proofs.member.not_after.Statement.{statement}
-use Rattle.matcher.proofs.member.not_after.Tie as tie
+use Rattle.track.proofs.last.not_after.Statement.{statement}
+use Rattle.track.proofs.last.not_after.Tie as tie
 
 enum-told : tie.Need-enum-told
 enum-told c = search needs
