@@ -5,6 +5,7 @@ use rule::Day;
 pub mod last;
 pub mod runs;
 pub mod settle;
+pub mod skips;
 pub mod steps;
 
 // A rule that is settled for one call: what it has besides its row of flags, and the first day that is not its own any more, which its

@@ -20,7 +20,7 @@ fn is_counted(terms: Terms, n: u32) -> bool
 }
 
 // The period of a day counted as a whole.
-fn cursor_on(terms: Terms, flags: &[bool], x: Day) -> Cursor
+pub fn cursor_on(terms: Terms, flags: &[bool], x: Day) -> Cursor
     requires { ⌜ (x ≡ dayAt (x .number)) × Reached terms (length (now flags)) (x .number) ⌝ }
     ensures { λ r. ⌜ r ≡ cursorOn terms (now (flags .entry)) x ⌝ }
 {
