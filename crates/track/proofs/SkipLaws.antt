@@ -5,9 +5,9 @@ use mathlib.Core.List.{List}
 use mathlib.Core.Path.{_≡_, refl, sym, ap, _∙_, subst}
 use native.Mathlib.Omega.{arith}
 use native.Mathlib.Nat.{mod-add-mod, mod-eq-of-lt, mod-lt}
-use lib.Dec.{eqb}
+use lib.Dec.{eqb, ltb}
 use lib.ListN.{length}
-use borrow.Author.Tests.{ne-eqb}
+use borrow.Author.Tests.{ltb-true, ltb-false, ne-eqb}
 use Rattle.signed.specs.Choose.{if_then_else_}
 use Rattle.gregorian.specs.Days.{dayCount}
 use Rattle.rule.specs.declared.Frequency.{Frequency}
@@ -16,13 +16,14 @@ use Rattle.rule.specs.declared.Day.{Day}
 use Rattle.rule.specs.Day.{dayAt}
 use Rattle.rule.specs.Period.{periodOf}
 use Rattle.rule.specs.Gives.{endDay}
+use Rattle.rule.proofs.Bools.{by}
 use Rattle.rule.proofs.DayLaws.{InCalendar, step-month}
 use Rattle.rule.proofs.PeriodLaws.{day-number}
 use Rattle.matcher.specs.declared.Terms.{Terms}
 use Rattle.matcher.specs.Flags.{monthBy, staysBy}
 use Rattle.matcher.specs.Walk.{Asked, stepBy, picksBy, picksOnBy}
 use Rattle.matcher.proofs.WalkLaws.{in-calendar}
-use Rattle.track.specs.Skips.{Without, stepAt, stepOn, monthOn, toMonthEnd, daysAhead}
+use Rattle.track.specs.Skips.{Without, Between, stepAt, stepOn, monthOn, toMonthEnd, daysAhead}
 
 -- ---- days of one month
 
@@ -177,3 +178,17 @@ module _ (t : Terms) (row : List Bool) (d n : ℕ) where
   pub skip-month : Without (monthOn row) d n → Without (picksOnBy t row) d n
   unfolding picksOnBy picksBy staysBy monthOn
   skip-month out = record { none = λ j low high. rw (out .none j low high); few = out .few }
+
+-- ---- the next day to look at
+
+pub between-one : (p : ℕ → Bool) (d : ℕ) → Between p d 1
+between-one p d = record { none = λ j low high. absurd (omega arith); more = omega arith; few = omega arith }
+
+pub without-between : (p : ℕ → Bool) (d n : ℕ) → Without p d n → (n ≡ 0 → ⊥) → Between p d n
+without-between p d n w some-days = record { none = λ j low high. w .none j (omega arith) high; more = omega arith; few = w .few }
+
+-- with the first day, which does not pass either
+pub between-all : (p : ℕ → Bool) (d n : ℕ) → Between p d n → p d ≡ false → (j : ℕ) → d ≤ j → j < d + n → p j ≡ false
+between-all p d n b here j low high =
+    by (ltb d j) (λ e. b .none j (ltb-true d j e) high)
+    (λ e. let same : d ≡ j = omega (arith, ltb-false d j e) in subst (λ (k : ℕ). p k ≡ false) same here)

@@ -278,6 +278,13 @@ at-number t row c n e = ap (λ (k : Cursor). k .day .number) e ∙ day-number n
 pub at-again : (t : Terms) (row : List Bool) (c : Cursor) (n : ℕ) → c ≡ cursorAt t row n → c ≡ cursorAt t row (c .day .number)
 at-again t row c n e = e ∙ ap (cursorAt t row) (sym (at-number t row c n e))
 
-pub at-next : (t : Terms) (row : List Bool) (c next : Cursor) (n : ℕ) → c ≡ cursorAt t row n → next ≡ cursorAt t row (c .day .number + 1)
-    → next ≡ cursorAt t row (n + 1)
-at-next t row c next n e f = f ∙ ap (λ (k : ℕ). cursorAt t row (k + 1)) (at-number t row c n e)
+pub held-here : (t : Terms) (row : List Bool) (c : Cursor) (n : ℕ) → length row ≡ 1574 → t .first < 7 → 366 ≤ n → n < endDay → c ≡ cursorAt t row n
+    → Holding t row (length row) c
+held-here t row c n size week low high e =
+    let at = at-number t row c n e in
+    record { row-length = size; week = week; low = omega arith; high = omega arith; is = at-again t row c n e }
+
+-- a leap, by the numbers of the days
+pub at-leap : (t : Terms) (row : List Bool) (c next : Cursor) (n k : ℕ) → c ≡ cursorAt t row n → next ≡ cursorAt t row (c .day .number + k)
+    → next ≡ cursorAt t row (n + k)
+at-leap t row c next n k e f = f ∙ ap (λ (d : ℕ). cursorAt t row (d + k)) (at-number t row c n e)

@@ -17,6 +17,12 @@ pub record Without (p : ℕ → Bool) (d n : ℕ) : Type 0 where
   pub none : (j : ℕ) → d ≤ j → j < d + n → p j ≡ false
   pub few : n < 2 ^ 31
 
+-- The next number to look at is n behind d: none of those between passes.
+pub record Between (p : ℕ → Bool) (d n : ℕ) : Type 0 where
+  pub none : (j : ℕ) → d < j → j < d + n → p j ≡ false
+  pub more : 1 ≤ n
+  pub few : n < 2 ^ 31
+
 -- A period by its number, and a day by its own, is in step.
 unfoldable pub stepAt : Terms → ℕ → Bool
 stepAt t p = eqb ((p - t .period) % t .interval) 0
@@ -38,3 +44,10 @@ daysAhead Daily w n x = n
 daysAhead Weekly w n x = 7 * n - (x .number + 12 - w) % 7
 daysAhead Monthly w n x = toMonthEnd x
 daysAhead Yearly w n x = toMonthEnd x
+
+-- A rule counts positions in years.
+unfoldable pub isCarried : Frequency → Bool → Bool
+isCarried Daily placed = false
+isCarried Weekly placed = false
+isCarried Monthly placed = false
+isCarried Yearly placed = placed

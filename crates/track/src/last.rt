@@ -84,15 +84,22 @@ fn count_day(
     let mut left = limit - first;
     let mut more = count;
     while 0 < left {
+        let held = c;
         if more == 0 {
-            let x = c.day;
+            let x = held.day;
             return x.number;
         }
-        left -= 1;
-        let here = c;
-        c = super::steps::advance(terms, flags, here);
-        if falls(excluded, end, terms, flags, start, here) {
+        if falls(excluded, end, terms, flags, start, held) {
             more -= 1;
+            left -= 1;
+            c = super::steps::advance(terms, flags, held);
+        } else {
+            let gap = super::skips::gap(terms, flags, held.day);
+            if left <= gap {
+                return limit;
+            }
+            left -= gap;
+            c = super::skips::leap(terms, flags, held, gap);
         }
     }
     limit

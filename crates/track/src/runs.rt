@@ -43,12 +43,18 @@ pub fn mark_run(
     let mut c = super::steps::cursor_at(terms, flags, first);
     let mut i = 0;
     while i < hits.len() {
-        let here = i;
         let held = c;
-        i += 1;
-        c = super::steps::advance(terms, flags, held);
         if has_day(track, flags, begin, held) {
-            hits[here] = value;
+            hits[i] = value;
+            i += 1;
+            c = super::steps::advance(terms, flags, held);
+        } else {
+            let gap = super::skips::gap(terms, flags, held.day);
+            if hits.len() <= i + gap as usize {
+                return;
+            }
+            i += gap as usize;
+            c = super::skips::leap(terms, flags, held, gap);
         }
     }
 }

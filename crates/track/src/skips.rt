@@ -7,7 +7,7 @@ ghost use Rattle.rule.specs.Day.{dayAt};
 ghost use Rattle.rule.specs.Gives.{endDay};
 ghost use Rattle.matcher.specs.Walk.{Asked, picksOnBy};
 ghost use Rattle.track.specs.Steps.{Holding, cursorAt};
-ghost use Rattle.track.specs.Skips.{Without, stepAt, stepOn, monthOn, toMonthEnd, daysAhead};
+ghost use Rattle.track.specs.Skips.{Without, Between, stepAt, stepOn, monthOn, toMonthEnd, daysAhead, isCarried};
 use super::Cursor;
 use matcher::Terms;
 use rule::Day;
@@ -80,16 +80,44 @@ fn month_out(flags: &[bool], x: Day) -> u32
     to_month_end(x)
 }
 
+// The positions of a year are counted once, where it begins: no part of it is passed.
+fn is_carried(frequency: Frequency, placed: bool) -> bool
+    ensures { λ r. ⌜ r ≡ isCarried frequency placed ⌝ }
+{
+    match frequency {
+        Frequency::Daily => false,
+        Frequency::Weekly => false,
+        Frequency::Monthly => false,
+        Frequency::Yearly => placed,
+    }
+}
+
 // Days from this one on that surely are none of the rule's: 0 where nothing is known.
-pub fn skip(terms: Terms, flags: &[bool], x: Day) -> u32
+fn skip(terms: Terms, flags: &[bool], x: Day) -> u32
     requires { ⌜ Asked terms (length (now flags)) x ⌝ }
     ensures { λ r. ⌜ Without (picksOnBy terms (now (flags .entry))) (x .number) r ⌝ }
 {
+    let frequency = terms.frequency;
+    if is_carried(frequency, terms.placed) {
+        return 0;
+    }
     let out = days_out(terms, x);
     if 0 < out {
         return out;
     }
     month_out(flags, x)
+}
+
+// Days to go on by from a day that is none of the rule's: those between are not either.
+pub fn gap(terms: Terms, flags: &[bool], x: Day) -> u32
+    requires { ⌜ Asked terms (length (now flags)) x ⌝ }
+    ensures { λ r. ⌜ Between (picksOnBy terms (now (flags .entry))) (x .number) r ⌝ }
+{
+    let n = skip(terms, flags, x);
+    if n == 0 {
+        return 1;
+    }
+    n
 }
 
 // k days later in the same month.
@@ -122,10 +150,14 @@ fn days_later(x: Day, k: u32) -> Day
     rule::days::next_day(last)
 }
 
+// The cursor k days later.
 pub fn leap(terms: Terms, flags: &[bool], c: Cursor, k: u32) -> Cursor
     requires { ⌜ Holding terms (now flags) (length (now flags)) c × ((1 ≤ k) × (c .day .number + k ≤ endDay)) ⌝ }
     ensures { λ r. ⌜ r ≡ cursorAt terms (now (flags .entry)) (c .day .number + k) ⌝ }
 {
+    if k == 1 {
+        return super::steps::advance(terms, flags, c);
+    }
     let day = c.day;
     let x = days_later(day, k);
     super::steps::cursor_on(terms, flags, x)

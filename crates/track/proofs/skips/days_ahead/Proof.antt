@@ -45,14 +45,18 @@ returns-2 c = rw (c .before .enum-told2 .given .1)
 returns-3 : tie.Need-returns-3
 unfolding daysAhead
 returns-3 c =
-    rw (c .before .enum-told3 .given .1,
-      ← (c .to-month-end .ensures))
+    rw (
+      c .before .enum-told3 .given .1,
+      ← (c .to-month-end .ensures),
+    )
 
 returns-4 : tie.Need-returns-4
 unfolding daysAhead
 returns-4 c =
-    rw (c .before .enum-told4 .given .1,
-      ← (c .to-month-end2 .ensures))
+    rw (
+      c .before .enum-told4 .given .1,
+      ← (c .to-month-end2 .ensures),
+    )
 
 pub days-ahead-spec : {M : Type 1} → statement M
 days-ahead-spec =
