@@ -3,6 +3,7 @@ ghost use mathlib.Core.Path.{_≡_};
 ghost use Prim.Native.Nat.{_+_, _<_};
 ghost use lib.ListN.{length};
 ghost use Rattle.gregorian.specs.Days.{dayCount};
+ghost use Rattle.rule.specs.Day.{dayAt};
 ghost use Rattle.rule.specs.Lists.{countIn};
 ghost use Rattle.rule.proofs.DayLaws.{InCalendar};
 ghost use Rattle.matcher.specs.Flags.{Row};
@@ -29,12 +30,12 @@ pub fn in_step(terms: Terms, x: Day) -> bool
     later as u64 % interval == 0
 }
 
-// How many of the n days from the day `first` on stay.
-pub fn count_in(flags: &[bool], inyear: bool, first: u32, n: u32) -> u32
-    requires { ⌜ Row (length (now flags)) × (first + n < dayCount) ⌝ }
-    ensures { λ r. ⌜ r ≡ countIn (staysOnBy (now (flags .entry)) inyear) first n ⌝ }
+// How many of the n days from a day on stay.
+pub fn count_in(flags: &[bool], inyear: bool, first: Day, n: u32) -> u32
+    requires { ⌜ Row (length (now flags)) × ((first ≡ dayAt (first .number)) × (first .number + n < dayCount)) ⌝ }
+    ensures { λ r. ⌜ r ≡ countIn (staysOnBy (now (flags .entry)) inyear) (first .number) n ⌝ }
 {
-    let mut x = rule::days::day_of(first);
+    let mut x = first;
     let mut left = n;
     let mut found: u32 = 0;
     while 0 < left {

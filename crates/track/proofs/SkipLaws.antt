@@ -101,6 +101,10 @@ module _ (x : Day) (is : x ≡ dayAt (x .number)) where
     unfolding toMonthEnd
     month-few = omega (arith, facts .monthday-low, facts .monthdays)
 
+    pub month-reaches : (k : ℕ) → k < toMonthEnd x → (x .number + k < dayCount) × (x .monthday + k ≤ x .monthdays)
+    unfolding toMonthEnd
+    month-reaches k h = (omega (arith, facts .monthdays), omega (arith, facts .monthday-low))
+
     pub month-without : (row : List Bool) → monthBy row x ≡ false → Without (monthOn row) (x .number) (toMonthEnd x)
     unfolding monthOn monthBy
     month-without row no-it-has-not =
@@ -192,3 +196,18 @@ pub between-all : (p : ℕ → Bool) (d n : ℕ) → Between p d n → p d ≡ f
 between-all p d n b here j low high =
     by (ltb d j) (λ e. b .none j (ltb-true d j e) high)
     (λ e. let same : d ≡ j = omega (arith, ltb-false d j e) in subst (λ (k : ℕ). p k ≡ false) same here)
+
+pub between-more : (p : ℕ → Bool) (d n : ℕ) → Between p d n → p (d + n) ≡ false → n < 31 → Between p d (n + 1)
+between-more p d n b out small =
+    record {
+      none = λ j low high.
+          by (ltb j (d + n)) (λ e. b .none j low (ltb-true j (d + n) e))
+          (λ e. let same : d + n ≡ j = omega (arith, ltb-false j (d + n) e) in subst (λ (k : ℕ). p k ≡ false) same out);
+      more = omega arith;
+      few = omega arith;
+    }
+
+-- a day that does not stay is not picked
+pub not-staying : (t : Terms) (row : List Bool) (y : Day) (n : ℕ) → y ≡ dayAt n → staysBy row (t .inyear) y ≡ false → picksOnBy t row n ≡ false
+unfolding picksOnBy picksBy
+not-staying t row y n is out = rw (ap (staysBy row (t .inyear)) (sym is) ∙ out)

@@ -108,18 +108,6 @@ fn skip(terms: Terms, flags: &[bool], x: Day) -> u32
     month_out(flags, x)
 }
 
-// Days to go on by from a day that is none of the rule's: those between are not either.
-pub fn gap(terms: Terms, flags: &[bool], x: Day) -> u32
-    requires { ⌜ Asked terms (length (now flags)) x ⌝ }
-    ensures { λ r. ⌜ Between (picksOnBy terms (now (flags .entry))) (x .number) r ⌝ }
-{
-    let n = skip(terms, flags, x);
-    if n == 0 {
-        return 1;
-    }
-    n
-}
-
 // k days later in the same month.
 fn in_month(x: Day, k: u32) -> Day
     requires { ⌜ (x ≡ dayAt (x .number)) × ((x .number + k < dayCount) × (x .monthday + k ≤ x .monthdays)) ⌝ }
@@ -135,6 +123,39 @@ fn in_month(x: Day, k: u32) -> Day
         monthday: x.monthday + k,
         monthdays: x.monthdays,
     }
+}
+
+// Days to the next one of the month that stays, or to the month that follows.
+fn to_next(terms: Terms, flags: &[bool], x: Day) -> u32
+    requires { ⌜ Asked terms (length (now flags)) x ⌝ }
+    ensures { λ r. ⌜ Between (picksOnBy terms (now (flags .entry))) (x .number) r ⌝ }
+{
+    let end = to_month_end(x);
+    let mut k = 1;
+    while k < end {
+        let y = in_month(x, k);
+        if matcher::flags::stays(flags, terms.inyear, y) {
+            return k;
+        }
+        k += 1;
+    }
+    k
+}
+
+// Days to go on by from a day that is none of the rule's: those between are not either.
+pub fn gap(terms: Terms, flags: &[bool], x: Day) -> u32
+    requires { ⌜ Asked terms (length (now flags)) x ⌝ }
+    ensures { λ r. ⌜ Between (picksOnBy terms (now (flags .entry))) (x .number) r ⌝ }
+{
+    let n = skip(terms, flags, x);
+    if 0 < n {
+        return n;
+    }
+    let placed = terms.placed;
+    if placed {
+        return 1;
+    }
+    to_next(terms, flags, x)
 }
 
 // Most leaps end behind their month: then nothing is looked up.

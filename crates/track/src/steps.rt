@@ -34,7 +34,15 @@ pub fn cursor_on(terms: Terms, flags: &[bool], x: Day) -> Cursor
     let frequency = terms.frequency;
     let before = matcher::periods::since_first(frequency, terms.first, x);
     let all = matcher::periods::days_of(frequency, x);
-    let first = x.number - before;
+    if before == 0 {
+        let total = matcher::walk::count_in(flags, terms.inyear, x, all);
+        return Cursor {
+            day: x,
+            seen: 0,
+            total,
+        };
+    }
+    let first = rule::days::day_of(x.number - before);
     let seen = matcher::walk::count_in(flags, terms.inyear, first, before);
     let total = matcher::walk::count_in(flags, terms.inyear, first, all);
     Cursor {
