@@ -80,6 +80,7 @@ fn count_day(
     if limit <= first {
         return first;
     }
+    let unplaced = super::skips::is_unplaced(terms, flags);
     let mut c = super::steps::cursor_at(terms, flags, first);
     let mut left = limit - first;
     let mut more = count;
@@ -94,7 +95,7 @@ fn count_day(
             left -= 1;
             c = super::steps::advance(terms, flags, held);
         } else {
-            let gap = super::skips::gap(terms, flags, held.day);
+            let gap = super::skips::gap(terms, flags, unplaced, held.day);
             if left <= gap {
                 return limit;
             }

@@ -40,6 +40,7 @@ pub fn mark_run(
         return;
     }
     let terms = track.terms;
+    let unplaced = super::skips::is_unplaced(terms, flags);
     let mut c = super::steps::cursor_at(terms, flags, first);
     let mut i = 0;
     while i < hits.len() {
@@ -49,7 +50,7 @@ pub fn mark_run(
             i += 1;
             c = super::steps::advance(terms, flags, held);
         } else {
-            let gap = super::skips::gap(terms, flags, held.day);
+            let gap = super::skips::gap(terms, flags, unplaced, held.day);
             if hits.len() <= i + gap as usize {
                 return;
             }

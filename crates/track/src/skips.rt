@@ -1,4 +1,5 @@
 // Days that surely are none of a rule's: passed at once, since a rule may have none for centuries.
+ghost use mathlib.Core.Bool.{true};
 ghost use mathlib.Core.Path.{_≡_};
 ghost use Prim.Native.Nat.{_+_, _<_, _≤_};
 ghost use lib.ListN.{length};
@@ -7,7 +8,7 @@ ghost use Rattle.rule.specs.Day.{dayAt};
 ghost use Rattle.rule.specs.Gives.{endDay};
 ghost use Rattle.matcher.specs.Walk.{Asked, picksOnBy};
 ghost use Rattle.track.specs.Steps.{Holding, cursorAt};
-ghost use Rattle.track.specs.Skips.{Without, Between, stepAt, stepOn, monthOn, toMonthEnd, daysAhead, isCarried};
+ghost use Rattle.track.specs.Skips.{Without, Between, stepAt, stepOn, monthOn, toMonthEnd, daysAhead, isCarried, mostDays, Unplaced};
 use super::Cursor;
 use matcher::Terms;
 use rule::Day;
@@ -142,11 +143,49 @@ fn to_next(terms: Terms, flags: &[bool], x: Day) -> u32
     k
 }
 
+fn most_days(frequency: Frequency) -> u32
+    ensures { λ r. ⌜ r ≡ mostDays frequency ⌝ }
+{
+    match frequency {
+        Frequency::Daily => 1,
+        Frequency::Weekly => 7,
+        Frequency::Monthly => 31,
+        Frequency::Yearly => 366,
+    }
+}
+
+// Whether the rule has set positions, and surely none that one of its periods could have: then it has no days.
+pub fn is_unplaced(terms: Terms, flags: &[bool]) -> bool
+    requires { ⌜ length (now flags) ≡ 1574 ⌝ }
+    ensures { λ r. ⌜ (r ≡ true → Unplaced terms (now (flags .entry))) ⌝ }
+{
+    let placed = terms.placed;
+    if !placed {
+        return false;
+    }
+    let frequency = terms.frequency;
+    let most = most_days(frequency);
+    let mut k = 1;
+    while k <= most {
+        if flags[840 + k as usize] {
+            return false;
+        }
+        if flags[1207 + k as usize] {
+            return false;
+        }
+        k += 1;
+    }
+    true
+}
+
 // Days to go on by from a day that is none of the rule's: those between are not either.
-pub fn gap(terms: Terms, flags: &[bool], x: Day) -> u32
-    requires { ⌜ Asked terms (length (now flags)) x ⌝ }
+pub fn gap(terms: Terms, flags: &[bool], unplaced: bool, x: Day) -> u32
+    requires { ⌜ Asked terms (length (now flags)) x × (unplaced ≡ true → Unplaced terms (now flags)) ⌝ }
     ensures { λ r. ⌜ Between (picksOnBy terms (now (flags .entry))) (x .number) r ⌝ }
 {
+    if unplaced {
+        return 3067672 - x.number;
+    }
     let n = skip(terms, flags, x);
     if 0 < n {
         return n;

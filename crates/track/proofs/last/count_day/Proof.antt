@@ -12,10 +12,10 @@ use Rattle.track.proofs.last.count_day.Statement.{statement}
 use Rattle.track.proofs.last.count_day.Tie as tie
 
 abbrev Inv-loop : tie.InvT-loop
-Inv-loop excluded end terms flags start limit count first c₀ left₀ more₀ c left more = (c ≡ cursorAt terms flags (c .day .number)) × EndAt (fallsOnBy excluded end terms flags start) (start / 86400) limit count (c .day .number) left more
+Inv-loop excluded end terms flags start limit count first unplaced c₀ left₀ more₀ c left more = (c ≡ cursorAt terms flags (c .day .number)) × EndAt (fallsOnBy excluded end terms flags start) (start / 86400) limit count (c .day .number) left more
 
 abbrev μ-loop : tie.MeasureT-loop
-μ-loop excluded end terms flags start limit count first c₀ left₀ more₀ c left more = left
+μ-loop excluded end terms flags start limit count first unplaced c₀ left₀ more₀ c left more = left
 
 cast-first : tie.Need-cast-first Inv-loop μ-loop
 cast-first c = search needs
@@ -25,9 +25,12 @@ returns c =
     let none : c .before .before .args .limit - c .before .before .args .start / 86400 ≡ 0 = omega (arith, c .if1 .taken) in
     sym (rw none (end-none _ _ _))
 
+is-unplaced-requires : tie.Need-is-unplaced-requires Inv-loop μ-loop
+is-unplaced-requires c κs = c .before .before .pre .row-length
+
 cursor-at-requires : tie.Need-cursor-at-requires Inv-loop μ-loop
 cursor-at-requires c κs =
-    let a = c .before .before .pre in
+    let a = c .before .before .before .pre in
     record { row-length = a .row-length; week = a .week; low = a .low; high = omega (arith, a .high) }
 
 sub-left : tie.Need-sub-left Inv-loop μ-loop
@@ -35,7 +38,7 @@ sub-left c = search needs
 
 loop-holds : tie.Need-loop-holds Inv-loop μ-loop
 loop-holds c =
-    (at-again _ _ _ _ (c .cursor-at .ensures), end-starts _ _ _ _ _ (at-number _ _ _ _ (c .cursor-at .ensures)) (c .before .if1 .left))
+    (at-again _ _ _ _ (c .cursor-at .ensures), end-starts _ _ _ _ _ (at-number _ _ _ _ (c .cursor-at .ensures)) (c .before .before .if1 .left))
 
 returns-2 : tie.Need-returns-2 Inv-loop μ-loop
 returns-2 c = end-found _ _ _ _ _ _ _ (c .before .before .before .loop .inv .1) (c .before .if2 .taken)
@@ -43,7 +46,7 @@ returns-2 c = end-found _ _ _ _ _ _ _ (c .before .before .before .loop .inv .1) 
 falls-requires : tie.Need-falls-requires Inv-loop μ-loop
 falls-requires c κs =
     let w = c .before .before .loop .inv in
-    let a = c .before .before .before .before .before .before .pre in
+    let a = c .before .before .before .before .before .before .before .pre in
     let held = held-here _ _ _ _ (a .row-length) (a .week) (omega (arith, w .1 .low, a .low)) (omega (arith, w .1 .ends, a .within, c .before .loop-test .taken)) (w .0) in
     (held, a .high)
 
@@ -56,7 +59,7 @@ sub-left-2 c = search needs
 advance-requires : tie.Need-advance-requires Inv-loop μ-loop
 advance-requires c κs =
     let w = c .before .before .before .before .loop .inv in
-    let a = c .before .before .before .before .before .before .before .before .pre in
+    let a = c .before .before .before .before .before .before .before .before .before .pre in
     let held = held-here _ _ _ _ (a .row-length) (a .week) (omega (arith, w .1 .low, a .low)) (omega (arith, w .1 .ends, a .within, c .before .before .before .loop-test .taken)) (w .0) in
     held
 
@@ -72,9 +75,9 @@ loop-again c =
 gap-requires : tie.Need-gap-requires Inv-loop μ-loop
 gap-requires c κs =
     let w = c .before .before .before .before .loop .inv in
-    let a = c .before .before .before .before .before .before .before .before .pre in
+    let a = c .before .before .before .before .before .before .before .before .before .pre in
     let held = held-here _ _ _ _ (a .row-length) (a .week) (omega (arith, w .1 .low, a .low)) (omega (arith, w .1 .ends, a .within, c .before .before .before .loop-test .taken)) (w .0) in
-    held-asked _ _ _ held
+    (held-asked _ _ _ held, c .before .before .before .before .before .before .is-unplaced .ensures)
 
 returns-3 : tie.Need-returns-3 Inv-loop μ-loop
 returns-3 c =
@@ -88,7 +91,7 @@ sub-left-3 c = search needs
 leap-requires : tie.Need-leap-requires Inv-loop μ-loop
 leap-requires c κs =
     let w = c .before .before .before .before .before .before .loop .inv in
-    let a = c .before .before .before .before .before .before .before .before .before .before .pre in
+    let a = c .before .before .before .before .before .before .before .before .before .before .before .pre in
     let held = held-here _ _ _ _ (a .row-length) (a .week) (omega (arith, w .1 .low, a .low)) (omega (arith, w .1 .ends, a .within, c .before .before .before .before .before .loop-test .taken)) (w .0) in
     (held, (c .before .gap .ensures .more, omega (arith, w .1 .ends, a .within, c .if4 .left)))
 
@@ -115,6 +118,7 @@ count-day-spec =
     μ-loop
     cast-first
     returns
+    is-unplaced-requires
     cursor-at-requires
     sub-left
     loop-holds
