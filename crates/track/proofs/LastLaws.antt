@@ -74,8 +74,10 @@ module _ (p : ℕ → Bool) (first limit count : ℕ) where
   end-starts d e h = record { low = omega arith; ends = omega arith; same = rw e }
 
   module _ (d left more : ℕ) (w : EndAt p first limit count d left more) where
-    pub end-found : more ≡ 0 → d ≡ endOf p (limit - first) first count
-    end-found none = sym (end-here p left d) ∙ (sym (ap (endOf p left d) none) ∙ w .same)
+    pub end-found : more ≡ 0 → limit - left ≡ endOf p (limit - first) first count
+    end-found none =
+        let here : limit - left ≡ d = omega (arith, w .ends) in
+        here ∙ (sym (end-here p left d) ∙ (sym (ap (endOf p left d) none) ∙ w .same))
 
     pub end-over : left ≤ 0 → limit ≡ endOf p (limit - first) first count
     end-over h =

@@ -85,22 +85,20 @@ fn count_day(
     let mut left = limit - first;
     let mut more = count;
     while 0 < left {
-        let held = c;
         if more == 0 {
-            let x = held.day;
-            return x.number;
+            return limit - left;
         }
-        if falls(excluded, end, terms, flags, start, held) {
+        if falls(excluded, end, terms, flags, start, c) {
             more -= 1;
             left -= 1;
-            c = super::steps::advance(terms, flags, held);
+            c = super::steps::advance(terms, flags, c);
         } else {
-            let gap = super::skips::gap(terms, flags, unplaced, held.day);
+            let gap = super::skips::gap(terms, flags, unplaced, c.day);
             if left <= gap {
                 return limit;
             }
             left -= gap;
-            c = super::skips::leap(terms, flags, held, gap);
+            c = super::skips::leap(terms, flags, c, gap);
         }
     }
     limit

@@ -40,8 +40,13 @@ loop-holds : tie.Need-loop-holds Inv-loop μ-loop
 loop-holds c =
     (at-again _ _ _ _ (c .cursor-at .ensures), end-starts _ _ _ _ _ (at-number _ _ _ _ (c .cursor-at .ensures)) (c .before .before .if1 .left))
 
+sub-result : tie.Need-sub-result Inv-loop μ-loop
+sub-result c = omega (arith, c .before .before .loop .inv .1 .ends)
+
 returns-2 : tie.Need-returns-2 Inv-loop μ-loop
-returns-2 c = end-found _ _ _ _ _ _ _ (c .before .before .before .loop .inv .1) (c .before .if2 .taken)
+returns-2 c =
+    let w = c .before .before .loop .inv .1 in
+    end-found _ _ _ _ _ _ _ w (c .if2 .taken)
 
 falls-requires : tie.Need-falls-requires Inv-loop μ-loop
 falls-requires c κs =
@@ -122,6 +127,7 @@ count-day-spec =
     cursor-at-requires
     sub-left
     loop-holds
+    sub-result
     returns-2
     falls-requires
     sub-more
