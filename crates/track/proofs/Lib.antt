@@ -3,3 +3,4 @@ pub mod RunLaws
 pub mod LastLaws
 pub mod SettleLaws
 pub mod SkipLaws
+pub mod PlaceLaws

@@ -3,3 +3,4 @@ pub mod Runs
 pub mod Last
 pub mod Settle
 pub mod Skips
+pub mod Places

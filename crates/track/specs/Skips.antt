@@ -4,7 +4,6 @@ use mathlib.Core.Bool.{Bool, true, false}
 use mathlib.Core.List.{List}
 use mathlib.Core.Path.{_≡_}
 use lib.Dec.{eqb}
-use lib.ListN.{getD}
 use Rattle.rule.specs.declared.Frequency.{Frequency}
 use Rattle.rule.specs.declared.Frequency.the-variants.{Daily, Weekly, Monthly, Yearly}
 use Rattle.rule.specs.declared.Day.{Day}
@@ -45,19 +44,6 @@ daysAhead Daily w n x = n
 daysAhead Weekly w n x = 7 * n - (x .number + 12 - w) % 7
 daysAhead Monthly w n x = toMonthEnd x
 daysAhead Yearly w n x = toMonthEnd x
-
--- The most days that a period has.
-unfoldable pub mostDays : Frequency → ℕ
-mostDays Daily = 1
-mostDays Weekly = 7
-mostDays Monthly = 31
-mostDays Yearly = 366
-
--- A rule has set positions, and none that one of its periods could have.
-pub record Unplaced (t : Terms) (row : List Bool) : Type 0 where
-  pub placed : t .placed ≡ true
-  pub on : (k : ℕ) → 1 ≤ k → k ≤ mostDays (t .frequency) → getD row (840 + k) false ≡ false
-  pub back : (k : ℕ) → 1 ≤ k → k ≤ mostDays (t .frequency) → getD row (1207 + k) false ≡ false
 
 -- A rule counts positions in years.
 unfoldable pub isCarried : Frequency → Bool → Bool

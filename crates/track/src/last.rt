@@ -80,7 +80,7 @@ fn count_day(
     if limit <= first {
         return first;
     }
-    let unplaced = super::skips::is_unplaced(terms, flags);
+    let unplaced = super::places::is_unplaced(terms, flags);
     let mut c = super::steps::cursor_at(terms, flags, first);
     let mut left = limit - first;
     let mut more = count;
@@ -98,7 +98,7 @@ fn count_day(
                 return limit;
             }
             left -= gap;
-            c = super::skips::leap(terms, flags, c, gap);
+            c = super::leaps::leap(terms, flags, c, gap);
         }
     }
     limit

@@ -3,6 +3,8 @@ use matcher::Terms;
 use rule::Day;
 
 pub mod last;
+pub mod leaps;
+pub mod places;
 pub mod runs;
 pub mod settle;
 pub mod skips;

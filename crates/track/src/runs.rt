@@ -40,7 +40,7 @@ pub fn mark_run(
         return;
     }
     let terms = track.terms;
-    let unplaced = super::skips::is_unplaced(terms, flags);
+    let unplaced = super::places::is_unplaced(terms, flags);
     let mut c = super::steps::cursor_at(terms, flags, first);
     let mut i = 0;
     while i < hits.len() {
@@ -55,7 +55,7 @@ pub fn mark_run(
                 return;
             }
             i += gap as usize;
-            c = super::skips::leap(terms, flags, held, gap);
+            c = super::leaps::leap(terms, flags, held, gap);
         }
     }
 }

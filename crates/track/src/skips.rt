@@ -1,15 +1,13 @@
 // Days that surely are none of a rule's: passed at once, since a rule may have none for centuries.
 ghost use mathlib.Core.Bool.{true};
 ghost use mathlib.Core.Path.{_≡_};
-ghost use Prim.Native.Nat.{_+_, _<_, _≤_};
+ghost use Prim.Native.Nat.{_<_, _≤_};
 ghost use lib.ListN.{length};
-ghost use Rattle.gregorian.specs.Days.{dayCount};
 ghost use Rattle.rule.specs.Day.{dayAt};
 ghost use Rattle.rule.specs.Gives.{endDay};
 ghost use Rattle.matcher.specs.Walk.{Asked, picksOnBy};
-ghost use Rattle.track.specs.Steps.{Holding, cursorAt};
-ghost use Rattle.track.specs.Skips.{Without, Between, stepAt, stepOn, monthOn, toMonthEnd, daysAhead, isCarried, mostDays, Unplaced};
-use super::Cursor;
+ghost use Rattle.track.specs.Skips.{Without, Between, stepAt, stepOn, monthOn, toMonthEnd, daysAhead, isCarried};
+ghost use Rattle.track.specs.Places.{Unplaced};
 use matcher::Terms;
 use rule::Day;
 use rule::Frequency;
@@ -109,23 +107,6 @@ fn skip(terms: Terms, flags: &[bool], x: Day) -> u32
     month_out(flags, x)
 }
 
-// k days later in the same month.
-fn in_month(x: Day, k: u32) -> Day
-    requires { ⌜ (x ≡ dayAt (x .number)) × ((x .number + k < dayCount) × (x .monthday + k ≤ x .monthdays)) ⌝ }
-    ensures { λ r. ⌜ r ≡ dayAt (x .number + k) ⌝ }
-{
-    Day {
-        number: x.number + k,
-        weekday: (x.weekday + k) % 7,
-        year: x.year,
-        yearday: x.yearday + k,
-        yeardays: x.yeardays,
-        month: x.month,
-        monthday: x.monthday + k,
-        monthdays: x.monthdays,
-    }
-}
-
 // Days to the next one of the month that stays, or to the month that follows.
 fn to_next(terms: Terms, flags: &[bool], x: Day) -> u32
     requires { ⌜ Asked terms (length (now flags)) x ⌝ }
@@ -134,48 +115,13 @@ fn to_next(terms: Terms, flags: &[bool], x: Day) -> u32
     let end = to_month_end(x);
     let mut k = 1;
     while k < end {
-        let y = in_month(x, k);
+        let y = super::leaps::in_month(x, k);
         if matcher::flags::stays(flags, terms.inyear, y) {
             return k;
         }
         k += 1;
     }
     k
-}
-
-fn most_days(frequency: Frequency) -> u32
-    ensures { λ r. ⌜ r ≡ mostDays frequency ⌝ }
-{
-    match frequency {
-        Frequency::Daily => 1,
-        Frequency::Weekly => 7,
-        Frequency::Monthly => 31,
-        Frequency::Yearly => 366,
-    }
-}
-
-// Whether the rule has set positions, and surely none that one of its periods could have: then it has no days.
-pub fn is_unplaced(terms: Terms, flags: &[bool]) -> bool
-    requires { ⌜ length (now flags) ≡ 1574 ⌝ }
-    ensures { λ r. ⌜ (r ≡ true → Unplaced terms (now (flags .entry))) ⌝ }
-{
-    let placed = terms.placed;
-    if !placed {
-        return false;
-    }
-    let frequency = terms.frequency;
-    let most = most_days(frequency);
-    let mut k = 1;
-    while k <= most {
-        if flags[840 + k as usize] {
-            return false;
-        }
-        if flags[1207 + k as usize] {
-            return false;
-        }
-        k += 1;
-    }
-    true
 }
 
 // Days to go on by from a day that is none of the rule's: those between are not either.
@@ -195,30 +141,4 @@ pub fn gap(terms: Terms, flags: &[bool], unplaced: bool, x: Day) -> u32
         return 1;
     }
     to_next(terms, flags, x)
-}
-
-// Most leaps end behind their month: then nothing is looked up.
-fn days_later(x: Day, k: u32) -> Day
-    requires { ⌜ (x ≡ dayAt (x .number)) × ((1 ≤ k) × (x .number + k < dayCount)) ⌝ }
-    ensures { λ r. ⌜ r ≡ dayAt (x .number + k) ⌝ }
-{
-    let near = k - 1;
-    if x.monthdays < x.monthday + near {
-        return rule::days::day_of(x.number + k);
-    }
-    let last = in_month(x, near);
-    rule::days::next_day(last)
-}
-
-// The cursor k days later.
-pub fn leap(terms: Terms, flags: &[bool], c: Cursor, k: u32) -> Cursor
-    requires { ⌜ Holding terms (now flags) (length (now flags)) c × ((1 ≤ k) × (c .day .number + k ≤ endDay)) ⌝ }
-    ensures { λ r. ⌜ r ≡ cursorAt terms (now (flags .entry)) (c .day .number + k) ⌝ }
-{
-    if k == 1 {
-        return super::steps::advance(terms, flags, c);
-    }
-    let day = c.day;
-    let x = days_later(day, k);
-    super::steps::cursor_on(terms, flags, x)
 }

@@ -4,7 +4,6 @@ use Rattle.track.specs.Skips.{Without, stepOn}
 use Rattle.matcher.proofs.WalkLaws.{known, asked-day}
 use native.Mathlib.Omega.{arith}
 use mathlib.Core.Path.{_≡_, sym, subst}
-use Prim.Native.Nat.{ℕ}
 use borrow.Author.Needs.{needs}
 use Rattle.track.proofs.skips.days_out.Statement.{statement}
 use Rattle.track.proofs.skips.days_out.Tie as tie

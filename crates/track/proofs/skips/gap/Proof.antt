@@ -1,5 +1,6 @@
 -- `track::skips::gap` meets its contract.
-use Rattle.track.proofs.SkipLaws.{between-one, without-between, unplaced-between}
+use Rattle.track.proofs.SkipLaws.{between-one, without-between}
+use Rattle.track.proofs.PlaceLaws.{unplaced-between}
 use native.Mathlib.Omega.{arith}
 use borrow.Author.Needs.{needs}
 use Rattle.track.proofs.skips.gap.Statement.{statement}

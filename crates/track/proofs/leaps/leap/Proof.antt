@@ -1,4 +1,4 @@
--- `track::skips::leap` meets its contract.
+-- `track::leaps::leap` meets its contract.
 use Rattle.track.proofs.StepLaws.{cursor-at-day, held-day}
 use Rattle.track.specs.Steps.{cursorAt}
 use Rattle.matcher.proofs.WalkLaws.{number-is, day-again}
@@ -6,8 +6,8 @@ use native.Mathlib.Omega.{arith}
 use mathlib.Core.Path.{_≡_, sym, ap, _∙_}
 use Prim.Native.Nat.{ℕ, _+_}
 use borrow.Author.Needs.{needs}
-use Rattle.track.proofs.skips.leap.Statement.{statement}
-use Rattle.track.proofs.skips.leap.Tie as tie
+use Rattle.track.proofs.leaps.leap.Statement.{statement}
+use Rattle.track.proofs.leaps.leap.Tie as tie
 
 advance-requires : tie.Need-advance-requires
 advance-requires c κs = c .before .before .pre .0

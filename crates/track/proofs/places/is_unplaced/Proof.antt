@@ -1,13 +1,12 @@
--- `track::skips::is_unplaced` meets its contract. The invariant: the positions before k are not set.
-use Rattle.track.proofs.SkipLaws.{Scanned, scan-starts, scan-goes-on, scan-ends, most-few}
+-- `track::places::is_unplaced` meets its contract. The invariant: the positions before k are not set.
+use Rattle.track.proofs.PlaceLaws.{Scanned, scan-starts, scan-goes-on, scan-ends, most-few}
 use mathlib.Core.Bool.{false≢true}
-use mathlib.Core.Path.{_≡_, sym}
 use borrow.Author.Tests.{not-false}
 use native.Mathlib.Omega.{arith}
 use Prim.Native.Nat.{_+_, _-_}
 use borrow.Author.Needs.{needs}
-use Rattle.track.proofs.skips.is_unplaced.Statement.{statement}
-use Rattle.track.proofs.skips.is_unplaced.Tie as tie
+use Rattle.track.proofs.places.is_unplaced.Statement.{statement}
+use Rattle.track.proofs.places.is_unplaced.Tie as tie
 
 abbrev Inv-loop : tie.InvT-loop
 Inv-loop flags placed most k₀ k = Scanned flags k

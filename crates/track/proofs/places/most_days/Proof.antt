@@ -1,8 +1,8 @@
--- `track::skips::most_days` meets its contract: the tests of the definition in their order.
-use Rattle.track.specs.Skips.{mostDays}
+-- `track::places::most_days` meets its contract: the tests of the definition in their order.
+use Rattle.track.specs.Places.{mostDays}
 use borrow.Author.Needs.{needs}
-use Rattle.track.proofs.skips.most_days.Statement.{statement}
-use Rattle.track.proofs.skips.most_days.Tie as tie
+use Rattle.track.proofs.places.most_days.Statement.{statement}
+use Rattle.track.proofs.places.most_days.Tie as tie
 
 enum-told : tie.Need-enum-told
 enum-told c = search needs

@@ -1,12 +1,12 @@
--- `track::skips::days_later` meets its contract.
+-- `track::leaps::days_later` meets its contract.
 use Rattle.matcher.proofs.WalkLaws.{number-is, day-again, in-calendar}
 use Rattle.rule.specs.Day.{dayAt}
 use native.Mathlib.Omega.{arith}
 use mathlib.Core.Path.{_≡_, ap, _∙_}
 use Prim.Native.Nat.{_+_, _-_}
 use borrow.Author.Needs.{needs}
-use Rattle.track.proofs.skips.days_later.Statement.{statement}
-use Rattle.track.proofs.skips.days_later.Tie as tie
+use Rattle.track.proofs.leaps.days_later.Statement.{statement}
+use Rattle.track.proofs.leaps.days_later.Tie as tie
 
 sub-near : tie.Need-sub-near
 sub-near c = search needs

@@ -1,10 +1,10 @@
--- `track::skips::in_month` meets its contract.
+-- `track::leaps::in_month` meets its contract.
 use Rattle.track.proofs.SkipLaws.{in-same-month}
 use Rattle.matcher.proofs.WalkLaws.{in-calendar}
 use native.Mathlib.Omega.{arith}
 use borrow.Author.Needs.{needs}
-use Rattle.track.proofs.skips.in_month.Statement.{statement}
-use Rattle.track.proofs.skips.in_month.Tie as tie
+use Rattle.track.proofs.leaps.in_month.Statement.{statement}
+use Rattle.track.proofs.leaps.in_month.Tie as tie
 
 add-t3 : tie.Need-add-t3
 add-t3 c = search needs
