@@ -1,4 +1,3 @@
-pub mod FirstLaws
 pub mod WalkLaws
 mod MarkLaws
 mod WeekdayLaws

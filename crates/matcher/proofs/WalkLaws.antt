@@ -20,8 +20,7 @@ use Rattle.rule.proofs.DayLaws.{InCalendar, day-facts, of-day}
 use Rattle.rule.proofs.PeriodLaws.{day-number, since-in, days-most, period-within}
 use Rattle.matcher.specs.declared.Terms.{Terms}
 use Rattle.matcher.specs.Flags.{Places, named, staysBy}
-use Rattle.matcher.proofs.FirstLaws.{first-none, first-here, first-later}
-use Rattle.matcher.specs.Walk.{Asked, Walked, staysOnBy, stepBy, placedBy, picksBy, picksOnBy, firstFrom}
+use Rattle.matcher.specs.Walk.{Asked, staysOnBy, stepBy, placedBy, picksBy, picksOnBy}
 
 -- ---- the interval
 
@@ -167,40 +166,6 @@ module _ (t : Terms) (row : ℕ) (x : Day) (a : Asked t row x) where
 
   pub asked-small : (fl : List Bool) → countIn (staysOnBy fl (t .inyear)) (x .number - before t x) (before t x) ≤ 366
   asked-small fl = omega (arith, count-most (staysOnBy fl (t .inyear)) (x .number - before t x) (before t x), asked-before, asked-most)
-
--- ---- the walk to the first day
-
-pub record Walking (p : ℕ → Bool) (from end : ℕ) (x : Day) (left : ℕ) : Type 0 where
-  pub day : x ≡ dayAt (x .number)
-  pub low : from ≤ x .number
-  pub ends : x .number + left ≡ end
-  pub same : firstFrom p left (x .number) ≡ firstFrom p (end - from) from
-
-module _ (p : ℕ → Bool) (from end : ℕ) where
-  pub walking-starts : (x : Day) → x ≡ dayAt from → from ≤ end → Walking p from end x (end - from)
-  walking-starts x e h =
-      let at = number-is x from e in
-      record { day = day-again x from e; low = omega arith; ends = omega arith; same = rw at }
-
-  module _ (x : Day) (left : ℕ) (w : Walking p from end x left) where
-    pub walking-found : 0 < left → p (x .number) ≡ true → x .number ≡ firstFrom p (end - from) from
-    walking-found h e = sym (first-here p left (x .number) h e) ∙ w .same
-
-    pub walking-goes-on : (y : Day) → y ≡ dayAt (x .number + 1) → 0 < left → p (x .number) ≡ false → Walking p from end y (left - 1)
-    walking-goes-on y f h e =
-        let at = number-is y (x .number + 1) f in
-        record {
-          day = day-again y (x .number + 1) f;
-          low = omega (arith, w .low);
-          ends = omega (arith, w .ends);
-          same = rw at (sym (first-later p left (x .number) h e) ∙ w .same);
-        }
-
-    pub walking-ends : left ≤ 0 → end ≡ firstFrom p (end - from) from
-    walking-ends h =
-        let none : left ≡ 0 = omega arith in
-        let here : firstFrom p left (x .number) ≡ x .number = rw none (first-none p (x .number)) in
-        omega (arith, w .same, w .ends)
 
 pub picks-on : (t : Terms) (fl : List Bool) (x : Day) (b : Bool) → x ≡ dayAt (x .number) → picksBy t fl x ≡ b
     → picksOnBy t fl (x .number) ≡ b

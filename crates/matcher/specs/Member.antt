@@ -1,4 +1,4 @@
--- Whether a rule gives a date-time, over its terms and its row of flags.
+-- Whether a rule has a day, its `count` apart, over its terms and its row of flags.
 use Prim.Native.Nat.{ℕ, _+_, _-_, _*_, _/_, _%_, _<_, _≤_}
 use mathlib.Core.Bool.{Bool, true, false, not, _&&_}
 use mathlib.Core.List.{List}
@@ -24,10 +24,3 @@ fallsBy excluded end t fl start x =
 
 unfoldable pub fallsOnBy : Bool → End → Terms → List Bool → ℕ → ℕ → Bool
 fallsOnBy excluded end t fl start n = fallsBy excluded end t fl start (dayAt n)
-
--- A run of n days of the profile from `first` on.
-pub record Counted (t : Terms) (row start first n : ℕ) : Type 0 where
-  pub row-length : row ≡ 1574
-  pub week : t .first < 7
-  pub low : 366 ≤ first
-  pub high : first + n < endDay

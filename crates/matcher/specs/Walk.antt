@@ -34,13 +34,6 @@ picksBy t fl x =
 unfoldable pub picksOnBy : Terms → List Bool → ℕ → Bool
 picksOnBy t fl n = picksBy t fl (dayAt n)
 
--- The first of n days from d on that passes; the day behind them where none does.
-unfoldable pub firstFrom : (ℕ → Bool) → ℕ → ℕ → ℕ
-firstFrom p zero d = d
-firstFrom p (suc n) d =
-    let later = firstFrom p n (suc d) in
-    if p d then d else later
-
 -- A rule is asked about a day of the profile: from 1601 on and not after 9998.
 pub record Asked (t : Terms) (row : ℕ) (x : Day) : Type 0 where
   pub row-length : row ≡ 1574
@@ -48,10 +41,3 @@ pub record Asked (t : Terms) (row : ℕ) (x : Day) : Type 0 where
   pub day : x ≡ dayAt (x .number)
   pub low : 366 ≤ x .number
   pub high : x .number < endDay
-
-pub record Walked (t : Terms) (row from end : ℕ) : Type 0 where
-  pub row-length : row ≡ 1574
-  pub week : t .first < 7
-  pub low : 366 ≤ from
-  pub order : from ≤ end
-  pub high : end ≤ endDay

@@ -29,7 +29,7 @@ fn is_nth(flags: &[bool], weekday: u32, before: u32, count: u32) -> bool
     is_named(flags, 84 + at, 462 + at, place, places)
 }
 
-fn on_month(flags: &[bool], x: Day) -> bool
+pub fn on_month(flags: &[bool], x: Day) -> bool
     requires { ⌜ Row (length (now flags)) × InCalendar x ⌝ }
     ensures { λ r. ⌜ r ≡ monthBy (now (flags .entry)) x ⌝ }
 {

@@ -4,7 +4,6 @@ use rule::Frequency;
 
 pub mod flags;
 pub mod marks;
-pub mod member;
 pub mod periods;
 pub mod rows;
 pub mod walk;

@@ -20,6 +20,7 @@ use Rattle.matcher.specs.declared.Terms.{Terms}
 use Rattle.matcher.specs.Walk.{picksBy, picksOnBy}
 use Rattle.matcher.specs.Member.{isFirst, fallsBy, fallsOnBy}
 use Rattle.track.specs.Last.{untilDay, endOf}
+use Rattle.track.specs.Skips.{Between}
 
 -- ---- one turn
 
@@ -46,6 +47,21 @@ end-no p (suc k) d n h some-left e =
     let less : suc k - 1 ≡ k = omega arith in
     rw (less, add-one d, ne-eqb n 0 some-left, e)
 
+-- ---- days that do not pass, at once
+
+pub end-skips : (p : ℕ → Bool) (k d n : ℕ) → (n ≡ 0 → ⊥) → (g : ℕ) → g ≤ k → ((j : ℕ) → d ≤ j → j < d + g → p j ≡ false)
+    → endOf p k d n ≡ endOf p (k - g) (d + g) n
+end-skips p k d n some-left zero h out =
+    let same : k - 0 ≡ k = omega arith in
+    let here : d + 0 ≡ d = omega arith in
+    rw (same, here)
+end-skips p k d n some-left (suc g) h out =
+    let less : k - suc g ≡ k - g - 1 = omega arith in
+    let next : d + suc g ≡ d + g + 1 = omega arith in
+    rw (less, next)
+    (end-skips p k d n some-left g (omega arith) (λ j low high. out j low (omega arith))
+    ∙ end-no p (k - g) (d + g) n (omega arith) some-left (out (d + g) (omega arith) (omega arith)))
+
 -- ---- the walk: from here on it ends where it ends from the start on
 
 pub record EndAt (p : ℕ → Bool) (first limit count d left more : ℕ) : Type 0 where
@@ -58,8 +74,10 @@ module _ (p : ℕ → Bool) (first limit count : ℕ) where
   end-starts d e h = record { low = omega arith; ends = omega arith; same = rw e }
 
   module _ (d left more : ℕ) (w : EndAt p first limit count d left more) where
-    pub end-found : more ≡ 0 → d ≡ endOf p (limit - first) first count
-    end-found none = sym (end-here p left d) ∙ (sym (ap (endOf p left d) none) ∙ w .same)
+    pub end-found : more ≡ 0 → limit - left ≡ endOf p (limit - first) first count
+    end-found none =
+        let here : limit - left ≡ d = omega (arith, w .ends) in
+        here ∙ (sym (end-here p left d) ∙ (sym (ap (endOf p left d) none) ∙ w .same))
 
     pub end-over : left ≤ 0 → limit ≡ endOf p (limit - first) first count
     end-over h =
@@ -76,13 +94,23 @@ module _ (p : ℕ → Bool) (first limit count : ℕ) where
             same = rw f (sym (end-yes p left d more h some-left e) ∙ w .same);
           }
 
-      pub end-goes-by : p d ≡ false → EndAt p first limit count next (left - 1) more
-      end-goes-by e =
+    module _ (g : ℕ) (some-left : more ≡ 0 → ⊥) (out : (j : ℕ) → d ≤ j → j < d + g → p j ≡ false) where
+      pub end-leaps : (next : ℕ) → next ≡ d + g → g < left → EndAt p first limit count next (left - g) more
+      end-leaps next f h =
           record {
             low = omega (arith, w .low);
             ends = omega (arith, w .ends);
-            same = rw f (sym (end-no p left d more h some-left e) ∙ w .same);
+            same = rw f (sym (end-skips p left d more some-left g (omega arith) out) ∙ w .same);
           }
+
+      pub end-nowhere : left ≤ g → limit ≡ endOf p (limit - first) first count
+      end-nowhere h =
+          let none : left - left ≡ 0 = omega arith in
+          let there : d + left ≡ limit = w .ends in
+          let all : endOf p left d more ≡ limit =
+          end-skips p left d more some-left left (omega arith) (λ j low high. out j low (omega arith)) ∙ rw (none, there) (end-none p limit more)
+          in
+          sym all ∙ w .same
 
 -- ---- what it says
 
@@ -178,3 +206,14 @@ pub falls-by : (excluded : Bool) (end : End) (t : Terms) (row : List Bool) (star
     ≡ fallsOnBy excluded end t row start n
 unfolding fallsOnBy fallsBy picksOnBy
 falls-by excluded end t row start n = rw (day-number n)
+
+-- the days behind a day of the event that the rule does not pick are not its own
+pub falls-between : (excluded : Bool) (end : End) (t : Terms) (row : List Bool) (start d n : ℕ) → start / 86400 ≤ d
+    → Between (picksOnBy t row) d n → Between (fallsOnBy excluded end t row start) d n
+unfolding isFirst
+falls-between excluded end t row start d n low b =
+    record { none = λ j after high. sym (falls-by excluded end t row start j) ∙ rw (b .none j after high, ne-eqb j (start / 86400) (omega arith)) (go excluded); more = b .more; few = b .few }
+  where
+    go : (x : Bool) → (if (if x then false else false) then true else false) ≡ false
+    go true = refl
+    go false = refl

@@ -2,3 +2,5 @@ pub mod StepLaws
 pub mod RunLaws
 pub mod LastLaws
 pub mod SettleLaws
+pub mod SkipLaws
+pub mod PlaceLaws

@@ -11,7 +11,9 @@ use lib.Dec.{ltb}
 use borrow.Author.Tests.{le-ltb}
 use Rattle.signed.specs.Choose.{if_then_else_}
 use Rattle.track.specs.declared.Track.{Track}
+use Rattle.matcher.specs.Walk.{picksOnBy}
 use Rattle.track.specs.Runs.{hasDay, marked, run}
+use Rattle.track.specs.Skips.{Between}
 
 -- ---- the loop that marks: what is marked, and what is left to mark, make the whole
 
@@ -77,6 +79,25 @@ module _ (p : ℕ → Bool) (value : Bool) (first : ℕ) (before : List Bool) wh
       let all : i ≡ length hits = omega (arith, m .within) in
       let none : drop i hits ≡ [] = rw all (drop-length hits) in
       sym (take-all i hits over) ∙ (sym (append-nil (take i hits)) ∙ (rw none at (m .same)))
+
+  -- days that do not pass are left as they are
+  mark-skips : (hits : List Bool) (i : ℕ) → MarkAt p value first before hits i → (g : ℕ) → i + g ≤ length hits
+      → ((d : ℕ) → first + i ≤ d → d < first + i + g → p d ≡ false) → MarkAt p value first before hits (i + g)
+  mark-skips hits i m zero h out = let same : i + 0 ≡ i = omega arith in rw same m
+  mark-skips hits i m (suc g) h out =
+      let next : i + suc g ≡ i + g + 1 = omega arith in
+      rw next
+      (mark-no hits (i + g) (mark-skips hits i m g (omega arith) (λ d low high. out d low (omega arith))) (omega arith) (out (first + (i + g)) (omega arith) (omega arith)))
+
+  pub mark-goes-by : (hits : List Bool) (i d g : ℕ) → MarkAt p value first before hits i → d ≡ first + i → i + g < length hits
+      → ((j : ℕ) → d ≤ j → j < d + g → p j ≡ false) → MarkAt p value first before hits (i + g)
+  mark-goes-by hits i d g m at h out = mark-skips hits i m g (omega arith) (λ j low high. out j (omega arith) (omega arith))
+
+  pub mark-rests : (hits : List Bool) (i d g : ℕ) → MarkAt p value first before hits i → d ≡ first + i → length hits ≤ i + g
+      → ((j : ℕ) → d ≤ j → j < d + g → p j ≡ false) → hits ≡ marked p value first before
+  mark-rests hits i d g m at over out =
+      mark-ends hits (i + (length hits - i))
+      (mark-skips hits i m (length hits - i) (omega (arith, m .within)) (λ j low high. out j (omega arith) (omega arith))) (omega (arith, m .within))
 
 -- ---- a marked run by its answers
 
@@ -156,3 +177,14 @@ run-ended t row begin value first hits h =
     go : (b : Bool) → (if b then false else false) ≡ false
     go true = refl
     go false = refl
+
+-- a rule has none of the days that it does not pick
+pub run-between : (t : Track) (row : List Bool) (begin d n : ℕ) → Between (picksOnBy (t .terms) row) d n → Between (hasDay t row begin) d n
+unfolding hasDay
+run-between t row begin d n b =
+    record { none = λ j low high. rw (b .none j low high) (go (ltb j begin) (ltb j (t .last))); more = b .more; few = b .few }
+  where
+    go : (a c : Bool) → (if a then false else if c then false else false) ≡ false
+    go true c = refl
+    go false true = refl
+    go false false = refl

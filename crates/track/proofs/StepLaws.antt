@@ -142,12 +142,20 @@ module _ (t : Terms) (row : List Bool) (x : Day) where
   pub cursor-plain : (counted : Bool) → counted ≡ isCounted t (x .number) → counted ≡ false → record { day = x; seen = 0; total = 0 } ≡ cursorOn t row x
   cursor-plain counted is no-it-is-not = plain (sym is ∙ no-it-is-not)
 
-  pub cursor-made : (counted : Bool) (since whole seen total : ℕ) → counted ≡ isCounted t (x .number) → counted ≡ true
-      → since ≡ sinceFirst (t .frequency) (t .first) x → whole ≡ daysOf (t .frequency) x
-      → seen ≡ countIn (staysOnBy row (t .inyear)) (x .number - since) since → total ≡ countIn (staysOnBy row (t .inyear)) (x .number - since) whole
+  pub cursor-made : (counted : Bool) (since whole first seen total : ℕ) → counted ≡ isCounted t (x .number) → counted ≡ true
+      → since ≡ sinceFirst (t .frequency) (t .first) x → whole ≡ daysOf (t .frequency) x → first ≡ x .number - since
+      → seen ≡ countIn (staysOnBy row (t .inyear)) first since → total ≡ countIn (staysOnBy row (t .inyear)) first whole
       → record { day = x; seen = seen; total = total } ≡ cursorOn t row x
   unfolding staying
-  cursor-made counted since whole seen total is yes-it-is a b f g = made seen total (sym is ∙ yes-it-is) (f ∙ rw a) (g ∙ rw (a, b))
+  cursor-made counted since whole first seen total is yes-it-is a b e f g = made seen total (sym is ∙ yes-it-is) (f ∙ rw (e, a)) (g ∙ rw (e, a, b))
+
+  -- the first day of its period
+  pub cursor-first : (counted : Bool) (since whole total : ℕ) → counted ≡ isCounted t (x .number) → counted ≡ true
+      → since ≡ sinceFirst (t .frequency) (t .first) x → whole ≡ daysOf (t .frequency) x → since ≡ 0
+      → total ≡ countIn (staysOnBy row (t .inyear)) (x .number) whole → record { day = x; seen = 0; total = total } ≡ cursorOn t row x
+  cursor-first counted since whole total is yes-it-is a b none g =
+      cursor-made counted since whole (x .number) 0 total is yes-it-is a b (omega arith)
+      (sym (ap (countIn (staysOnBy row (t .inyear)) (x .number)) none ∙ count-none (staysOnBy row (t .inyear)) (x .number))) g
 
   pub counted-asked : (counted : Bool) → counted ≡ isCounted t (x .number) → counted ≡ true → x ≡ dayAt (x .number) → Reached t (length row) (x .number) → Asked t (length row) x
   unfolding isCounted
@@ -278,6 +286,13 @@ at-number t row c n e = ap (λ (k : Cursor). k .day .number) e ∙ day-number n
 pub at-again : (t : Terms) (row : List Bool) (c : Cursor) (n : ℕ) → c ≡ cursorAt t row n → c ≡ cursorAt t row (c .day .number)
 at-again t row c n e = e ∙ ap (cursorAt t row) (sym (at-number t row c n e))
 
-pub at-next : (t : Terms) (row : List Bool) (c next : Cursor) (n : ℕ) → c ≡ cursorAt t row n → next ≡ cursorAt t row (c .day .number + 1)
-    → next ≡ cursorAt t row (n + 1)
-at-next t row c next n e f = f ∙ ap (λ (k : ℕ). cursorAt t row (k + 1)) (at-number t row c n e)
+pub held-here : (t : Terms) (row : List Bool) (c : Cursor) (n : ℕ) → length row ≡ 1574 → t .first < 7 → 366 ≤ n → n < endDay → c ≡ cursorAt t row n
+    → Holding t row (length row) c
+held-here t row c n size week low high e =
+    let at = at-number t row c n e in
+    record { row-length = size; week = week; low = omega arith; high = omega arith; is = at-again t row c n e }
+
+-- a leap, by the numbers of the days
+pub at-leap : (t : Terms) (row : List Bool) (c next : Cursor) (n k : ℕ) → c ≡ cursorAt t row n → next ≡ cursorAt t row (c .day .number + k)
+    → next ≡ cursorAt t row (n + k)
+at-leap t row c next n k e f = f ∙ ap (λ (d : ℕ). cursorAt t row (d + k)) (at-number t row c n e)

@@ -2,3 +2,5 @@ pub mod Steps
 pub mod Runs
 pub mod Last
 pub mod Settle
+pub mod Skips
+pub mod Places

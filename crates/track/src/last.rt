@@ -2,8 +2,10 @@
 ghost use mathlib.Core.Path.{_≡_};
 ghost use Prim.Native.Nat.{_-_, _/_, _%_, _<_, _≤_};
 ghost use lib.ListN.{length};
+ghost use Rattle.rule.specs.Lists.{notAfter};
 ghost use Rattle.rule.specs.Gives.{endDay};
-ghost use Rattle.matcher.specs.Member.{fallsOnBy};
+ghost use Rattle.rule.specs.Read.{untilFrom};
+ghost use Rattle.matcher.specs.Member.{isFirst, fallsOnBy};
 ghost use Rattle.track.specs.Last.{untilDay, endOf, lastBy, Ending};
 ghost use Rattle.track.specs.Steps.{Holding};
 use super::Cursor;
@@ -24,6 +26,26 @@ fn until_day(start: u64, until: u64) -> u32
     day as u32 + 1
 }
 
+// The start's own day, which a rule has even unmatched and an excluded rule has not.
+fn is_first(excluded: bool, first: u32, day: u32) -> bool
+    ensures { λ r. ⌜ r ≡ isFirst excluded first day ⌝ }
+{
+    if excluded {
+        return false;
+    }
+    day == first
+}
+
+fn not_after(end: End, at: u64) -> bool
+    ensures { λ r. ⌜ r ≡ notAfter at (untilFrom end) ⌝ }
+{
+    match end {
+        End::Never => true,
+        End::Until(last) => at <= last,
+        End::Count(_) => true,
+    }
+}
+
 // Whether the rule has a day, its `count` apart.
 fn falls(excluded: bool, end: End, terms: Terms, flags: &[bool], start: u64, c: Cursor) -> bool
     requires { ⌜ Holding terms (now flags) (length (now flags)) c × (start / 86400 < endDay) ⌝ }
@@ -32,13 +54,13 @@ fn falls(excluded: bool, end: End, terms: Terms, flags: &[bool], start: u64, c: 
     let x = c.day;
     let day = x.number;
     let first = (start / 86400) as u32;
-    if matcher::member::is_first(excluded, first, day) {
+    if is_first(excluded, first, day) {
         return true;
     }
     if !super::steps::picks(terms, flags, c) {
         return false;
     }
-    matcher::member::not_after(end, 86400 * day as u64 + start % 86400)
+    not_after(end, 86400 * day as u64 + start % 86400)
 }
 
 // The day that has `count` of the rule's days before it, or the limit.
@@ -58,19 +80,25 @@ fn count_day(
     if limit <= first {
         return first;
     }
+    let unplaced = super::places::is_unplaced(terms, flags);
     let mut c = super::steps::cursor_at(terms, flags, first);
     let mut left = limit - first;
     let mut more = count;
     while 0 < left {
         if more == 0 {
-            let x = c.day;
-            return x.number;
+            return limit - left;
         }
-        left -= 1;
-        let here = c;
-        c = super::steps::advance(terms, flags, here);
-        if falls(excluded, end, terms, flags, start, here) {
+        if falls(excluded, end, terms, flags, start, c) {
             more -= 1;
+            left -= 1;
+            c = super::steps::advance(terms, flags, c);
+        } else {
+            let gap = super::skips::gap(terms, flags, unplaced, c.day);
+            if left <= gap {
+                return limit;
+            }
+            left -= gap;
+            c = super::leaps::leap(terms, flags, c, gap);
         }
     }
     limit

@@ -3,8 +3,11 @@ use matcher::Terms;
 use rule::Day;
 
 pub mod last;
+pub mod leaps;
+pub mod places;
 pub mod runs;
 pub mod settle;
+pub mod skips;
 pub mod steps;
 
 // A rule that is settled for one call: what it has besides its row of flags, and the first day that is not its own any more, which its

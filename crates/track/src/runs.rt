@@ -40,15 +40,22 @@ pub fn mark_run(
         return;
     }
     let terms = track.terms;
+    let unplaced = super::places::is_unplaced(terms, flags);
     let mut c = super::steps::cursor_at(terms, flags, first);
     let mut i = 0;
     while i < hits.len() {
-        let here = i;
         let held = c;
-        i += 1;
-        c = super::steps::advance(terms, flags, held);
         if has_day(track, flags, begin, held) {
-            hits[here] = value;
+            hits[i] = value;
+            i += 1;
+            c = super::steps::advance(terms, flags, held);
+        } else {
+            let gap = super::skips::gap(terms, flags, unplaced, held.day);
+            if hits.len() <= i + gap as usize {
+                return;
+            }
+            i += gap as usize;
+            c = super::leaps::leap(terms, flags, held, gap);
         }
     }
 }

@@ -20,7 +20,7 @@ fn is_counted(terms: Terms, n: u32) -> bool
 }
 
 // The period of a day counted as a whole.
-fn cursor_on(terms: Terms, flags: &[bool], x: Day) -> Cursor
+pub fn cursor_on(terms: Terms, flags: &[bool], x: Day) -> Cursor
     requires { ⌜ (x ≡ dayAt (x .number)) × Reached terms (length (now flags)) (x .number) ⌝ }
     ensures { λ r. ⌜ r ≡ cursorOn terms (now (flags .entry)) x ⌝ }
 {
@@ -34,7 +34,15 @@ fn cursor_on(terms: Terms, flags: &[bool], x: Day) -> Cursor
     let frequency = terms.frequency;
     let before = matcher::periods::since_first(frequency, terms.first, x);
     let all = matcher::periods::days_of(frequency, x);
-    let first = x.number - before;
+    if before == 0 {
+        let total = matcher::walk::count_in(flags, terms.inyear, x, all);
+        return Cursor {
+            day: x,
+            seen: 0,
+            total,
+        };
+    }
+    let first = rule::days::day_of(x.number - before);
     let seen = matcher::walk::count_in(flags, terms.inyear, first, before);
     let total = matcher::walk::count_in(flags, terms.inyear, first, all);
     Cursor {

@@ -11,9 +11,8 @@ use borrow.Author.Tests.{ltb-true, ltb-false, leb-true, leb-false, eqb-true, eqb
 use Rattle.signed.specs.Choose.{if_then_else_}
 use Rattle.rule.specs.Gives.{endDay}
 use Rattle.rule.proofs.Bools.{by}
-use Rattle.matcher.specs.Walk.{firstFrom}
-use Rattle.matcher.proofs.FirstLaws.{First, first-is, first-none, first-here, first-later}
-use Rattle.window.specs.Next.{nextOf, isHit, dayFrom, Stretch}
+use Rattle.window.proofs.FirstLaws.{First, first-is, first-none, first-here, first-later}
+use Rattle.window.specs.Next.{firstFrom, nextOf, isHit, dayFrom, Stretch}
 use Rattle.window.proofs.NextLaws.{Next, next-made}
 
 abbrev pub atHit : List Bool → ℕ → Bool

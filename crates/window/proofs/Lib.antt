@@ -1,3 +1,4 @@
+pub mod FirstLaws
 pub mod NextLaws
 pub mod OverrideLaws
 pub mod HitLaws

@@ -9,9 +9,8 @@ use Rattle.signed.specs.Choose.{if_then_else_}
 use Rattle.rule.specs.Lists.{countIn}
 use Rattle.rule.proofs.Bools.{by, or-left, or-right}
 use Rattle.rule.proofs.Counting.{count-more, count-less, count-none, count-split}
-use Rattle.matcher.specs.Walk.{firstFrom}
-use Rattle.matcher.proofs.FirstLaws.{First, first-is, first-same}
-use Rattle.window.specs.Next.{nextOf, lower}
+use Rattle.window.proofs.FirstLaws.{First, first-is, first-same}
+use Rattle.window.specs.Next.{firstFrom, nextOf, lower}
 
 pub record Next (p : ℕ → Bool) (a to r : ℕ) : Type 0 where
   pub low : a ≤ r

@@ -7,8 +7,14 @@ use lib.Dec.{eqb, leb, ltb}
 use lib.ListN.{length, getD}
 use Rattle.signed.specs.Choose.{if_then_else_}
 use Rattle.rule.specs.Gives.{endDay}
-use Rattle.matcher.specs.Walk.{firstFrom}
 use Rattle.dates.specs.Overrides.{isNamed, isKept}
+
+-- The first of n days from d on that passes; the day behind them where none does.
+unfoldable pub firstFrom : (ℕ → Bool) → ℕ → ℕ → ℕ
+firstFrom p zero d = d
+firstFrom p (suc n) d =
+    let later = firstFrom p n (suc d) in
+    if p d then d else later
 
 -- The first second from a on, and before `to`, that passes; `to` where none does.
 unfoldable pub nextOf : (ℕ → Bool) → ℕ → ℕ → ℕ

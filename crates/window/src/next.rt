@@ -3,9 +3,8 @@ ghost use mathlib.Core.Bool.{true, false};
 ghost use mathlib.Core.Path.{_≡_};
 ghost use Prim.Native.Nat.{_+_, _-_, _≤_};
 ghost use lib.ListN.{length, getD};
-ghost use Rattle.matcher.specs.Walk.{firstFrom};
 ghost use Rattle.dates.specs.Overrides.{isNamed, isKept};
-ghost use Rattle.window.specs.Next.{nextOf, isHit, dayFrom, nearer, leastOf, lower, renewed, Stretch};
+ghost use Rattle.window.specs.Next.{firstFrom, nextOf, isHit, dayFrom, nearer, leastOf, lower, renewed, Stretch};
 
 // Whether an override names x: any, or one that is excluded.
 pub fn is_named(only: bool, ids: &[u64], gone: &[bool], x: u64) -> bool

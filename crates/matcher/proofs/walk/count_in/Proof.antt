@@ -10,16 +10,13 @@ use Rattle.matcher.proofs.walk.count_in.Statement.{statement}
 use Rattle.matcher.proofs.walk.count_in.Tie as tie
 
 abbrev Inv-loop : tie.InvT-loop
-Inv-loop flags inyear first n x₀ left₀ found₀ x left found = Counting (staysOnBy flags inyear) first n x left found
+Inv-loop flags inyear n x₀ left₀ found₀ x left found = Counting (staysOnBy flags inyear) (x₀ .number) n x left found
 
 abbrev μ-loop : tie.MeasureT-loop
-μ-loop flags inyear first n x₀ left₀ found₀ x left found = left
-
-day-of-requires : tie.Need-day-of-requires Inv-loop μ-loop
-day-of-requires c κs = search needs
+μ-loop flags inyear n x₀ left₀ found₀ x left found = left
 
 loop-holds : tie.Need-loop-holds Inv-loop μ-loop
-loop-holds c = counting-starts _ _ _ _ (c .day-of .ensures) (c .before .before .pre .1)
+loop-holds c = counting-starts _ _ _ _ (c .before .pre .1 .0) (c .before .pre .1 .1)
 
 sub-left : tie.Need-sub-left Inv-loop μ-loop
 sub-left c = search needs
@@ -32,12 +29,12 @@ next-day-requires c κs =
 stays-requires : tie.Need-stays-requires Inv-loop μ-loop
 stays-requires c κs =
     let i = c .before .before .loop .inv in
-    (c .before .before .before .before .before .pre .0, in-calendar _ _ (i .day) (omega (arith, i .fits)))
+    (c .before .before .before .before .pre .0, in-calendar _ _ (i .day) (omega (arith, i .fits)))
 
 add-found : tie.Need-add-found Inv-loop μ-loop
 add-found c =
     let i = c .before .before .before .before .loop .inv in
-    omega (arith, i .few, c .before .before .before .loop-test .taken, c .before .before .before .before .before .before .before .fits .n)
+    omega (arith, i .few, c .before .before .before .loop-test .taken, c .before .before .before .before .before .before .fits .n)
 
 loop-less : tie.Need-loop-less Inv-loop μ-loop
 loop-less c = search needs
@@ -66,7 +63,6 @@ count-in-spec =
     (tie.spec
     Inv-loop
     μ-loop
-    day-of-requires
     loop-holds
     sub-left
     next-day-requires

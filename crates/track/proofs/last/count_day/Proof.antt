@@ -1,22 +1,21 @@
 -- `track::last::count_day` meets its contract. The invariant: from here on the walk ends where it ends from the start on.
-use Rattle.track.proofs.LastLaws.{EndAt, end-none, end-starts, end-found, end-over, end-goes-on, end-goes-by}
-use Rattle.track.proofs.StepLaws.{at-number, at-again}
+use Rattle.track.proofs.LastLaws.{EndAt, end-none, end-starts, end-found, end-over, end-goes-on, end-leaps, end-nowhere, falls-between}
+use Rattle.track.proofs.StepLaws.{at-number, at-again, held-asked, held-here}
+use Rattle.track.proofs.SkipLaws.{between-all}
 use Rattle.track.specs.Steps.{cursorAt}
-use Rattle.track.specs.Last.{endOf}
 use Rattle.matcher.specs.Member.{fallsOnBy}
-use Prim.Native.Nat.{_/_, _-_, _≤_}
-use borrow.Author.Tests.{not-true, not-false}
+use Prim.Native.Nat.{_/_, _-_}
 use native.Mathlib.Omega.{arith}
-use mathlib.Core.Path.{_≡_, refl, sym, ap, _∙_}
+use mathlib.Core.Path.{_≡_, sym, _∙_}
 use borrow.Author.Needs.{needs}
 use Rattle.track.proofs.last.count_day.Statement.{statement}
 use Rattle.track.proofs.last.count_day.Tie as tie
 
 abbrev Inv-loop : tie.InvT-loop
-Inv-loop excluded end terms flags start limit count first c₀ left₀ more₀ c left more = (c ≡ cursorAt terms flags (c .day .number)) × EndAt (fallsOnBy excluded end terms flags start) (start / 86400) limit count (c .day .number) left more
+Inv-loop excluded end terms flags start limit count first unplaced c₀ left₀ more₀ c left more = (c ≡ cursorAt terms flags (c .day .number)) × EndAt (fallsOnBy excluded end terms flags start) (start / 86400) limit count (c .day .number) left more
 
 abbrev μ-loop : tie.MeasureT-loop
-μ-loop excluded end terms flags start limit count first c₀ left₀ more₀ c left more = left
+μ-loop excluded end terms flags start limit count first unplaced c₀ left₀ more₀ c left more = left
 
 cast-first : tie.Need-cast-first Inv-loop μ-loop
 cast-first c = search needs
@@ -26,9 +25,12 @@ returns c =
     let none : c .before .before .args .limit - c .before .before .args .start / 86400 ≡ 0 = omega (arith, c .if1 .taken) in
     sym (rw none (end-none _ _ _))
 
+is-unplaced-requires : tie.Need-is-unplaced-requires Inv-loop μ-loop
+is-unplaced-requires c κs = c .before .before .pre .row-length
+
 cursor-at-requires : tie.Need-cursor-at-requires Inv-loop μ-loop
 cursor-at-requires c κs =
-    let a = c .before .before .pre in
+    let a = c .before .before .before .pre in
     record { row-length = a .row-length; week = a .week; low = a .low; high = omega (arith, a .high) }
 
 sub-left : tie.Need-sub-left Inv-loop μ-loop
@@ -36,43 +38,35 @@ sub-left c = search needs
 
 loop-holds : tie.Need-loop-holds Inv-loop μ-loop
 loop-holds c =
-    (at-again _ _ _ _ (c .cursor-at .ensures), end-starts _ _ _ _ _ (at-number _ _ _ _ (c .cursor-at .ensures)) (c .before .if1 .left))
+    (at-again _ _ _ _ (c .cursor-at .ensures), end-starts _ _ _ _ _ (at-number _ _ _ _ (c .cursor-at .ensures)) (c .before .before .if1 .left))
+
+sub-result : tie.Need-sub-result Inv-loop μ-loop
+sub-result c = omega (arith, c .before .before .loop .inv .1 .ends)
 
 returns-2 : tie.Need-returns-2 Inv-loop μ-loop
 returns-2 c =
-    end-found _ _ _ _ _ _ _ (c .before .before .before .loop .inv .1) (c .before .if2 .taken)
+    let w = c .before .before .loop .inv .1 in
+    end-found _ _ _ _ _ _ _ w (c .if2 .taken)
+
+falls-requires : tie.Need-falls-requires Inv-loop μ-loop
+falls-requires c κs =
+    let w = c .before .before .loop .inv in
+    let a = c .before .before .before .before .before .before .before .pre in
+    let held = held-here _ _ _ _ (a .row-length) (a .week) (omega (arith, w .1 .low, a .low)) (omega (arith, w .1 .ends, a .within, c .before .loop-test .taken)) (w .0) in
+    (held, a .high)
+
+sub-more : tie.Need-sub-more Inv-loop μ-loop
+sub-more c = search needs
 
 sub-left-2 : tie.Need-sub-left-2 Inv-loop μ-loop
 sub-left-2 c = search needs
 
 advance-requires : tie.Need-advance-requires Inv-loop μ-loop
 advance-requires c κs =
-    let w = c .before .before .loop .inv in
-    let a = c .before .before .before .before .before .before .pre in
-    record {
-      row-length = a .row-length;
-      week = a .week;
-      low = omega (arith, w .1 .low, a .low);
-      high = omega (arith, w .1 .ends, a .within, c .before .loop-test .taken);
-      is = w .0;
-    }
-
-falls-requires : tie.Need-falls-requires Inv-loop μ-loop
-falls-requires c κs =
-    let w = c .before .before .before .loop .inv in
-    let a = c .before .before .before .before .before .before .before .pre in (
-      record {
-        row-length = a .row-length;
-        week = a .week;
-        low = omega (arith, w .1 .low, a .low);
-        high = omega (arith, w .1 .ends, a .within, c .before .before .loop-test .taken);
-        is = w .0;
-      },
-      a .high,
-    )
-
-sub-more : tie.Need-sub-more Inv-loop μ-loop
-sub-more c = search needs
+    let w = c .before .before .before .before .loop .inv in
+    let a = c .before .before .before .before .before .before .before .before .before .pre in
+    let held = held-here _ _ _ _ (a .row-length) (a .week) (omega (arith, w .1 .low, a .low)) (omega (arith, w .1 .ends, a .within, c .before .before .before .loop-test .taken)) (w .0) in
+    held
 
 loop-less : tie.Need-loop-less Inv-loop μ-loop
 loop-less c = search needs
@@ -80,21 +74,46 @@ loop-less c = search needs
 loop-again : tie.Need-loop-again Inv-loop μ-loop
 loop-again c =
     let w = c .before .before .before .before .before .loop .inv in
-    let e = c .before .before .advance .ensures in
-    (at-again _ _ _ _ e, end-goes-on _ _ _ _ _ _ _ (w .1) _ (at-number _ _ _ _ e) (c .before .before .before .before .loop-test .taken) (c .before .before .before .if2 .left) (sym (c .before .falls .ensures) ∙ c .if3 .taken))
+    let e = c .advance .ensures in
+    (at-again _ _ _ _ e, end-goes-on _ _ _ _ _ _ _ (w .1) _ (at-number _ _ _ _ e) (c .before .before .before .before .loop-test .taken) (c .before .before .before .if2 .left) (sym (c .before .before .falls .ensures) ∙ c .before .if3 .taken))
 
-loop-less-2 : tie.Need-loop-less-2 Inv-loop μ-loop
-loop-less-2 c = search needs
-
-loop-again-2 : tie.Need-loop-again-2 Inv-loop μ-loop
-loop-again-2 c =
-    let w = c .before .before .before .before .before .loop .inv in
-    let e = c .before .before .advance .ensures in
-    (at-again _ _ _ _ e, end-goes-by _ _ _ _ _ _ _ (w .1) _ (at-number _ _ _ _ e) (c .before .before .before .before .loop-test .taken) (c .before .before .before .if2 .left) (sym (c .before .falls .ensures) ∙ c .if3 .left))
+gap-requires : tie.Need-gap-requires Inv-loop μ-loop
+gap-requires c κs =
+    let w = c .before .before .before .before .loop .inv in
+    let a = c .before .before .before .before .before .before .before .before .before .pre in
+    let held = held-here _ _ _ _ (a .row-length) (a .week) (omega (arith, w .1 .low, a .low)) (omega (arith, w .1 .ends, a .within, c .before .before .before .loop-test .taken)) (w .0) in
+    (held-asked _ _ _ held, c .before .before .before .before .before .before .is-unplaced .ensures)
 
 returns-3 : tie.Need-returns-3 Inv-loop μ-loop
 returns-3 c =
-    end-over _ _ _ _ _ _ _ (c .before .loop .inv .1) (c .loop-test .left)
+    let w = c .before .before .before .before .before .before .loop .inv in
+    end-nowhere _ _ _ _ _ _ _ (w .1) _ (c .before .before .before .before .if2 .left)
+    (between-all _ _ _ (falls-between _ _ _ _ _ _ _ (w .1 .low) (c .before .gap .ensures)) (sym (c .before .before .before .falls .ensures) ∙ c .before .before .if3 .left)) (c .if4 .taken)
+
+sub-left-3 : tie.Need-sub-left-3 Inv-loop μ-loop
+sub-left-3 c = search needs
+
+leap-requires : tie.Need-leap-requires Inv-loop μ-loop
+leap-requires c κs =
+    let w = c .before .before .before .before .before .before .loop .inv in
+    let a = c .before .before .before .before .before .before .before .before .before .before .before .pre in
+    let held = held-here _ _ _ _ (a .row-length) (a .week) (omega (arith, w .1 .low, a .low)) (omega (arith, w .1 .ends, a .within, c .before .before .before .before .before .loop-test .taken)) (w .0) in
+    (held, (c .before .gap .ensures .more, omega (arith, w .1 .ends, a .within, c .if4 .left)))
+
+loop-less-2 : tie.Need-loop-less-2 Inv-loop μ-loop
+loop-less-2 c = omega (arith, c .before .before .gap .ensures .more, c .before .if4 .left)
+
+loop-again-2 : tie.Need-loop-again-2 Inv-loop μ-loop
+loop-again-2 c =
+    let w = c .before .before .before .before .before .before .before .loop .inv in
+    let e = c .leap .ensures in (
+      at-again _ _ _ _ e,
+      end-leaps _ _ _ _ _ _ _ (w .1) _ (c .before .before .before .before .before .if2 .left)
+          (between-all _ _ _ (falls-between _ _ _ _ _ _ _ (w .1 .low) (c .before .before .gap .ensures)) (sym (c .before .before .before .before .falls .ensures) ∙ c .before .before .before .if3 .left)) _ (at-number _ _ _ _ e) (c .before .if4 .left),
+    )
+
+returns-4 : tie.Need-returns-4 Inv-loop μ-loop
+returns-4 c = end-over _ _ _ _ _ _ _ (c .before .loop .inv .1) (c .loop-test .left)
 
 pub count-day-spec : {M : Type 1} → statement M
 count-day-spec =
@@ -104,16 +123,22 @@ count-day-spec =
     μ-loop
     cast-first
     returns
+    is-unplaced-requires
     cursor-at-requires
     sub-left
     loop-holds
+    sub-result
     returns-2
-    sub-left-2
-    advance-requires
     falls-requires
     sub-more
+    sub-left-2
+    advance-requires
     loop-less
     loop-again
+    gap-requires
+    returns-3
+    sub-left-3
+    leap-requires
     loop-less-2
     loop-again-2
-    returns-3)
+    returns-4)

@@ -1,0 +1,54 @@
+// From a day to one some days later.
+ghost use mathlib.Core.Path.{_≡_};
+ghost use Prim.Native.Nat.{_+_, _<_, _≤_};
+ghost use lib.ListN.{length};
+ghost use Rattle.gregorian.specs.Days.{dayCount};
+ghost use Rattle.rule.specs.Day.{dayAt};
+ghost use Rattle.rule.specs.Gives.{endDay};
+ghost use Rattle.track.specs.Steps.{Holding, cursorAt};
+use super::Cursor;
+use matcher::Terms;
+use rule::Day;
+
+// k days later in the same month.
+pub fn in_month(x: Day, k: u32) -> Day
+    requires { ⌜ (x ≡ dayAt (x .number)) × ((x .number + k < dayCount) × (x .monthday + k ≤ x .monthdays)) ⌝ }
+    ensures { λ r. ⌜ r ≡ dayAt (x .number + k) ⌝ }
+{
+    Day {
+        number: x.number + k,
+        weekday: (x.weekday + k) % 7,
+        year: x.year,
+        yearday: x.yearday + k,
+        yeardays: x.yeardays,
+        month: x.month,
+        monthday: x.monthday + k,
+        monthdays: x.monthdays,
+    }
+}
+
+// Most leaps end behind their month: then nothing is looked up.
+fn days_later(x: Day, k: u32) -> Day
+    requires { ⌜ (x ≡ dayAt (x .number)) × ((1 ≤ k) × (x .number + k < dayCount)) ⌝ }
+    ensures { λ r. ⌜ r ≡ dayAt (x .number + k) ⌝ }
+{
+    let near = k - 1;
+    if x.monthdays < x.monthday + near {
+        return rule::days::day_of(x.number + k);
+    }
+    let last = in_month(x, near);
+    rule::days::next_day(last)
+}
+
+// The cursor k days later.
+pub fn leap(terms: Terms, flags: &[bool], c: Cursor, k: u32) -> Cursor
+    requires { ⌜ Holding terms (now flags) (length (now flags)) c × ((1 ≤ k) × (c .day .number + k ≤ endDay)) ⌝ }
+    ensures { λ r. ⌜ r ≡ cursorAt terms (now (flags .entry)) (c .day .number + k) ⌝ }
+{
+    if k == 1 {
+        return super::steps::advance(terms, flags, c);
+    }
+    let day = c.day;
+    let x = days_later(day, k);
+    super::steps::cursor_on(terms, flags, x)
+}

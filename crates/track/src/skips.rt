@@ -1,0 +1,144 @@
+// Days that surely are none of a rule's: passed at once, since a rule may have none for centuries.
+ghost use mathlib.Core.Bool.{true};
+ghost use mathlib.Core.Path.{_≡_};
+ghost use Prim.Native.Nat.{_<_, _≤_};
+ghost use lib.ListN.{length};
+ghost use Rattle.rule.specs.Day.{dayAt};
+ghost use Rattle.rule.specs.Gives.{endDay};
+ghost use Rattle.matcher.specs.Walk.{Asked, picksOnBy};
+ghost use Rattle.track.specs.Skips.{Without, Between, stepAt, stepOn, monthOn, toMonthEnd, daysAhead, isCarried};
+ghost use Rattle.track.specs.Places.{Unplaced};
+use matcher::Terms;
+use rule::Day;
+use rule::Frequency;
+
+// Periods from this one on that are out of step.
+fn periods_out(terms: Terms, period: u32) -> u32
+    ensures { λ r. ⌜ Without (stepAt terms) period r × (r ≤ endDay) ⌝ }
+{
+    let interval = terms.interval;
+    if interval <= 1 {
+        return 0;
+    }
+    let start = terms.period;
+    if period <= start {
+        return 0;
+    }
+    let over = (period - start) as u64 % interval;
+    if over == 0 {
+        return 0;
+    }
+    let left = interval - over;
+    if 3067672 <= left {
+        return 3067672;
+    }
+    left as u32
+}
+
+fn to_month_end(x: Day) -> u32
+    requires { ⌜ (x ≡ dayAt (x .number)) × (x .number < endDay) ⌝ }
+    ensures { λ r. ⌜ r ≡ toMonthEnd x ⌝ }
+{
+    x.monthdays + 1 - x.monthday
+}
+
+fn days_ahead(frequency: Frequency, first: u32, n: u32, x: Day) -> u32
+    requires { ⌜ ((first < 7) × ((1 ≤ n) × (n ≤ endDay))) × ((x ≡ dayAt (x .number)) × (x .number < endDay)) ⌝ }
+    ensures { λ r. ⌜ r ≡ daysAhead frequency first n x ⌝ }
+{
+    match frequency {
+        Frequency::Daily => n,
+        Frequency::Weekly => 7 * n - (x.number + 12 - first) % 7,
+        Frequency::Monthly => to_month_end(x),
+        Frequency::Yearly => to_month_end(x),
+    }
+}
+
+// Days from this one on that are out of step.
+fn days_out(terms: Terms, x: Day) -> u32
+    requires { ⌜ Asked terms 1574 x ⌝ }
+    ensures { λ r. ⌜ Without (stepOn terms) (x .number) r ⌝ }
+{
+    let frequency = terms.frequency;
+    let period = matcher::periods::period_of(frequency, terms.first, x);
+    let n = periods_out(terms, period);
+    if n == 0 {
+        return 0;
+    }
+    days_ahead(frequency, terms.first, n, x)
+}
+
+// Days from this one on of a month that the rule has not.
+fn month_out(flags: &[bool], x: Day) -> u32
+    requires { ⌜ (length (now flags) ≡ 1574) × ((x ≡ dayAt (x .number)) × (x .number < endDay)) ⌝ }
+    ensures { λ r. ⌜ Without (monthOn (now (flags .entry))) (x .number) r ⌝ }
+{
+    if matcher::flags::on_month(flags, x) {
+        return 0;
+    }
+    to_month_end(x)
+}
+
+// The positions of a year are counted once, where it begins: no part of it is passed.
+fn is_carried(frequency: Frequency, placed: bool) -> bool
+    ensures { λ r. ⌜ r ≡ isCarried frequency placed ⌝ }
+{
+    match frequency {
+        Frequency::Daily => false,
+        Frequency::Weekly => false,
+        Frequency::Monthly => false,
+        Frequency::Yearly => placed,
+    }
+}
+
+// Days from this one on that surely are none of the rule's: 0 where nothing is known.
+fn skip(terms: Terms, flags: &[bool], x: Day) -> u32
+    requires { ⌜ Asked terms (length (now flags)) x ⌝ }
+    ensures { λ r. ⌜ Without (picksOnBy terms (now (flags .entry))) (x .number) r ⌝ }
+{
+    let frequency = terms.frequency;
+    if is_carried(frequency, terms.placed) {
+        return 0;
+    }
+    let out = days_out(terms, x);
+    if 0 < out {
+        return out;
+    }
+    month_out(flags, x)
+}
+
+// Days to the next one of the month that stays, or to the month that follows.
+fn to_next(terms: Terms, flags: &[bool], x: Day) -> u32
+    requires { ⌜ Asked terms (length (now flags)) x ⌝ }
+    ensures { λ r. ⌜ Between (picksOnBy terms (now (flags .entry))) (x .number) r ⌝ }
+{
+    let end = to_month_end(x);
+    let mut k = 1;
+    while k < end {
+        let y = super::leaps::in_month(x, k);
+        if matcher::flags::stays(flags, terms.inyear, y) {
+            return k;
+        }
+        k += 1;
+    }
+    k
+}
+
+// Days to go on by from a day that is none of the rule's: those between are not either.
+pub fn gap(terms: Terms, flags: &[bool], unplaced: bool, x: Day) -> u32
+    requires { ⌜ Asked terms (length (now flags)) x × (unplaced ≡ true → Unplaced terms (now flags)) ⌝ }
+    ensures { λ r. ⌜ Between (picksOnBy terms (now (flags .entry))) (x .number) r ⌝ }
+{
+    if unplaced {
+        return 3067672 - x.number;
+    }
+    let n = skip(terms, flags, x);
+    if 0 < n {
+        return n;
+    }
+    let placed = terms.placed;
+    if placed {
+        return 1;
+    }
+    to_next(terms, flags, x)
+}
