@@ -1,11 +1,11 @@
 -- Laws of a table of ends: what it says, and the setting of an entry.
-use Prim.Native.Nat.{ℕ, _+_, _*_, _/_, _%_, _≤_, _<_}
+use Prim.Native.Nat.{ℕ, zero, suc, _+_, _*_, _/_, _%_, _≤_, _<_}
 use mathlib.Core.Bool.{Bool, true, false}
 use mathlib.Core.List.{List}
 use mathlib.Core.Path.{_≡_, refl, sym, ap, _∙_}
 use native.Mathlib.Omega.{arith}
 use native.Mathlib.Decide.{decLt}
-use lib.ListN.{length, getD, set}
+use lib.ListN.{length, getD, set, replicate}
 use lib.Seq.{getD-set-same, getD-set-other}
 use lib.Dec.{eqb}
 use borrow.Author.Tests.{eqb-true, eqb-false}
@@ -45,3 +45,16 @@ ends-keep s t j l e p q v h = ends-set s t j (e * 32 + l) p h (λ r. rw (rest, w
 
     whole : (e * 32 + l) / 32 ≡ e
     whole = omega arith
+
+-- A table of zeros says nothing.
+abbrev none : ℕ
+none = 0
+
+zeros : (n i : ℕ) → getD (replicate n none) i none ≡ none
+zeros zero i = refl
+zeros (suc n) zero = refl
+zeros (suc n) (suc i) = zeros n i
+
+pub ends-none : (s : List ℕ) (n : ℕ) → Ends s (replicate n 0)
+unfolding Ends
+ends-none s n i h = let z : getD (replicate n none) i none ≡ none = zeros n i in absurd (omega arith)

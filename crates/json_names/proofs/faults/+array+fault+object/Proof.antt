@@ -23,45 +23,45 @@ use Rattle.json_names.proofs.faults.object.Kinds as object-kinds
 use Rattle.json_names.proofs.faults.+array+fault+object.Lts-object as object-lts
 use Rattle.json_names.proofs.duplicates.bad_names.Reads as bad-names-reads
 use Rattle.json_text.proofs.bytes.byte.Reads as byte-reads
-use Rattle.json_walk.proofs.arrays.first_element.Reads as first-element-reads
-use Rattle.json_walk.proofs.arrays.next_element.Reads as next-element-reads
-use Rattle.json_walk.proofs.objects.first_member.Reads as first-member-reads
-use Rattle.json_walk.proofs.objects.next_member.Reads as next-member-reads
+use Rattle.json_ends.proofs.arrays.first_element.Reads as first-element-reads
+use Rattle.json_ends.proofs.arrays.next_element.Reads as next-element-reads
+use Rattle.json_ends.proofs.objects.first_member.Reads as first-member-reads
+use Rattle.json_ends.proofs.objects.next_member.Reads as next-member-reads
 use Rattle.json_names.proofs.faults.+array+fault+object.{statement}
 use Rattle.json_names.proofs.faults.+array+fault+object.Tie.{close}
 
-abbrev μ-array : Measures 1 array-kinds.ps ℕ
-μ-array κs a = 2 * a .1 .1 .0 + 1
+abbrev μ-array : Measures 2 array-kinds.ps ℕ
+μ-array κs a = 2 * a .1 .1 .1 .0 + 1
 
-abbrev μ-fault : Measures 1 fault-kinds.ps ℕ
-μ-fault κs a = 2 * a .1 .1 .0
+abbrev μ-fault : Measures 2 fault-kinds.ps ℕ
+μ-fault κs a = 2 * a .1 .1 .1 .0
 
-abbrev μ-object : Measures 1 object-kinds.ps ℕ
-μ-object κs a = 2 * a .1 .1 .0 + 1
+abbrev μ-object : Measures 2 object-kinds.ps ℕ
+μ-object κs a = 2 * a .1 .1 .1 .0 + 1
 
-abbrev array-at : ℕ → In 1 array-kinds.ps
-array-at t = and 1 array-kinds.ps (is 1 array-kinds.ps μ-array t) array.Pre
+abbrev array-at : ℕ → In 2 array-kinds.ps
+array-at t = and 2 array-kinds.ps (is 2 array-kinds.ps μ-array t) array.Pre
 
-abbrev array-below : ℕ → In 1 array-kinds.ps
-array-below t = and 1 array-kinds.ps (falls 1 array-kinds.ps _<_ μ-array t) array.Pre
+abbrev array-below : ℕ → In 2 array-kinds.ps
+array-below t = and 2 array-kinds.ps (falls 2 array-kinds.ps _<_ μ-array t) array.Pre
 
-abbrev fault-at : ℕ → In 1 fault-kinds.ps
-fault-at t = and 1 fault-kinds.ps (is 1 fault-kinds.ps μ-fault t) fault.Pre
+abbrev fault-at : ℕ → In 2 fault-kinds.ps
+fault-at t = and 2 fault-kinds.ps (is 2 fault-kinds.ps μ-fault t) fault.Pre
 
-abbrev fault-below : ℕ → In 1 fault-kinds.ps
-fault-below t = and 1 fault-kinds.ps (falls 1 fault-kinds.ps _<_ μ-fault t) fault.Pre
+abbrev fault-below : ℕ → In 2 fault-kinds.ps
+fault-below t = and 2 fault-kinds.ps (falls 2 fault-kinds.ps _<_ μ-fault t) fault.Pre
 
-abbrev object-at : ℕ → In 1 object-kinds.ps
-object-at t = and 1 object-kinds.ps (is 1 object-kinds.ps μ-object t) object.Pre
+abbrev object-at : ℕ → In 2 object-kinds.ps
+object-at t = and 2 object-kinds.ps (is 2 object-kinds.ps μ-object t) object.Pre
 
-abbrev object-below : ℕ → In 1 object-kinds.ps
-object-below t = and 1 object-kinds.ps (falls 1 object-kinds.ps _<_ μ-object t) object.Pre
+abbrev object-below : ℕ → In 2 object-kinds.ps
+object-below t = and 2 object-kinds.ps (falls 2 object-kinds.ps _<_ μ-object t) object.Pre
 
 abbrev array-Inv-loop : array-lts.InvT-loop
-array-Inv-loop text at left step₀ n₀ step n = anyElement (λ v. faultAt left text v) (elementsFrom n text step) ≡ anyElement (λ v. faultAt left text v) (elementsOf text at)
+array-Inv-loop text ends at left step₀ n₀ step n = anyElement (λ v. faultAt left text v) (elementsFrom n text step) ≡ anyElement (λ v. faultAt left text v) (elementsOf text at)
 
 abbrev array-μ-loop : array-lts.MeasureT-loop
-array-μ-loop text at left step₀ n₀ step n = n
+array-μ-loop text ends at left step₀ n₀ step n = n
 
 array-first-element-requires : (t : ℕ) → array-lts.Need-first-element-requires (
   first-element-reads.Asked,
@@ -291,7 +291,7 @@ fault-object-requires : (t : ℕ) → fault-lts.Need-object-requires (
   array-below t,
   array.Post,
 ) (fault-at t) fault.Post
-fault-object-requires t c κs = search needs
+fault-object-requires t c κs = (search needs, (search needs, search needs))
 
 fault-returns-3 : (t : ℕ) → fault-lts.Need-returns-3 (
   byte-reads.Asked,
@@ -336,7 +336,7 @@ fault-array-requires : (t : ℕ) → fault-lts.Need-array-requires (
   array-below t,
   array.Post,
 ) (fault-at t) fault.Post
-fault-array-requires t c κs = search needs
+fault-array-requires t c κs = (search needs, (search needs, search needs))
 
 fault-returns-4 : (t : ℕ) → fault-lts.Need-returns-4 (
   byte-reads.Asked,
@@ -378,10 +378,10 @@ fault-returns-5 t c =
     )
 
 abbrev object-Inv-loop : object-lts.InvT-loop
-object-Inv-loop text at left step₀ n₀ step n = anyMember (λ v. faultAt left text v) (membersFrom n text step) ≡ anyMember (λ v. faultAt left text v) (membersOf text at)
+object-Inv-loop text ends at left step₀ n₀ step n = anyMember (λ v. faultAt left text v) (membersFrom n text step) ≡ anyMember (λ v. faultAt left text v) (membersOf text at)
 
 abbrev object-μ-loop : object-lts.MeasureT-loop
-object-μ-loop text at left step₀ n₀ step n = n
+object-μ-loop text ends at left step₀ n₀ step n = n
 
 object-first-member-requires : (t : ℕ) → object-lts.Need-first-member-requires (
   first-member-reads.Asked,
