@@ -15,11 +15,21 @@ slice-aggregate-fault c = search needs
 space-requires : tie.Need-space-requires
 space-requires c κs = search needs
 
+slice-aggregate-fault-2 : tie.Need-slice-aggregate-fault-2
+slice-aggregate-fault-2 c = search needs
+
+slice-aggregate-fault-3 : tie.Need-slice-aggregate-fault-3
+slice-aggregate-fault-3 c = search needs
+
 fault-requires : tie.Need-fault-requires
 fault-requires c κs = search needs
 
 returns : tie.Need-returns
-returns c = rw (← (c .before .space .ensures)) (c .fault .ensures)
+returns c =
+    rw (
+      ← (c .before .before .before .before .before .space .ensures),
+      ← (c .before .before .fault .ensures),
+    )
 
 pub text-fault-spec : {M : Type 1} → statement M
 text-fault-spec =
@@ -29,5 +39,7 @@ text-fault-spec =
     fill-requires
     slice-aggregate-fault
     space-requires
+    slice-aggregate-fault-2
+    slice-aggregate-fault-3
     fault-requires
     returns)
