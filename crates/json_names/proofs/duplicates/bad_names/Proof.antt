@@ -1,5 +1,4 @@
 use Rattle.json_names.specs.Names.{badNames}
-use Rattle.json_walk.specs.Walk.{firstMemberAt, membersOf}
 use borrow.Author.Needs.{needs}
 use Rattle.json_names.proofs.duplicates.bad_names.Statement.{statement}
 use Rattle.json_names.proofs.duplicates.bad_names.Tie as tie
