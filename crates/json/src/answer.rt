@@ -2,10 +2,8 @@
 ghost use mathlib.Core.Path.{_≡_};
 ghost use Rattle.json.specs.Answer.{answerOf};
 use crate::surrogates::pairs;
-use json_names::faults::fault;
+use json_names::whole::text_fault;
 use json_text::Read;
-use json_text::bytes::space;
-use json_value::whole::LEVELS;
 use json_value::whole::whole;
 
 // A text longer than this many bytes answers 1.
@@ -20,7 +18,7 @@ pub fn answer(text: &[u8]) -> u32
     match whole(text) {
         Read::To(_) => match pairs(text) {
             Read::To(_) => {
-                if fault(text, space(text, 0), LEVELS) {
+                if text_fault(text) {
                     return 4;
                 }
                 0

@@ -1,9 +1,9 @@
-// Equal names in an object of any size. A text of 65,536 bytes is gone over a bounded number of times at each of its
-// 16 levels: up to 3 names are compared each with each, more are sorted. A comparison of two names reads at most the
-// bytes of the shorter, so sorting reads each byte of a name at most once a pass, 14 passes at most. Objects with
-// more than 128 names, which take the large room, are at most 102 in a text.
+// Equal names in an object of any size: up to 3 names are compared each with each, more are sorted, in room that is
+// lent. A comparison of two names reads at most the bytes of the shorter, so sorting reads each byte of a name at most
+// once a pass, 14 passes at most.
 ghost use mathlib.Core.Path.{_≡_};
 ghost use Prim.Native.Nat.{_≤_, _<_};
+ghost use Rattle.json_ends.specs.Ends.{Ends};
 ghost use lib.ListN.{length};
 ghost use Rattle.json_walk.specs.Walk.{membersOf};
 ghost use Rattle.json_names.specs.Names.{repeats, badNames};
@@ -12,19 +12,19 @@ use crate::names::slash_named;
 use crate::sort::collect;
 use crate::sort::sort;
 use crate::sorted::judge;
+use json_ends::objects::first_member;
+use json_ends::objects::next_member;
 use json_walk::MemberStep;
-use json_walk::objects::first_member;
-use json_walk::objects::next_member;
 
 // How many members the object at a place has, counted up to so many.
-pub fn count_to(text: &[u8], at: usize, most: usize) -> usize
-    requires { ⌜ at < length (now text) ⌝ }
+pub fn count_to(text: &[u8], ends: &[u32], at: usize, most: usize) -> usize
+    requires { ⌜ (at < length (now text)) × Ends (now text) (now ends) ⌝ }
 {
-    let mut step = first_member(text, at);
+    let mut step = first_member(text, ends, at);
     let mut n = most;
     while 0 < n {
         match step {
-            MemberStep::One(m) => step = next_member(text, m.after),
+            MemberStep::One(m) => step = next_member(text, ends, m.after),
             MemberStep::End => return most - n,
         }
         n -= 1;
@@ -33,56 +33,45 @@ pub fn count_to(text: &[u8], at: usize, most: usize) -> usize
 }
 
 // Have two members equal names? With room to sort them.
-pub fn repeated_in(text: &[u8], at: usize, order: &mut [u64], spare: &mut [u64]) -> bool
-    requires { ⌜ (at < length (now text)) × (length (now order) ≤ 65536) × (length (now order) ≤ length (now spare)) ⌝ }
+pub fn repeated_in(
+    text: &[u8],
+    ends: &[u32],
+    at: usize,
+    order: &mut [u64],
+    spare: &mut [u64],
+) -> bool
+    requires { ⌜ (at < length (now text)) × (length (now order) ≤ 65536) × (length (now order) ≤ length (now spare)) × Ends (now text) (now ends) ⌝ }
     ensures { λ r. ⌜ r ≡ repeats (now (text .entry)) (membersOf (now (text .entry)) at) ⌝ }
 {
-    let k = collect(text, at, order);
+    let k = collect(text, ends, at, order);
     sort(text, order, spare, k);
-    judge(text, at, order, k)
-}
-
-pub fn repeated_small(text: &[u8], at: usize) -> bool
-    requires { ⌜ at < length (now text) ⌝ }
-    ensures { λ r. ⌜ r ≡ repeats (now (text .entry)) (membersOf (now (text .entry)) at) ⌝ }
-{
-    let mut order = [0u64; 128];
-    let mut spare = [0u64; 128];
-    repeated_in(text, at, &mut order, &mut spare)
-}
-
-// A member takes five bytes at least, so a text has at most 13,107 of them.
-pub fn repeated_large(text: &[u8], at: usize) -> bool
-    requires { ⌜ at < length (now text) ⌝ }
-    ensures { λ r. ⌜ r ≡ repeats (now (text .entry)) (membersOf (now (text .entry)) at) ⌝ }
-{
-    let mut order = [0u64; 13107];
-    let mut spare = [0u64; 13107];
-    repeated_in(text, at, &mut order, &mut spare)
+    judge(text, ends, at, order, k)
 }
 
 // Have two members equal names?
-pub fn repeated_any(text: &[u8], at: usize) -> bool
-    requires { ⌜ at < length (now text) ⌝ }
+pub fn repeated_any(
+    text: &[u8],
+    ends: &[u32],
+    at: usize,
+    order: &mut [u64],
+    spare: &mut [u64],
+) -> bool
+    requires { ⌜ (at < length (now text)) × (length (now order) ≤ 65536) × (length (now order) ≤ length (now spare)) × Ends (now text) (now ends) ⌝ }
     ensures { λ r. ⌜ r ≡ repeats (now (text .entry)) (membersOf (now (text .entry)) at) ⌝ }
 {
-    let n = count_to(text, at, 129);
-    if 128 < n {
-        return repeated_large(text, at);
+    if count_to(text, ends, at, 4) < 4 {
+        return repeated(text, ends, at);
     }
-    if 3 < n {
-        return repeated_small(text, at);
-    }
-    repeated(text, at)
+    repeated_in(text, ends, at, order, spare)
 }
 
 // Are the names of the object at a place at fault?
-pub fn bad_names(text: &[u8], at: usize) -> bool
-    requires { ⌜ at < length (now text) ⌝ }
+pub fn bad_names(text: &[u8], ends: &[u32], at: usize, order: &mut [u64], spare: &mut [u64]) -> bool
+    requires { ⌜ (at < length (now text)) × (length (now order) ≤ 65536) × (length (now order) ≤ length (now spare)) × Ends (now text) (now ends) ⌝ }
     ensures { λ r. ⌜ r ≡ badNames (now (text .entry)) (membersOf (now (text .entry)) at) ⌝ }
 {
-    if slash_named(text, at) {
+    if slash_named(text, ends, at) {
         return true;
     }
-    repeated_any(text, at)
+    repeated_any(text, ends, at, order, spare)
 }

@@ -6,3 +6,4 @@ pub mod names;
 pub mod order;
 pub mod sort;
 pub mod sorted;
+pub mod whole;

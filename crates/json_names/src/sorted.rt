@@ -3,6 +3,7 @@
 ghost use mathlib.Core.Path.{_≡_};
 ghost use mathlib.Core.Bool.{true};
 ghost use Prim.Native.Nat.{_-_, _<_};
+ghost use Rattle.json_ends.specs.Ends.{Ends};
 ghost use lib.ListN.{length, getD};
 ghost use Rattle.json_walk.specs.Walk.{membersOf};
 ghost use Rattle.json_names.specs.Names.{repeats};
@@ -13,9 +14,9 @@ use crate::order::entry_before;
 use crate::order::name_of;
 use crate::order::raw_before;
 use crate::order::stop_of;
+use json_ends::objects::first_member;
+use json_ends::objects::next_member;
 use json_walk::MemberStep;
-use json_walk::objects::first_member;
-use json_walk::objects::next_member;
 
 // The entry at an index; 0 past the end.
 pub fn entry(order: &[u64], i: usize) -> u64
@@ -76,11 +77,11 @@ pub fn locate(text: &[u8], order: &[u64], k: usize, a: usize, d: usize) -> usize
 }
 
 // Are all names of the object at a place among the first k entries?
-pub fn covered(text: &[u8], at: usize, order: &[u64], k: usize) -> bool
-    requires { ⌜ at < length (now text) ⌝ }
+pub fn covered(text: &[u8], ends: &[u32], at: usize, order: &[u64], k: usize) -> bool
+    requires { ⌜ (at < length (now text)) × Ends (now text) (now ends) ⌝ }
     ensures { λ r. ⌜ (r ≡ true → Covered (now (order .entry)) k at (membersOf (now (text .entry)) at)) ⌝ }
 {
-    let mut step = first_member(text, at);
+    let mut step = first_member(text, ends, at);
     let mut last = at;
     let mut n = text.len();
     while 0 < n {
@@ -101,7 +102,7 @@ pub fn covered(text: &[u8], at: usize, order: &[u64], k: usize) -> bool
                     return false;
                 }
                 last = m.name;
-                step = next_member(text, m.after);
+                step = next_member(text, ends, m.after);
             }
             MemberStep::End => return true,
         }
@@ -111,19 +112,19 @@ pub fn covered(text: &[u8], at: usize, order: &[u64], k: usize) -> bool
 }
 
 // Does the name that stands at a place come again, in the object at a place?
-pub fn again(text: &[u8], at: usize, name: usize) -> bool
-    requires { ⌜ at < length (now text) ⌝ }
+pub fn again(text: &[u8], ends: &[u32], at: usize, name: usize) -> bool
+    requires { ⌜ (at < length (now text)) × Ends (now text) (now ends) ⌝ }
     ensures { λ r. ⌜ (r ≡ true → repeats (now (text .entry)) (membersOf (now (text .entry)) at) ≡ true) ⌝ }
 {
-    let mut step = first_member(text, at);
+    let mut step = first_member(text, ends, at);
     let mut n = text.len();
     while 0 < n {
         match step {
             MemberStep::One(m) => {
                 if m.name == name {
-                    return among(text, m.name, m.stop, m.after, n - 1);
+                    return among(text, ends, m.name, m.stop, m.after, n - 1);
                 }
-                step = next_member(text, m.after);
+                step = next_member(text, ends, m.after);
             }
             MemberStep::End => return false,
         }
@@ -133,22 +134,22 @@ pub fn again(text: &[u8], at: usize, name: usize) -> bool
 }
 
 // Have two members equal names? By k entries that should be all names, sorted.
-pub fn judge(text: &[u8], at: usize, order: &[u64], k: usize) -> bool
-    requires { ⌜ at < length (now text) ⌝ }
+pub fn judge(text: &[u8], ends: &[u32], at: usize, order: &[u64], k: usize) -> bool
+    requires { ⌜ (at < length (now text)) × Ends (now text) (now ends) ⌝ }
     ensures { λ r. ⌜ r ≡ repeats (now (text .entry)) (membersOf (now (text .entry)) at) ⌝ }
 {
     let r = rising(text, order, k);
     if 1 < minus(k, r) {
-        if again(text, at, name_of(entry(order, r))) {
+        if again(text, ends, at, name_of(entry(order, r))) {
             return true;
         }
-        if again(text, at, name_of(entry(order, r + 1))) {
+        if again(text, ends, at, name_of(entry(order, r + 1))) {
             return true;
         }
-        return repeated(text, at);
+        return repeated(text, ends, at);
     }
-    if covered(text, at, order, k) {
+    if covered(text, ends, at, order, k) {
         return false;
     }
-    repeated(text, at)
+    repeated(text, ends, at)
 }

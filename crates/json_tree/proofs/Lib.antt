@@ -1,5 +1,4 @@
 pub mod Faulted
-pub mod Levels
 pub mod Numbers
 pub mod Trees
 pub mod Walked

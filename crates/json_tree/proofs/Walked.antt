@@ -17,7 +17,7 @@ use Rattle.json_walk.specs.declared.MemberStep.{MemberStep}
 use Rattle.json_walk.specs.declared.MemberStep.the-variants.{One, End}
 use Rattle.json_walk.specs.declared.ElementStep.{ElementStep}
 use Rattle.json_walk.specs.declared.ElementStep.the-variants.{Next, Stop}
-use Rattle.json_tree.proofs.Levels.{more-levels, object-keeps, array-keeps}
+use Rattle.json_value.proofs.Levels.{more-levels, object-keeps, array-keeps}
 
 -- Behind an item: the closing bracket, which ends at j, or another item from which it goes on well.
 abbrev pub EndsItem : (ℕ → Type 0) → ℕ → Item → Type 0

@@ -20,23 +20,19 @@ pairs-requires c κs = search needs
 enum-told-2 : tie.Need-enum-told-2
 enum-told-2 c = search needs
 
-space-requires : tie.Need-space-requires
-space-requires c κs = search needs
-
-fault-requires : tie.Need-fault-requires
-fault-requires c κs = search needs
+text-fault-requires : tie.Need-text-fault-requires
+text-fault-requires c κs = search needs
 
 returns-2 : tie.Need-returns-2
 unfolding answerOf readAnswer pairedAnswer
 returns-2 c =
     rw (
-      le-ltb _ _ (c .before .before .before .before .before .before .before .before .before .if1 .left),
-      ← (c .before .before .before .before .before .before .before .before .whole .ensures),
-      c .before .before .before .before .before .before .enum-told .given .1,
-      ← (c .before .before .before .before .before .pairs .ensures),
-      c .before .before .before .enum-told2 .given .1,
-      ← (c .before .before .space .ensures),
-      ← (c .before .fault .ensures),
+      le-ltb _ _ (c .before .before .before .before .before .before .before .before .if1 .left),
+      ← (c .before .before .before .before .before .before .before .whole .ensures),
+      c .before .before .before .before .before .enum-told .given .1,
+      ← (c .before .before .before .before .pairs .ensures),
+      c .before .before .enum-told2 .given .1,
+      ← (c .before .text-fault .ensures),
       c .if2 .taken,
     )
 
@@ -56,13 +52,12 @@ returns-3 : tie.Need-returns-3
 unfolding answerOf readAnswer pairedAnswer
 returns-3 c =
     rw (
-      le-ltb _ _ (c .before .before .before .before .before .before .before .before .before .if1 .left),
-      ← (c .before .before .before .before .before .before .before .before .whole .ensures),
-      c .before .before .before .before .before .before .enum-told .given .1,
-      ← (c .before .before .before .before .before .pairs .ensures),
-      c .before .before .before .enum-told2 .given .1,
-      ← (c .before .before .space .ensures),
-      ← (c .before .fault .ensures),
+      le-ltb _ _ (c .before .before .before .before .before .before .before .before .if1 .left),
+      ← (c .before .before .before .before .before .before .before .whole .ensures),
+      c .before .before .before .before .before .enum-told .given .1,
+      ← (c .before .before .before .before .pairs .ensures),
+      c .before .before .enum-told2 .given .1,
+      ← (c .before .text-fault .ensures),
       c .if2 .left,
     )
 
@@ -115,8 +110,7 @@ answer-spec =
     enum-told
     pairs-requires
     enum-told-2
-    space-requires
-    fault-requires
+    text-fault-requires
     returns-2
     enum-told-3
     enum-told-4

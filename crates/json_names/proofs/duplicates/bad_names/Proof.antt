@@ -17,14 +17,28 @@ returns c =
 repeated-any-requires : tie.Need-repeated-any-requires
 repeated-any-requires c κs = search needs
 
+same-length : tie.Need-same-length
+same-length c = search needs
+
+same-length-2 : tie.Need-same-length-2
+same-length-2 c = search needs
+
 returns-2 : tie.Need-returns-2
 unfolding badNames
 returns-2 c =
     rw (
-      ← (c .before .before .slash-named .ensures),
-      c .before .if1 .left,
-      ← (c .repeated-any .ensures),
+      ← (c .before .before .before .before .before .before .before .before .slash-named .ensures),
+      c .before .before .before .before .before .before .before .if1 .left,
+      ← (c .before .before .before .before .repeated-any .ensures),
     )
 
 pub bad-names-spec : {M : Type 1} → statement M
-bad-names-spec = tie.close (tie.spec slash-named-requires returns repeated-any-requires returns-2)
+bad-names-spec =
+    tie.close
+    (tie.spec
+    slash-named-requires
+    returns
+    repeated-any-requires
+    same-length
+    same-length-2
+    returns-2)

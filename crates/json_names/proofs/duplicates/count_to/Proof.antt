@@ -4,10 +4,10 @@ use Rattle.json_names.proofs.duplicates.count_to.Statement.{statement}
 use Rattle.json_names.proofs.duplicates.count_to.Tie as tie
 
 abbrev Inv-loop : tie.InvT-loop
-Inv-loop text at most step₀ n₀ step n = n ≤ most
+Inv-loop text ends at most step₀ n₀ step n = n ≤ most
 
 abbrev μ-loop : tie.MeasureT-loop
-μ-loop text at most step₀ n₀ step n = n
+μ-loop text ends at most step₀ n₀ step n = n
 
 first-member-requires : tie.Need-first-member-requires Inv-loop μ-loop
 first-member-requires c κs = search needs

@@ -1,14 +1,12 @@
 use Prim.Native.Nat.{_*_, _+_}
-use Rattle.json_names.proofs.Laws.{fault-none, fault-step}
-use Rattle.json_walk.proofs.Walks.{members-none}
-use Rattle.json_names.specs.Names.{anyElement, anyMember, faultAt, objectFault}
-use Rattle.json_walk.specs.Walk.{elementsFrom, elementsOf, membersFrom, membersOf}
+use mathlib.Core.Path.{_≡_}
+use lib.ListN.{length}
 use borrow.Author.Needs.{needs}
 use borrow.Author.Tests.{eq-eqb, ne-eqb}
-use mathlib.Core.Path.{_≡_}
 use Rattle.json_walk.specs.Walk.{membersFrom, membersOf, elementsFrom, elementsOf}
+use Rattle.json_walk.proofs.Walks.{members-one, members-end, members-none, elements-one, elements-end, elements-none}
+use Rattle.json_names.specs.Names.{anyElement, anyMember, faultAt, objectFault}
 use Rattle.json_names.proofs.Laws.{fault-step, fault-none}
-use Rattle.json_walk.proofs.Walks.{members-one, members-end, elements-one, elements-end, elements-none}
 use Prim.Native.Nat.{ℕ, _<_}
 use borrow.Fn.Kinds.{In}
 use borrow.Fn.PlainCycle.{Measures, is, falls, and}
@@ -21,47 +19,47 @@ use Rattle.json_names.proofs.faults.+array+fault+object.Lts-fault as fa
 use Rattle.json_names.proofs.faults.object.Reads as object
 use Rattle.json_names.proofs.faults.object.Kinds as object-kinds
 use Rattle.json_names.proofs.faults.+array+fault+object.Lts-object as object-lts
+use Rattle.json_ends.proofs.arrays.first_element.Reads as first-element-reads
+use Rattle.json_ends.proofs.arrays.next_element.Reads as next-element-reads
+use Rattle.json_ends.proofs.objects.first_member.Reads as first-member-reads
+use Rattle.json_ends.proofs.objects.next_member.Reads as next-member-reads
 use Rattle.json_names.proofs.duplicates.bad_names.Reads as bad-names-reads
 use Rattle.json_text.proofs.bytes.byte.Reads as byte-reads
-use Rattle.json_walk.proofs.arrays.first_element.Reads as first-element-reads
-use Rattle.json_walk.proofs.arrays.next_element.Reads as next-element-reads
-use Rattle.json_walk.proofs.objects.first_member.Reads as first-member-reads
-use Rattle.json_walk.proofs.objects.next_member.Reads as next-member-reads
 use Rattle.json_names.proofs.faults.+array+fault+object.{statement}
 use Rattle.json_names.proofs.faults.+array+fault+object.Tie.{close}
 
-abbrev μ-array : Measures 1 array-kinds.ps ℕ
-μ-array κs a = 2 * a .1 .1 .0 + 1
+abbrev μ-array : Measures 4 array-kinds.ps ℕ
+μ-array κs a = 2 * a .1 .1 .1 .0 + 1
 
-abbrev μ-fault : Measures 1 fault-kinds.ps ℕ
-μ-fault κs a = 2 * a .1 .1 .0
+abbrev μ-fault : Measures 4 fault-kinds.ps ℕ
+μ-fault κs a = 2 * a .1 .1 .1 .0
 
-abbrev μ-object : Measures 1 object-kinds.ps ℕ
-μ-object κs a = 2 * a .1 .1 .0 + 1
+abbrev μ-object : Measures 4 object-kinds.ps ℕ
+μ-object κs a = 2 * a .1 .1 .1 .0 + 1
 
-abbrev array-at : ℕ → In 1 array-kinds.ps
-array-at t = and 1 array-kinds.ps (is 1 array-kinds.ps μ-array t) array.Pre
+abbrev array-at : ℕ → In 4 array-kinds.ps
+array-at t = and 4 array-kinds.ps (is 4 array-kinds.ps μ-array t) array.Pre
 
-abbrev array-below : ℕ → In 1 array-kinds.ps
-array-below t = and 1 array-kinds.ps (falls 1 array-kinds.ps _<_ μ-array t) array.Pre
+abbrev array-below : ℕ → In 4 array-kinds.ps
+array-below t = and 4 array-kinds.ps (falls 4 array-kinds.ps _<_ μ-array t) array.Pre
 
-abbrev fault-at : ℕ → In 1 fault-kinds.ps
-fault-at t = and 1 fault-kinds.ps (is 1 fault-kinds.ps μ-fault t) fault.Pre
+abbrev fault-at : ℕ → In 4 fault-kinds.ps
+fault-at t = and 4 fault-kinds.ps (is 4 fault-kinds.ps μ-fault t) fault.Pre
 
-abbrev fault-below : ℕ → In 1 fault-kinds.ps
-fault-below t = and 1 fault-kinds.ps (falls 1 fault-kinds.ps _<_ μ-fault t) fault.Pre
+abbrev fault-below : ℕ → In 4 fault-kinds.ps
+fault-below t = and 4 fault-kinds.ps (falls 4 fault-kinds.ps _<_ μ-fault t) fault.Pre
 
-abbrev object-at : ℕ → In 1 object-kinds.ps
-object-at t = and 1 object-kinds.ps (is 1 object-kinds.ps μ-object t) object.Pre
+abbrev object-at : ℕ → In 4 object-kinds.ps
+object-at t = and 4 object-kinds.ps (is 4 object-kinds.ps μ-object t) object.Pre
 
-abbrev object-below : ℕ → In 1 object-kinds.ps
-object-below t = and 1 object-kinds.ps (falls 1 object-kinds.ps _<_ μ-object t) object.Pre
+abbrev object-below : ℕ → In 4 object-kinds.ps
+object-below t = and 4 object-kinds.ps (falls 4 object-kinds.ps _<_ μ-object t) object.Pre
 
 abbrev array-Inv-loop : array-lts.InvT-loop
-array-Inv-loop text at left step₀ n₀ step n = anyElement (λ v. faultAt left text v) (elementsFrom n text step) ≡ anyElement (λ v. faultAt left text v) (elementsOf text at)
+array-Inv-loop text ends at left order₀ spare₀ step₀ n₀ order spare step n = (anyElement (λ v. faultAt left text v) (elementsFrom n text step) ≡ anyElement (λ v. faultAt left text v) (elementsOf text at)) × (length order ≡ length order₀) × (length spare ≡ length spare₀)
 
 abbrev array-μ-loop : array-lts.MeasureT-loop
-array-μ-loop text at left step₀ n₀ step n = n
+array-μ-loop text ends at left order₀ spare₀ step₀ n₀ order spare step n = n
 
 array-first-element-requires : (t : ℕ) → array-lts.Need-first-element-requires (
   first-element-reads.Asked,
@@ -82,7 +80,7 @@ array-loop-holds : (t : ℕ) → array-lts.Need-loop-holds (
   next-element-reads.Learnt,
 ) (array-at t) array.Post array-Inv-loop array-μ-loop
 unfolding anyElement elementsOf
-array-loop-holds t c = rw (← (c .first-element .ensures))
+array-loop-holds t c = (rw (← (c .first-element .ensures)), search needs, search needs)
 
 array-enum-known-step : (t : ℕ) → array-lts.Need-enum-known-step (
   first-element-reads.Asked,
@@ -104,6 +102,26 @@ array-fault-requires : (t : ℕ) → array-lts.Need-fault-requires (
 ) (array-at t) array.Post array-Inv-loop array-μ-loop
 array-fault-requires t c κs = search needs
 
+array-same-length : (t : ℕ) → array-lts.Need-same-length (
+  first-element-reads.Asked,
+  first-element-reads.Learnt,
+  fault-below t,
+  fault.Post,
+  next-element-reads.Asked,
+  next-element-reads.Learnt,
+) (array-at t) array.Post array-Inv-loop array-μ-loop
+array-same-length t c = search needs
+
+array-same-length-2 : (t : ℕ) → array-lts.Need-same-length-2 (
+  first-element-reads.Asked,
+  first-element-reads.Learnt,
+  fault-below t,
+  fault.Post,
+  next-element-reads.Asked,
+  next-element-reads.Learnt,
+) (array-at t) array.Post array-Inv-loop array-μ-loop
+array-same-length-2 t c = search needs
+
 array-returns : (t : ℕ) → array-lts.Need-returns (
   first-element-reads.Asked,
   first-element-reads.Learnt,
@@ -115,10 +133,10 @@ array-returns : (t : ℕ) → array-lts.Need-returns (
 unfolding anyElement elementsOf
 array-returns t c =
     rw (
-      ← (c .before .before .before .before .before .before .loop .inv),
-      c .before .before .before .step .given .1,
-      elements-one _ (c .before .before .before .before .before .loop-test .taken),
-      ← (c .before .fault .ensures),
+      ← (c .before .before .before .before .before .before .before .before .before .before .before .before .loop .inv .0),
+      c .before .before .before .before .before .before .before .before .before .step .given .1,
+      elements-one _ (c .before .before .before .before .before .before .before .before .before .before .before .loop-test .taken),
+      ← (c .before .before .before .before .before .fault .ensures),
       c .if1 .taken,
     )
 
@@ -142,6 +160,26 @@ array-enum-told : (t : ℕ) → array-lts.Need-enum-told (
 ) (array-at t) array.Post array-Inv-loop array-μ-loop
 array-enum-told t c = search needs
 
+array-same-length-3 : (t : ℕ) → array-lts.Need-same-length-3 (
+  first-element-reads.Asked,
+  first-element-reads.Learnt,
+  fault-below t,
+  fault.Post,
+  next-element-reads.Asked,
+  next-element-reads.Learnt,
+) (array-at t) array.Post array-Inv-loop array-μ-loop
+array-same-length-3 t c = search needs
+
+array-same-length-4 : (t : ℕ) → array-lts.Need-same-length-4 (
+  first-element-reads.Asked,
+  first-element-reads.Learnt,
+  fault-below t,
+  fault.Post,
+  next-element-reads.Asked,
+  next-element-reads.Learnt,
+) (array-at t) array.Post array-Inv-loop array-μ-loop
+array-same-length-4 t c = search needs
+
 array-returns-2 : (t : ℕ) → array-lts.Need-returns-2 (
   first-element-reads.Asked,
   first-element-reads.Learnt,
@@ -153,7 +191,7 @@ array-returns-2 : (t : ℕ) → array-lts.Need-returns-2 (
 unfolding anyElement elementsOf
 array-returns-2 t c =
     rw (
-      ← (c .before .before .before .loop .inv),
+      ← (c .before .before .before .loop .inv .0),
       c .enum-told .given .1,
       elements-end,
     )
@@ -187,15 +225,38 @@ array-loop-again : (t : ℕ) → array-lts.Need-loop-again (
   next-element-reads.Learnt,
 ) (array-at t) array.Post array-Inv-loop array-μ-loop
 unfolding anyElement elementsOf
-array-loop-again t c =
-    rw (
-      ← (c .before .before .before .before .before .before .before .loop .inv),
-      c .before .before .before .before .step .given .1,
-      elements-one _ (c .before .before .before .before .before .before .loop-test .taken),
-      ← (c .before .before .fault .ensures),
-      c .before .if1 .left,
-      ← (c .next-element .ensures),
-    )
+array-loop-again t c = (
+  rw (
+    ← (c .before .before .before .before .before .before .before .before .before .before .before .before .before .loop .inv .0),
+    c .before .before .before .before .before .before .before .before .before .before .step .given .1,
+    elements-one _ (c .before .before .before .before .before .before .before .before .before .before .before .before .loop-test .taken),
+    ← (c .before .before .before .before .before .before .fault .ensures),
+    c .before .if1 .left,
+    ← (c .next-element .ensures),
+  ),
+  search needs,
+  search needs,
+)
+
+array-same-length-5 : (t : ℕ) → array-lts.Need-same-length-5 (
+  first-element-reads.Asked,
+  first-element-reads.Learnt,
+  fault-below t,
+  fault.Post,
+  next-element-reads.Asked,
+  next-element-reads.Learnt,
+) (array-at t) array.Post array-Inv-loop array-μ-loop
+array-same-length-5 t c = search needs
+
+array-same-length-6 : (t : ℕ) → array-lts.Need-same-length-6 (
+  first-element-reads.Asked,
+  first-element-reads.Learnt,
+  fault-below t,
+  fault.Post,
+  next-element-reads.Asked,
+  next-element-reads.Learnt,
+) (array-at t) array.Post array-Inv-loop array-μ-loop
+array-same-length-6 t c = search needs
 
 array-returns-3 : (t : ℕ) → array-lts.Need-returns-3 (
   first-element-reads.Asked,
@@ -208,7 +269,7 @@ array-returns-3 : (t : ℕ) → array-lts.Need-returns-3 (
 unfolding anyElement elementsOf
 array-returns-3 t c =
     rw (
-      ← (c .before .loop .inv),
+      ← (c .before .loop .inv .0),
       elements-none _ (c .loop-test .left),
     )
 
@@ -249,6 +310,30 @@ fault-bad-names-requires : (t : ℕ) → fault-lts.Need-bad-names-requires (
 ) (fault-at t) fault.Post
 fault-bad-names-requires t c κs = search needs
 
+fault-same-length : (t : ℕ) → fault-lts.Need-same-length (
+  byte-reads.Asked,
+  byte-reads.Learnt,
+  bad-names-reads.Asked,
+  bad-names-reads.Learnt,
+  object-below t,
+  object.Post,
+  array-below t,
+  array.Post,
+) (fault-at t) fault.Post
+fault-same-length t c = search needs
+
+fault-same-length-2 : (t : ℕ) → fault-lts.Need-same-length-2 (
+  byte-reads.Asked,
+  byte-reads.Learnt,
+  bad-names-reads.Asked,
+  bad-names-reads.Learnt,
+  object-below t,
+  object.Post,
+  array-below t,
+  array.Post,
+) (fault-at t) fault.Post
+fault-same-length-2 t c = search needs
+
 fault-returns-2 : (t : ℕ) → fault-lts.Need-returns-2 (
   byte-reads.Asked,
   byte-reads.Learnt,
@@ -262,10 +347,10 @@ fault-returns-2 : (t : ℕ) → fault-lts.Need-returns-2 (
 unfolding objectFault
 fault-returns-2 t c =
     rw (
-      fault-step _ (c .before .before .before .before .if1 .left),
-      ← (c .before .before .before .byte .ensures .is),
-      eq-eqb _ _ (c .before .before .if2 .taken),
-      ← (c .before .bad-names .ensures),
+      fault-step _ (c .before .before .before .before .before .before .before .before .before .before .if1 .left),
+      ← (c .before .before .before .before .before .before .before .before .before .byte .ensures .is),
+      eq-eqb _ _ (c .before .before .before .before .before .before .before .before .if2 .taken),
+      ← (c .before .before .before .before .before .bad-names .ensures),
       c .if3 .taken,
     )
 
@@ -291,7 +376,31 @@ fault-object-requires : (t : ℕ) → fault-lts.Need-object-requires (
   array-below t,
   array.Post,
 ) (fault-at t) fault.Post
-fault-object-requires t c κs = search needs
+fault-object-requires t c κs = (search needs, (search needs, search needs, search needs, search needs))
+
+fault-same-length-3 : (t : ℕ) → fault-lts.Need-same-length-3 (
+  byte-reads.Asked,
+  byte-reads.Learnt,
+  bad-names-reads.Asked,
+  bad-names-reads.Learnt,
+  object-below t,
+  object.Post,
+  array-below t,
+  array.Post,
+) (fault-at t) fault.Post
+fault-same-length-3 t c = search needs
+
+fault-same-length-4 : (t : ℕ) → fault-lts.Need-same-length-4 (
+  byte-reads.Asked,
+  byte-reads.Learnt,
+  bad-names-reads.Asked,
+  bad-names-reads.Learnt,
+  object-below t,
+  object.Post,
+  array-below t,
+  array.Post,
+) (fault-at t) fault.Post
+fault-same-length-4 t c = search needs
 
 fault-returns-3 : (t : ℕ) → fault-lts.Need-returns-3 (
   byte-reads.Asked,
@@ -306,12 +415,12 @@ fault-returns-3 : (t : ℕ) → fault-lts.Need-returns-3 (
 unfolding objectFault
 fault-returns-3 t c =
     rw (
-      fault-step _ (c .before .before .before .before .before .if1 .left),
-      ← (c .before .before .before .before .byte .ensures .is),
-      eq-eqb _ _ (c .before .before .before .if2 .taken),
-      ← (c .before .before .bad-names .ensures),
-      c .before .if3 .left,
-      ← (c .object .ensures),
+      fault-step _ (c .before .before .before .before .before .before .before .before .before .before .before .before .before .before .before .before .before .if1 .left),
+      ← (c .before .before .before .before .before .before .before .before .before .before .before .before .before .before .before .before .byte .ensures .is),
+      eq-eqb _ _ (c .before .before .before .before .before .before .before .before .before .before .before .before .before .before .before .if2 .taken),
+      ← (c .before .before .before .before .before .before .before .before .before .before .before .before .bad-names .ensures),
+      c .before .before .before .before .before .before .before .if3 .left,
+      ← (c .before .before .before .before .object .ensures),
     )
 
 fault-sub-array : (t : ℕ) → fault-lts.Need-sub-array (
@@ -336,7 +445,31 @@ fault-array-requires : (t : ℕ) → fault-lts.Need-array-requires (
   array-below t,
   array.Post,
 ) (fault-at t) fault.Post
-fault-array-requires t c κs = search needs
+fault-array-requires t c κs = (search needs, (search needs, search needs, search needs, search needs))
+
+fault-same-length-5 : (t : ℕ) → fault-lts.Need-same-length-5 (
+  byte-reads.Asked,
+  byte-reads.Learnt,
+  bad-names-reads.Asked,
+  bad-names-reads.Learnt,
+  object-below t,
+  object.Post,
+  array-below t,
+  array.Post,
+) (fault-at t) fault.Post
+fault-same-length-5 t c = search needs
+
+fault-same-length-6 : (t : ℕ) → fault-lts.Need-same-length-6 (
+  byte-reads.Asked,
+  byte-reads.Learnt,
+  bad-names-reads.Asked,
+  bad-names-reads.Learnt,
+  object-below t,
+  object.Post,
+  array-below t,
+  array.Post,
+) (fault-at t) fault.Post
+fault-same-length-6 t c = search needs
 
 fault-returns-4 : (t : ℕ) → fault-lts.Need-returns-4 (
   byte-reads.Asked,
@@ -351,11 +484,11 @@ fault-returns-4 : (t : ℕ) → fault-lts.Need-returns-4 (
 unfolding objectFault
 fault-returns-4 t c =
     rw (
-      fault-step _ (c .before .before .before .before .if1 .left),
-      ← (c .before .before .before .byte .ensures .is),
-      ne-eqb _ _ (c .before .before .if2 .left),
-      eq-eqb _ _ (c .before .if4 .taken),
-      ← (c .array .ensures),
+      fault-step _ (c .before .before .before .before .before .before .before .before .before .before .if1 .left),
+      ← (c .before .before .before .before .before .before .before .before .before .byte .ensures .is),
+      ne-eqb _ _ (c .before .before .before .before .before .before .before .before .if2 .left),
+      eq-eqb _ _ (c .before .before .before .before .before .before .before .if4 .taken),
+      ← (c .before .before .before .before .array .ensures),
     )
 
 fault-returns-5 : (t : ℕ) → fault-lts.Need-returns-5 (
@@ -378,10 +511,10 @@ fault-returns-5 t c =
     )
 
 abbrev object-Inv-loop : object-lts.InvT-loop
-object-Inv-loop text at left step₀ n₀ step n = anyMember (λ v. faultAt left text v) (membersFrom n text step) ≡ anyMember (λ v. faultAt left text v) (membersOf text at)
+object-Inv-loop text ends at left order₀ spare₀ step₀ n₀ order spare step n = (anyMember (λ v. faultAt left text v) (membersFrom n text step) ≡ anyMember (λ v. faultAt left text v) (membersOf text at)) × (length order ≡ length order₀) × (length spare ≡ length spare₀)
 
 abbrev object-μ-loop : object-lts.MeasureT-loop
-object-μ-loop text at left step₀ n₀ step n = n
+object-μ-loop text ends at left order₀ spare₀ step₀ n₀ order spare step n = n
 
 object-first-member-requires : (t : ℕ) → object-lts.Need-first-member-requires (
   first-member-reads.Asked,
@@ -402,7 +535,7 @@ object-loop-holds : (t : ℕ) → object-lts.Need-loop-holds (
   next-member-reads.Learnt,
 ) (object-at t) object.Post object-Inv-loop object-μ-loop
 unfolding anyMember membersOf
-object-loop-holds t c = rw (← (c .first-member .ensures))
+object-loop-holds t c = (rw (← (c .first-member .ensures)), search needs, search needs)
 
 object-enum-known-step : (t : ℕ) → object-lts.Need-enum-known-step (
   first-member-reads.Asked,
@@ -424,6 +557,26 @@ object-fault-requires : (t : ℕ) → object-lts.Need-fault-requires (
 ) (object-at t) object.Post object-Inv-loop object-μ-loop
 object-fault-requires t c κs = search needs
 
+object-same-length : (t : ℕ) → object-lts.Need-same-length (
+  first-member-reads.Asked,
+  first-member-reads.Learnt,
+  fault-below t,
+  fault.Post,
+  next-member-reads.Asked,
+  next-member-reads.Learnt,
+) (object-at t) object.Post object-Inv-loop object-μ-loop
+object-same-length t c = search needs
+
+object-same-length-2 : (t : ℕ) → object-lts.Need-same-length-2 (
+  first-member-reads.Asked,
+  first-member-reads.Learnt,
+  fault-below t,
+  fault.Post,
+  next-member-reads.Asked,
+  next-member-reads.Learnt,
+) (object-at t) object.Post object-Inv-loop object-μ-loop
+object-same-length-2 t c = search needs
+
 object-returns : (t : ℕ) → object-lts.Need-returns (
   first-member-reads.Asked,
   first-member-reads.Learnt,
@@ -435,10 +588,10 @@ object-returns : (t : ℕ) → object-lts.Need-returns (
 unfolding anyMember membersOf
 object-returns t c =
     rw (
-      ← (c .before .before .before .before .before .before .loop .inv),
-      c .before .before .before .step .given .1,
-      members-one _ (c .before .before .before .before .before .loop-test .taken),
-      ← (c .before .fault .ensures),
+      ← (c .before .before .before .before .before .before .before .before .before .before .before .before .loop .inv .0),
+      c .before .before .before .before .before .before .before .before .before .step .given .1,
+      members-one _ (c .before .before .before .before .before .before .before .before .before .before .before .loop-test .taken),
+      ← (c .before .before .before .before .before .fault .ensures),
       c .if1 .taken,
     )
 
@@ -462,6 +615,26 @@ object-enum-told : (t : ℕ) → object-lts.Need-enum-told (
 ) (object-at t) object.Post object-Inv-loop object-μ-loop
 object-enum-told t c = search needs
 
+object-same-length-3 : (t : ℕ) → object-lts.Need-same-length-3 (
+  first-member-reads.Asked,
+  first-member-reads.Learnt,
+  fault-below t,
+  fault.Post,
+  next-member-reads.Asked,
+  next-member-reads.Learnt,
+) (object-at t) object.Post object-Inv-loop object-μ-loop
+object-same-length-3 t c = search needs
+
+object-same-length-4 : (t : ℕ) → object-lts.Need-same-length-4 (
+  first-member-reads.Asked,
+  first-member-reads.Learnt,
+  fault-below t,
+  fault.Post,
+  next-member-reads.Asked,
+  next-member-reads.Learnt,
+) (object-at t) object.Post object-Inv-loop object-μ-loop
+object-same-length-4 t c = search needs
+
 object-returns-2 : (t : ℕ) → object-lts.Need-returns-2 (
   first-member-reads.Asked,
   first-member-reads.Learnt,
@@ -473,7 +646,7 @@ object-returns-2 : (t : ℕ) → object-lts.Need-returns-2 (
 unfolding anyMember membersOf
 object-returns-2 t c =
     rw (
-      ← (c .before .before .before .loop .inv),
+      ← (c .before .before .before .loop .inv .0),
       c .enum-told .given .1,
       members-end,
     )
@@ -507,15 +680,38 @@ object-loop-again : (t : ℕ) → object-lts.Need-loop-again (
   next-member-reads.Learnt,
 ) (object-at t) object.Post object-Inv-loop object-μ-loop
 unfolding anyMember membersOf
-object-loop-again t c =
-    rw (
-      ← (c .before .before .before .before .before .before .before .loop .inv),
-      c .before .before .before .before .step .given .1,
-      members-one _ (c .before .before .before .before .before .before .loop-test .taken),
-      ← (c .before .before .fault .ensures),
-      c .before .if1 .left,
-      ← (c .next-member .ensures),
-    )
+object-loop-again t c = (
+  rw (
+    ← (c .before .before .before .before .before .before .before .before .before .before .before .before .before .loop .inv .0),
+    c .before .before .before .before .before .before .before .before .before .before .step .given .1,
+    members-one _ (c .before .before .before .before .before .before .before .before .before .before .before .before .loop-test .taken),
+    ← (c .before .before .before .before .before .before .fault .ensures),
+    c .before .if1 .left,
+    ← (c .next-member .ensures),
+  ),
+  search needs,
+  search needs,
+)
+
+object-same-length-5 : (t : ℕ) → object-lts.Need-same-length-5 (
+  first-member-reads.Asked,
+  first-member-reads.Learnt,
+  fault-below t,
+  fault.Post,
+  next-member-reads.Asked,
+  next-member-reads.Learnt,
+) (object-at t) object.Post object-Inv-loop object-μ-loop
+object-same-length-5 t c = search needs
+
+object-same-length-6 : (t : ℕ) → object-lts.Need-same-length-6 (
+  first-member-reads.Asked,
+  first-member-reads.Learnt,
+  fault-below t,
+  fault.Post,
+  next-member-reads.Asked,
+  next-member-reads.Learnt,
+) (object-at t) object.Post object-Inv-loop object-μ-loop
+object-same-length-6 t c = search needs
 
 object-returns-3 : (t : ℕ) → object-lts.Need-returns-3 (
   first-member-reads.Asked,
@@ -528,7 +724,7 @@ object-returns-3 : (t : ℕ) → object-lts.Need-returns-3 (
 unfolding anyMember membersOf
 object-returns-3 t c =
     rw (
-      ← (c .before .loop .inv),
+      ← (c .before .loop .inv .0),
       members-none _ (c .loop-test .left),
     )
 
@@ -549,13 +745,19 @@ pub +array+fault+object-spec : {M : Type 1} → statement M
     (array-loop-holds t)
     (array-enum-known-step t)
     (array-fault-requires t)
+    (array-same-length t)
+    (array-same-length-2 t)
     (array-returns t)
     (array-next-element-requires t)
     (array-enum-told t)
+    (array-same-length-3 t)
+    (array-same-length-4 t)
     (array-returns-2 t)
     (array-sub-n t)
     (array-loop-less t)
     (array-loop-again t)
+    (array-same-length-5 t)
+    (array-same-length-6 t)
     (array-returns-3 t))
     (λ t. fault-lts.spec (
       byte-reads.Asked,
@@ -572,12 +774,18 @@ pub +array+fault+object-spec : {M : Type 1} → statement M
     (fault-returns t)
     (fault-byte-requires t)
     (fault-bad-names-requires t)
+    (fault-same-length t)
+    (fault-same-length-2 t)
     (fault-returns-2 t)
     (fault-sub-object t)
     (fault-object-requires t)
+    (fault-same-length-3 t)
+    (fault-same-length-4 t)
     (fault-returns-3 t)
     (fault-sub-array t)
     (fault-array-requires t)
+    (fault-same-length-5 t)
+    (fault-same-length-6 t)
     (fault-returns-4 t)
     (fault-returns-5 t))
     λ t. object-lts.spec (
@@ -596,11 +804,17 @@ pub +array+fault+object-spec : {M : Type 1} → statement M
     (object-loop-holds t)
     (object-enum-known-step t)
     (object-fault-requires t)
+    (object-same-length t)
+    (object-same-length-2 t)
     (object-returns t)
     (object-next-member-requires t)
     (object-enum-told t)
+    (object-same-length-3 t)
+    (object-same-length-4 t)
     (object-returns-2 t)
     (object-sub-n t)
     (object-loop-less t)
     (object-loop-again t)
+    (object-same-length-5 t)
+    (object-same-length-6 t)
     (object-returns-3 t)

@@ -9,10 +9,10 @@ use Rattle.json_names.proofs.names.among.Statement.{statement}
 use Rattle.json_names.proofs.names.among.Tie as tie
 
 abbrev Inv-loop : tie.InvT-loop
-Inv-loop text name stop at count step₀ n₀ step n = named text (rawAt text name stop) (membersFrom n text step) ≡ named text (rawAt text name stop) (membersFrom count text (nextMemberAt text at))
+Inv-loop text ends name stop at count step₀ n₀ step n = named text (rawAt text name stop) (membersFrom n text step) ≡ named text (rawAt text name stop) (membersFrom count text (nextMemberAt text at))
 
 abbrev μ-loop : tie.MeasureT-loop
-μ-loop text name stop at count step₀ n₀ step n = n
+μ-loop text ends name stop at count step₀ n₀ step n = n
 
 next-member-requires : tie.Need-next-member-requires Inv-loop μ-loop
 next-member-requires c κs = search needs

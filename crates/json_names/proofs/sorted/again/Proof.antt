@@ -9,10 +9,10 @@ use Rattle.json_names.proofs.sorted.again.Statement.{statement}
 use Rattle.json_names.proofs.sorted.again.Tie as tie
 
 abbrev Inv-loop : tie.InvT-loop
-Inv-loop text at name step₀ n₀ step n = repeats text (membersFrom n text step) ≡ true → repeats text (membersOf text at) ≡ true
+Inv-loop text ends at name step₀ n₀ step n = repeats text (membersFrom n text step) ≡ true → repeats text (membersOf text at) ≡ true
 
 abbrev μ-loop : tie.MeasureT-loop
-μ-loop text at name step₀ n₀ step n = n
+μ-loop text ends at name step₀ n₀ step n = n
 
 first-member-requires : tie.Need-first-member-requires Inv-loop μ-loop
 first-member-requires c κs = search needs

@@ -1,0 +1,49 @@
+// What a table of ends says of a place.
+ghost use mathlib.Core.Path.{_≡_};
+ghost use Prim.Native.Nat.{_/_, _%_};
+ghost use lib.ListN.{getD};
+ghost use Rattle.json_value.specs.Values.{valueAt};
+ghost use Rattle.json_ends.specs.Ends.{Ends};
+use json_text::Read;
+use json_value::values::value;
+
+// An entry is an end times this, and the levels that the value was read with.
+pub const STEP: u32 = 32;
+
+// The entry of a place; 0 past the end.
+pub fn entry(ends: &[u32], i: usize) -> u32
+    ensures { λ r. ⌜ r ≡ getD (now (ends .entry)) i 0 ⌝ }
+{
+    if i < ends.len() {
+        return ends[i];
+    }
+    0
+}
+
+// The end that an entry says, and the levels.
+pub fn end_of(entry: u32) -> usize
+    ensures { λ r. ⌜ r ≡ entry / 32 ⌝ }
+{
+    (entry / STEP) as usize
+}
+
+pub fn levels_of(entry: u32) -> usize
+    ensures { λ r. ⌜ r ≡ entry % 32 ⌝ }
+{
+    (entry % STEP) as usize
+}
+
+// The value at a place, as `value` reads it; by one look where the table knows it.
+pub fn past(text: &[u8], ends: &[u32], at: usize, left: usize) -> Read
+    requires { ⌜ Ends (now text) (now ends) ⌝ }
+    ensures { λ r. ⌜ r ≡ valueAt left (now (text .entry)) at ⌝ }
+{
+    let e = entry(ends, at);
+    if e < STEP {
+        return value(text, at, left);
+    }
+    if left < levels_of(e) {
+        return value(text, at, left);
+    }
+    Read::To(end_of(e))
+}
