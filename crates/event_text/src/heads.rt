@@ -1,8 +1,10 @@
 // The head of an event: all but its lists.
 ghost use Prim.Native.Nat.{ℕ};
+ghost use mathlib.Core.List.{List};
 ghost use mathlib.Core.Path.{_≡_};
 ghost use Rattle.property.specs.From.{valueIn, fieldsIn};
 ghost use Rattle.event.specs.Values.{member};
+ghost use Rattle.override_text.specs.Meaning.{detailsIn};
 ghost use Rattle.event_text.specs.Held.{fromHead};
 ghost use Rattle.event_text.specs.Front.{frontIn, frontOf, inner};
 use crate::Head;
@@ -16,6 +18,7 @@ use fault::lower;
 use json_text::bytes::byte;
 use json_text::bytes::space;
 use json_tree::Found;
+use override_text::Own;
 use property::Place;
 use property::members::member;
 
@@ -72,4 +75,21 @@ pub fn head(text: &[u8]) -> Head
         return head_at(text, text.len());
     }
     head_at(text, at)
+}
+
+// The details of a head, which patches change.
+pub fn own_of(head: Head) -> Own
+    ensures { λ r. ⌜ ((s : List ℕ) → detailsIn s r ≡ fromHead inner s head .details) ⌝ }
+{
+    let title = head.title;
+    let description = head.description;
+    Own {
+        start: head.start,
+        days: head.days,
+        seconds: head.seconds,
+        busy: head.busy,
+        allday: head.allday,
+        title,
+        description,
+    }
 }

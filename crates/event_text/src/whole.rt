@@ -10,11 +10,11 @@ ghost use Rattle.event_text.specs.Front.{inner, listsFault};
 ghost use Rattle.event_text.specs.Held.{fromHead};
 use crate::Head;
 use crate::heads::head_at;
+use crate::heads::own_of;
 use crate::judged::no_event;
 use fault::lower;
 use json_text::bytes::byte;
 use json_text::bytes::space;
-use override_text::Own;
 use override_text::entries::overrides_fault;
 use property::Place;
 use rule_text::rules::rules_fault;
@@ -33,17 +33,7 @@ fn rules_at(text: &[u8], place: Place) -> u32
 fn overrides_at(text: &[u8], head: Head) -> u32
     ensures { λ r. ⌜ r ≡ optional [] (readOverrides (fromHead inner (now (text .entry)) head .details)) (fromHead inner (now (text .entry)) head .overrides) .fault ⌝ }
 {
-    let title = head.title;
-    let description = head.description;
-    let own = Own {
-        start: head.start,
-        days: head.days,
-        seconds: head.seconds,
-        busy: head.busy,
-        allday: head.allday,
-        title,
-        description,
-    };
+    let own = own_of(head);
     let overrides = head.overrides;
     match overrides {
         Place::None => 0,
