@@ -1,7 +1,8 @@
 -- What the look-up's answers mean: the number and the place of the text, for every case.
-use Prim.Native.Nat.{ℕ}
+use Prim.Native.Nat.{ℕ, _+_, _≤_}
 use mathlib.Core.Bool.{Bool, true, false}
 use mathlib.Core.Option.{Option}
+use mathlib.Core.Path.{_≡_}
 use lib.Dec.{eqb}
 use Rattle.signed.specs.Choose.{if_then_else_}
 use Rattle.event.specs.Types.{Text, Details}
@@ -21,6 +22,11 @@ lookupShown Missing = noPlace 14
 -- n bytes from a place on. "the part has no bytes": both are 0.
 unfoldable pub spanned : ℕ → ℕ → Shown
 spanned at n = if eqb n 0 then noPlace 0 else record { answer = 0; start = at; length = n }
+
+-- It is the place that is asked for, and lies in a text of so many bytes.
+pub record Placed (size : ℕ) (o r : Shown) : Type 0 where
+  pub is : r ≡ o
+  pub within : r .start + r .length ≤ size
 
 -- "the title or the description of one occurrence"
 abbrev pub chosen : Bool → Details → Option Text

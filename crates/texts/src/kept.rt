@@ -8,7 +8,7 @@ ghost use Rattle.window.specs.Chunks.{Window, Ready};
 ghost use Rattle.writing.specs.Details.{detailsBy};
 ghost use Rattle.writing.specs.Runs.{Overridden};
 ghost use Rattle.table.specs.Call.{placeOf};
-ghost use Rattle.texts.specs.Shown.{lookupShown, chosen, shownBy};
+ghost use Rattle.texts.specs.Shown.{lookupShown, Placed, chosen, shownBy};
 use crate::Lookup;
 use crate::Part;
 use crate::parts::part_at;
@@ -34,8 +34,8 @@ pub fn look_up_kept(
 ) -> Lookup
     requires { ⌜ Ready rules (length (now rulerows)) excluded (length (now excludedrows)) (length (now ids)) (length (now gone)) 1
         × (Window (own .start) x (x + 1) × Overridden (length (now ids)) (length (now gone)) (length (now places))) ⌝ }
-    ensures { λ r. ⌜ lookupShown r ≡ shownBy public (isIn (loaded (own .start) rules (now (rulerows .entry)) excluded (now (excludedrows .entry)) (now (ids .entry)) (now (gone .entry))) x)
-        (placeOf (chosen title (detailsBy (now (text .entry)) (detailsIn (now (text .entry)) own) (now (ids .entry)) (now (places .entry)) x))) ⌝ }
+    ensures { λ r. ⌜ Placed (length (now (text .entry))) (shownBy public (isIn (loaded (own .start) rules (now (rulerows .entry)) excluded (now (excludedrows .entry)) (now (ids .entry)) (now (gone .entry))) x)
+        (placeOf (chosen title (detailsBy (now (text .entry)) (detailsIn (now (text .entry)) own) (now (ids .entry)) (now (places .entry)) x)))) (lookupShown r) ⌝ }
 {
     let there = is_id(
         own.start,

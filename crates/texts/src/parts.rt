@@ -1,10 +1,11 @@
 // The part of the text that the string at a place has between its quotes.
 ghost use mathlib.Core.Path.{_≡_};
 ghost use Prim.Native.Nat.{_+_, _-_, _≤_};
+ghost use lib.ListN.{length};
 ghost use Rattle.property.specs.From.{textIn};
 ghost use Rattle.property.specs.Words.{wordAt};
 ghost use Rattle.table.specs.Call.{placeFrom, placeOf};
-ghost use Rattle.texts.specs.Shown.{partShown, spanned};
+ghost use Rattle.texts.specs.Shown.{partShown, spanned, Placed};
 use crate::Part;
 use json_text::Read;
 use json_text::strings::string;
@@ -30,7 +31,7 @@ fn between(from: usize, to: usize) -> Part
 
 // The bytes between the quotes of the string at a place.
 fn part_from(text: &[u8], at: usize) -> Part
-    ensures { λ r. ⌜ partShown r ≡ placeFrom (at + 1) (wordAt (now (text .entry)) at) ⌝ }
+    ensures { λ r. ⌜ Placed (length (now (text .entry))) (placeFrom (at + 1) (wordAt (now (text .entry)) at)) (partShown r) ⌝ }
 {
     match string(text, at) {
         Read::To(stop) => between(at + 1, stop - 1),
@@ -41,7 +42,7 @@ fn part_from(text: &[u8], at: usize) -> Part
 
 // The same for a string that may be absent.
 pub fn part_at(text: &[u8], place: Place) -> Part
-    ensures { λ r. ⌜ partShown r ≡ placeOf (textIn (now (text .entry)) place) ⌝ }
+    ensures { λ r. ⌜ Placed (length (now (text .entry))) (placeOf (textIn (now (text .entry)) place)) (partShown r) ⌝ }
 {
     match place {
         Place::None => between(0, 0),

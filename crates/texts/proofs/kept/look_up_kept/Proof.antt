@@ -1,8 +1,9 @@
 -- `texts::kept::look_up_kept` meets its contract.
-use mathlib.Core.Path.{ap, _∙_}
+use mathlib.Core.Path.{ap}
 use borrow.Author.Tests.{not-true, not-false}
 use Rattle.table.specs.Call.{placeOf}
 use Rattle.texts.specs.Shown.{shownBy}
+use Rattle.texts.proofs.PartLaws.{empty-placed, placed-same}
 use borrow.Author.Needs.{needs}
 use Rattle.texts.proofs.kept.look_up_kept.Statement.{statement}
 use Rattle.texts.proofs.kept.look_up_kept.Tie as tie
@@ -12,7 +13,7 @@ is-id-requires c κs = search needs
 
 returns : tie.Need-returns
 unfolding shownBy
-returns c = rw (← (c .before .is-id .ensures), not-true (c .before .is-id .result) (c .if1 .taken))
+returns c = rw (← (c .before .is-id .ensures), not-true (c .before .is-id .result) (c .if1 .taken)) (empty-placed _ _)
 
 returns-2 : tie.Need-returns-2
 unfolding shownBy
@@ -22,7 +23,7 @@ returns-2 c =
       ← (c .before .before .is-id .ensures),
       not-false (c .before .before .is-id .result) (c .before .if1 .left),
       not-true (q .args .public) (c .if2 .taken),
-    )
+    ) (empty-placed _ _)
 
 text-by-requires : tie.Need-text-by-requires
 text-by-requires c κs = search needs
@@ -38,7 +39,7 @@ returns-3 c =
       ← (c .before .before .before .before .is-id .ensures),
       not-false (c .before .before .before .before .is-id .result) (c .before .before .before .if1 .left),
       not-false (q .args .public) (c .before .before .if2 .left),
-    ) (c .part-at .ensures ∙ ap placeOf (c .before .text-by .ensures))
+    ) (placed-same _ _ _ (ap placeOf (c .before .text-by .ensures)) _ (c .part-at .ensures))
 
 pub look-up-kept-spec : {M : Type 1} → statement M
 look-up-kept-spec =

@@ -1,6 +1,7 @@
 -- `texts::parts::part_at` meets its contract.
+use mathlib.Core.Path.{refl}
 use Rattle.table.specs.Call.{placeOf}
-use Rattle.texts.specs.Shown.{spanned}
+use Rattle.texts.proofs.PartLaws.{none-placed}
 use borrow.Author.Needs.{needs}
 use Rattle.texts.proofs.parts.part_at.Statement.{statement}
 use Rattle.texts.proofs.parts.part_at.Tie as tie
@@ -18,8 +19,8 @@ part-from-requires : tie.Need-part-from-requires
 part-from-requires c κs = search needs
 
 returns : tie.Need-returns
-unfolding placeOf spanned
-returns c = rw (c .before .enum-told .given .1) (c .between .ensures)
+unfolding placeOf
+returns c = rw (c .before .enum-told .given .1) (none-placed _ _ _ (c .between .ensures) refl)
 
 returns-2 : tie.Need-returns-2
 unfolding placeOf

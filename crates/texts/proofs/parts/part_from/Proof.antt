@@ -4,7 +4,7 @@ use native.Mathlib.Omega.{arith}
 use Rattle.property.specs.Words.{wordAt}
 use Rattle.property.proofs.Ends.{string-end}
 use Rattle.property.proofs.Words.{raw-none}
-use Rattle.texts.proofs.PartLaws.{raw-place, no-place}
+use Rattle.texts.proofs.PartLaws.{raw-placed, none-placed, no-bytes}
 use borrow.Author.Needs.{needs}
 use Rattle.texts.proofs.parts.part_from.Statement.{statement}
 use Rattle.texts.proofs.parts.part_from.Tie as tie
@@ -45,21 +45,23 @@ between-requires-3 c κs = search needs
 returns : tie.Need-returns
 unfolding wordAt
 returns c =
+    let e = string-end _ _ _ (sym (c .before .before .before .before .string .ensures) ∙ c .before .before .stop .given .1) in
     rw (
       ← (c .before .before .before .before .string .ensures),
       c .before .before .stop .given .1,
-      raw-place,
-    ) (c .between .ensures)
+    ) (raw-placed _ _ _ (e .0) (e .1) _ (c .between .ensures))
 
 returns-2 : tie.Need-returns-2
 unfolding wordAt
 returns-2 c =
-    rw (← (c .before .before .before .string .ensures), c .before .enum-told .given .1, raw-none, no-place) (c .between2 .ensures)
+    rw (← (c .before .before .before .string .ensures), c .before .enum-told .given .1, raw-none)
+    (none-placed _ _ _ (c .between2 .ensures) (no-bytes _))
 
 returns-3 : tie.Need-returns-3
 unfolding wordAt
 returns-3 c =
-    rw (← (c .before .before .before .string .ensures), c .before .enum-told2 .given .1, raw-none, no-place) (c .between3 .ensures)
+    rw (← (c .before .before .before .string .ensures), c .before .enum-told2 .given .1, raw-none)
+    (none-placed _ _ _ (c .between3 .ensures) (no-bytes _))
 
 pub part-from-spec : {M : Type 1} → statement M
 part-from-spec =
