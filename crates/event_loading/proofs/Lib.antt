@@ -1,1 +1,4 @@
 pub mod PlaceLaws
+pub mod PatchLaws
+pub mod YearLaws
+pub mod KeptLaws
