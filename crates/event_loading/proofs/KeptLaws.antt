@@ -1,9 +1,10 @@
 -- What a call keeps of an accepted event stands for it, for the callers of `lists`.
-use Prim.Native.Nat.{ℕ, _*_, _/_, _<_, _≤_, _^_}
+use Prim.Native.Nat.{ℕ, _*_, _<_, _≤_, _^_}
 use mathlib.Core.Bool.{Bool, true, false}
 use mathlib.Core.List.{List, [], map}
-use mathlib.Core.Path.{_≡_, refl, sym, ap, subst, _∙_}
+use mathlib.Core.Path.{_≡_, sym, ap, subst, _∙_}
 use native.Mathlib.Omega.{arith}
+use lib.IntN.{ℤ}
 use lib.ListN.{length, take, length-map}
 use Rattle.property.specs.From.{valueIn}
 use Rattle.property.proofs.Ranges.{Short}
@@ -13,7 +14,7 @@ use Rattle.event.specs.Event.{eventFault, eventOf}
 use Rattle.event.specs.Overrides.{readOverrides}
 use Rattle.event.specs.Reading.{optional}
 use Rattle.event.specs.Rules.{readRules}
-use Rattle.event.specs.Types.{Details, Override, Event}
+use Rattle.event.specs.Types.{Details, Override}
 use Rattle.override_text.specs.declared.Own.{Own}
 use Rattle.override_text.specs.Lists.{Filled}
 use Rattle.override_text.specs.Meaning.{detailsIn}
@@ -23,18 +24,20 @@ use Rattle.event_text.specs.Held.{fromHead}
 use Rattle.event_text.specs.declared.Head.{Head}
 use Rattle.event_text.proofs.Accepted.{Accepted}
 use Rattle.event_text.proofs.FromHead.{head-details, head-rules, head-excluded, head-overrides, head-accepted}
+use Rattle.table.specs.Window.{since1600, validWindow}
 use Rattle.table.specs.Occurrence.{datesOf, isOccurrence, overrideAt, patchedBy, detailsAt}
-use Rattle.recurrence.specs.Event as recurrence
 use Rattle.dates.specs.declared.Tracks.{Tracks}
 use Rattle.dates.specs.Tracked.{tracksOf}
 use Rattle.dates.specs.Loaded.{loaded}
 use Rattle.dates.specs.Stands.{Settles, Stands, overridesOf}
+use Rattle.window.specs.Chunks.{Window}
 use Rattle.record.specs.Occurrences.{Small}
 use Rattle.writing.specs.Details.{detailsBy, timesIn}
 use Rattle.writing.specs.Runs.{Overridden}
 use Rattle.loading.specs.Rules.{Season, SettledRules}
 use Rattle.event_loading.specs.Patches.{patchesIn}
 use Rattle.event_loading.proofs.PatchLaws.{front-stored, dates-same, details-same, small-each, Ranged, patches-many, patches-each, patches-range, patches-most}
+use Rattle.event_loading.proofs.WindowLaws.{window-in}
 use Rattle.event_loading.proofs.YearLaws.{event-years}
 
 module _ (s : List ℕ) (h : Head) (is : fromHead inner s h ≡ frontOf s) (ok : eventFault s ≡ 0) where
@@ -47,6 +50,12 @@ module _ (s : List ℕ) (h : Head) (is : fromHead inner s h ≡ frontOf s) (ok :
   pub kept-season : (limit : ℕ) → limit ≤ endDay → Season (h .start) limit
   kept-season limit within =
       record { low = omega (arith, fine .start .from); high = omega (arith, fine .start .to); within = within }
+
+  pub kept-start : (o : Own) → detailsIn s o ≡ fromHead inner s h .details → o .start ≡ h .start
+  kept-start o same = ap (λ (d : Details). d .start) same
+
+  pub kept-window : (from to : ℤ) → validWindow from to ≡ true → Window (h .start) (since1600 from) (since1600 to)
+  kept-window from to valid = window-in from to valid (h .start) (omega (arith, fine .start .to))
 
   ranged : Ranged (eventOf s .overrides)
   unfolding mine

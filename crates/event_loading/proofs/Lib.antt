@@ -1,4 +1,5 @@
 pub mod PlaceLaws
 pub mod PatchLaws
+pub mod WindowLaws
 pub mod YearLaws
 pub mod KeptLaws

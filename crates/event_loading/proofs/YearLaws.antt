@@ -1,9 +1,9 @@
 -- The occurrences of an accepted event lie in the years 1601 to 9998.
-use Prim.Native.Nat.{ℕ, zero, suc, _*_, _/_, _%_, _<_, _≤_}
-use mathlib.Core.Bool.{Bool, true, false, false≢true, not, _&&_, _||_}
+use Prim.Native.Nat.{ℕ, suc, _/_, _<_, _≤_}
+use mathlib.Core.Bool.{true, false, false≢true, not, _&&_, _||_}
 use mathlib.Core.List.{List, [], _∷_, map}
-use mathlib.Core.Logic.{_⊎_, inl, inr, ⊎-elim}
-use mathlib.Core.Path.{_≡_, refl, sym, ap, subst, _∙_}
+use mathlib.Core.Logic.{_⊎_, ⊎-elim}
+use mathlib.Core.Path.{_≡_, sym, subst}
 use native.Mathlib.Omega.{arith}
 use borrow.Author.Tests.{eqb-true}
 use lib.Dec.{eqb}
@@ -11,7 +11,7 @@ use Rattle.rule.specs.Written.{RecurrenceRule}
 use Rattle.rule.specs.Lists.{any, notAfter}
 use Rattle.rule.specs.Gives.{endDay, onDay, picks, falls, gives}
 use Rattle.rule.proofs.Bools.{or-either, left, right}
-use Rattle.rule.proofs.GivesLaws.{Given, given-parts, picks-low}
+use Rattle.rule.proofs.GivesLaws.{given-parts, picks-low}
 use Rattle.event.specs.Types.{Override, Event}
 use Rattle.recurrence.specs.Event as recurrence
 use Rattle.recurrence.specs.Event.{overrideExcludes, overrideNames, isStart, someGives, ruleGives, excludedRuleGives, inSet}

@@ -1,3 +1,3 @@
 pub mod RowLaws
 pub mod OccurrenceLaws
-mod WindowLaws
+pub mod WindowLaws
