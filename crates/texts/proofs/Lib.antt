@@ -1,2 +1,5 @@
 pub mod PartLaws
 pub mod TextLaws
+pub mod EventLaws
+pub mod DateLaws
+pub mod LookLaws
