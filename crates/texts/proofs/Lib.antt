@@ -3,3 +3,4 @@ pub mod TextLaws
 pub mod EventLaws
 pub mod DateLaws
 pub mod LookLaws
+pub mod CallLaws

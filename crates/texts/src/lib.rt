@@ -1,4 +1,5 @@
 // The texts of one occurrence, its title and its description, as parts of the event's text.
+pub mod calls;
 pub mod events;
 pub mod kept;
 pub mod parts;
