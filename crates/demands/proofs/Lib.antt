@@ -1,0 +1,4 @@
+pub mod Lowest
+pub mod FaultLaws
+pub mod TextAnswers
+pub mod DemandOne

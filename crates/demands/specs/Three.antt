@@ -1,0 +1,39 @@
+-- Demand 3: "Two accepted private events that agree on the listed points are indistinguishable through the library, byte for byte in the whole
+-- buffer; two accepted secret ones are too, whatever they hold."
+use Prim.Native.Nat.{ℕ}
+use mathlib.Core.List.{List}
+use mathlib.Core.Path.{_≡_}
+use lib.IntN.{ℤ}
+use Rattle.words.specs.declared.Privacy.{Privacy}
+use Rattle.event.specs.Event.{eventOf}
+use Rattle.table.specs.Bytes.{ZoneTable}
+use Rattle.table.specs.Call.{textFault, expandText, titleOf, descriptionOf}
+use Rattle.table.specs.Results.{Gives, Shows}
+
+-- An accepted text of an event of that privacy.
+pub record Accepted (privacy : Privacy) (s : List ℕ) : Type 0 where
+  pub accepted : textFault s ≡ 0
+  pub setting : eventOf s .privacy ≡ privacy
+
+-- What two calls hand back: the answer, the length, and every byte of the buffer.
+pub record SameTable (answer answer′ size size′ : ℕ) (after after′ : List ℕ) : Type 0 where
+  pub answers : answer ≡ answer′
+  pub sizes : size ≡ size′
+  pub bytes : after ≡ after′
+
+-- The answer of a text's call is the same, and no words come out of either.
+pub record SameText (answer answer′ start start′ size size′ : ℕ) : Type 0 where
+  pub answers : answer ≡ answer′
+  pub noWords : ((start ≡ 0) × (size ≡ 0)) × ((start′ ≡ 0) × (size′ ≡ 0))
+
+-- Whatever zone table, window and buffer: tables are the same when name, initial offset and entries are, buffers when lengths and bytes are.
+-- Whatever date.
+pub record Indistinguishable (s t : List ℕ) : Type 0 where
+  pub table : (zones : ZoneTable) (from to : ℤ) (buffer : List ℕ) (answer answer′ size size′ : ℕ) (after after′ : List ℕ)
+      → Gives (expandText zones s from to buffer) answer size after → Gives (expandText zones t from to buffer) answer′ size′ after′
+      → SameTable answer answer′ size size′ after after′
+  pub title : (date : ℤ) (answer answer′ start start′ size size′ : ℕ)
+      → Shows (titleOf s date) answer start size → Shows (titleOf t date) answer′ start′ size′ → SameText answer answer′ start start′ size size′
+  pub description : (date : ℤ) (answer answer′ start start′ size size′ : ℕ)
+      → Shows (descriptionOf s date) answer start size → Shows (descriptionOf t date) answer′ start′ size′
+      → SameText answer answer′ start start′ size size′
