@@ -47,18 +47,18 @@ lowest-of m [] r = record { done = λ e n. refl; given = λ h. absurd (h refl); 
 lowest-of m (c ∷ l) r = by (c .holds) refl (lowest-of (c .number) l (r .1))
   where
     here : c .holds ≡ true → Lowest (c ∷ l) (c .number)
-    here e = record { 
-        done = λ z. absurd (omega (arith, r .0, z));
-        given = λ h. head-here c l e;
-        lowest = λ n h. rw (ne-eqb (c .number) n (λ q. omega arith)) (below (c .number) l (r .1) n (omega arith));
-      }
+    here e = record {
+      done = λ z. absurd (omega (arith, r .0, z));
+      given = λ h. head-here c l e;
+      lowest = λ n h. rw (ne-eqb (c .number) n (λ q. omega arith)) (below (c .number) l (r .1) n (omega arith));
+    }
 
     later : c .holds ≡ false → Lowest l (lowestOf l) → Lowest (c ∷ l) (lowestOf l)
     later e rest = record {
-        done = λ z n. head-none c l n e ∙ rest .done z n;
-        given = λ h. head-none c l (lowestOf l) e ∙ rest .given h;
-        lowest = λ n h. head-none c l n e ∙ rest .lowest n h;
-      }
+      done = λ z n. head-none c l n e ∙ rest .done z n;
+      given = λ h. head-none c l (lowestOf l) e ∙ rest .given h;
+      lowest = λ n h. head-none c l n e ∙ rest .lowest n h;
+    }
 
     by : (t : Bool) → c .holds ≡ t → Lowest l (lowestOf l) → Lowest (c ∷ l) (if t then c .number else lowestOf l)
     by true e rest = here e

@@ -9,6 +9,10 @@ use Rattle.event.specs.Event.{eventOf}
 use Rattle.table.specs.Bytes.{ZoneTable}
 use Rattle.table.specs.Call.{textFault, expandText, titleOf, descriptionOf}
 use Rattle.table.specs.Results.{Gives, Shows}
+use Rattle.table.specs.Window.{since1600}
+use Rattle.table.specs.Occurrence.{occurrences}
+use Rattle.demands.specs.One.{TableAnswered}
+use Rattle.demands.specs.Two.{Listed}
 
 -- An accepted text of an event of that privacy.
 pub record Accepted (privacy : Privacy) (s : List ℕ) : Type 0 where
@@ -21,10 +25,11 @@ pub record SameTable (answer answer′ size size′ : ℕ) (after after′ : Lis
   pub sizes : size ≡ size′
   pub bytes : after ≡ after′
 
--- The answer of a text's call is the same, and no words come out of either.
+-- What two calls for a text hand back: the same answer and place, and no words come out of either.
 pub record SameText (answer answer′ start start′ size size′ : ℕ) : Type 0 where
   pub answers : answer ≡ answer′
-  pub noWords : ((start ≡ 0) × (size ≡ 0)) × ((start′ ≡ 0) × (size′ ≡ 0))
+  pub starts : start ≡ start′
+  pub noWords : (size ≡ 0) × (size′ ≡ 0)
 
 -- Whatever zone table, window and buffer: tables are the same when name, initial offset and entries are, buffers when lengths and bytes are.
 -- Whatever date.
@@ -37,3 +42,10 @@ pub record Indistinguishable (s t : List ℕ) : Type 0 where
   pub description : (date : ℤ) (answer answer′ start start′ size size′ : ℕ)
       → Shows (descriptionOf s date) answer start size → Shows (descriptionOf t date) answer′ start′ size′
       → SameText answer answer′ start start′ size size′
+
+-- "demand 3 says the bytes are demand 2's": what the one call handed back is what the other hands back, it is answered by demand 1, and where it
+-- is answered 0 its bytes are those of demand 2.
+pub record PrivatePair (zones : ZoneTable) (s t : List ℕ) (from to : ℤ) (buffer : List ℕ) (answer size : ℕ) (after : List ℕ) : Type 0 where
+  pub other : Gives (expandText zones t from to buffer) answer size after
+  pub answered : TableAnswered zones s from to buffer answer size after
+  pub listed : answer ≡ 0 → Listed zones (eventOf s) from to buffer size after (occurrences (eventOf s) (since1600 from) (since1600 to))
