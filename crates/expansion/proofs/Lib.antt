@@ -1,2 +1,3 @@
 pub mod CallLaws
+pub mod AcceptedLaws
 pub mod ShownLaws

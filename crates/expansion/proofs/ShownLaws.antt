@@ -1,1 +1,152 @@
--- What the calls of `put_shown` say, joined.
+-- What the calls of `put_shown` say of an accepted event, joined: hd is its head, o its own details.
+use Prim.Native.Nat.{ℕ, _+_, _*_, _<_, _≤_}
+use mathlib.Core.Bool.{Bool, true, false}
+use mathlib.Core.List.{List, [], map}
+use mathlib.Core.Path.{_≡_, refl, sym, ap, subst, _∙_}
+use native.Mathlib.Omega.{arith}
+use lib.IntN.{ℤ}
+use lib.ListN.{length, take}
+use lib.Seq.{sets, length-sets, length-take-le}
+use mir.Syntax.{w64}
+use mir.Val.{SFits, toZ, ofZ}
+use mir.Facts.{toZ-ofZ}
+use Rattle.zone.specs.Table.{validTable}
+use Rattle.rule.specs.Gives.{endDay}
+use Rattle.property.specs.From.{nameIn, valueIn}
+use Rattle.event.specs.Event.{eventFault, eventOf}
+use Rattle.event.specs.Overrides.{readOverrides}
+use Rattle.event.specs.Reading.{optional}
+use Rattle.event.specs.Rules.{readRules}
+use Rattle.event.specs.Types.{Details, Override}
+use Rattle.override_text.specs.declared.Own.{Own}
+use Rattle.override_text.specs.Lists.{Filled}
+use Rattle.override_text.specs.Meaning.{detailsIn}
+use Rattle.event_text.specs.Front.{frontOf, inner}
+use Rattle.event_text.specs.Held.{fromHead}
+use Rattle.event_text.specs.declared.Head.{Head}
+use Rattle.event_text.proofs.FromHead.{head-zone, head-accepted}
+use Rattle.dates.specs.declared.Tracks.{Tracks}
+use Rattle.dates.specs.Loaded.{Loaded, loaded, isIn}
+use Rattle.dates.specs.Stands.{Stands}
+use Rattle.window.specs.Chunks.{Window, Ready}
+use Rattle.table.specs.Occurrence.{datesOf}
+use Rattle.table.specs.Bytes.{ZoneTable, isFloating}
+use Rattle.table.specs.Answer.{Outcome}
+use Rattle.table.specs.Results.{zonesOf, Gives}
+use Rattle.writing.specs.Details.{detailsBy, rowBy}
+use Rattle.writing.specs.Runs.{Overridden, Timed}
+use Rattle.loading.specs.Rules.{Season, SettledRules}
+use Rattle.event_loading.specs.Limit.{limitOf}
+use Rattle.event_loading.specs.Patches.{patchesIn}
+use Rattle.event_loading.proofs.KeptLaws.{kept-season, kept-start, kept-bounds, kept-even, kept-details, kept-small, kept-stands}
+use Rattle.event_loading.proofs.WindowLaws.{limit-within, limit-enough}
+use Rattle.tables.specs.Sheet.{sheetBy, fitted}
+use Rattle.tables.proofs.EventLaws.{sheet-is}
+use Rattle.expansion.specs.Shown.{sheetOf}
+
+-- the lists that were filled from the front are as long as before
+module _ (overrides : List Override) (patches : List ℕ) (ids₀ ids₁ : List ℕ) (gone₀ gone₁ : List Bool) (places₀ places₁ : List ℕ) (n : ℕ)
+    (w : Filled overrides patches ids₀ ids₁ gone₀ gone₁ places₀ places₁ n) where
+  ids-long : length ids₁ ≡ length ids₀
+  ids-long = ap length (w .ids) ∙ length-sets ids₀ 0 (take 256 (map (λ (o : Override). o .id) overrides))
+
+  gone-long : length gone₁ ≡ length gone₀
+  gone-long = ap length (w .gone) ∙ length-sets gone₀ 0 (take 256 (map (λ (o : Override). o .excluded) overrides))
+
+  places-long : length places₁ ≡ length places₀
+  places-long = ap length (w .places) ∙ length-sets places₀ 0 (take 256 patches)
+
+taken : {A : Type 0} (l : List A) (n : ℕ) → n ≤ length l → n ≡ length (take n l)
+taken l n h = sym (length-take-le n l h)
+
+module _ (s : List ℕ) (hd : Head) (is : fromHead inner s hd ≡ frontOf s) (ok : eventFault s ≡ 0) (to limit : ℕ) (lim : limit ≡ limitOf to) where
+  within : limit ≤ endDay
+  within = rw lim (limit-within to)
+
+  pub rules-need : (optional [] readRules (valueIn inner s (hd .rules)) .fault ≡ 0) × Season (hd .start) limit
+  rules-need = (head-accepted s hd is ok .rules, kept-season s hd is ok limit within)
+
+  pub excluded-need : (optional [] readRules (valueIn inner s (hd .excluded)) .fault ≡ 0) × Season (hd .start) limit
+  excluded-need = (head-accepted s hd is ok .excluded, kept-season s hd is ok limit within)
+
+  module _ (o : Own) (own : (t : List ℕ) → detailsIn t o ≡ fromHead inner t hd .details) (ids₀ ids₁ : List ℕ) (gone₀ gone₁ : List Bool) (places₀ places₁ : List ℕ) (n : ℕ)
+      (room : (256 ≤ length ids₀) × ((256 ≤ length gone₀) × (256 ≤ length places₀)))
+      (filled : (d : Details)
+      → Filled (optional [] (readOverrides d) (valueIn inner s (hd .overrides)) .value) (patchesIn s (hd .overrides)) ids₀ ids₁ gone₀ gone₁ places₀ places₁ n)
+    where
+      few : n ≤ 256
+      few = kept-bounds s hd is ok o (own s) ids₀ ids₁ gone₀ gone₁ places₀ places₁ n room filled
+
+      pub ids-room : n ≤ length ids₁
+      ids-room = omega (arith, few, room .0, ids-long _ _ _ _ _ _ _ _ _ (filled (detailsIn s o)))
+
+      pub gone-room : n ≤ length gone₁
+      gone-room = omega (arith, few, room .1 .0, gone-long _ _ _ _ _ _ _ _ _ (filled (detailsIn s o)))
+
+      pub places-room : n ≤ length places₁
+      places-room = omega (arith, few, room .1 .1, places-long _ _ _ _ _ _ _ _ _ (filled (detailsIn s o)))
+
+      pub ids-taken : n ≡ length (take n ids₁)
+      ids-taken = taken ids₁ n ids-room
+
+      pub gone-taken : n ≡ length (take n gone₁)
+      gone-taken = taken gone₁ n gone-room
+
+      pub places-taken : n ≡ length (take n places₁)
+      places-taken = taken places₁ n places-room
+
+      module _ (rules : Tracks) (flags : List Bool) (excluded : Tracks) (excludedFlags : List Bool)
+          (kept : SettledRules false (hd .start) limit (optional [] readRules (valueIn inner s (hd .rules)) .value) rules flags)
+          (left : SettledRules true (hd .start) limit (optional [] readRules (valueIn inner s (hd .excluded)) .value) excluded excludedFlags) (from : ℕ)
+          (w : Window (hd .start) from to) (b : ℤ) (ts ns : List ℤ) (fb : SFits w64 b)
+        where
+          begins : o .start ≡ hd .start
+          begins = kept-start s hd is ok o (own s)
+
+          pub table-needs : validTable b ts ns ≡ true
+              → Ready rules (length flags) excluded (length excludedFlags) (length (take n ids₁)) (length (take n gone₁)) 1024
+              × (Window (o .start) from to × (Overridden (length (take n ids₁)) (length (take n gone₁)) (length (take n places₁))
+              × Timed (toZ w64 (ofZ w64 b)) ts ns (detailsBy s (detailsIn s o) (take n ids₁) (take n places₁))))
+          table-needs valid =
+              let even = kept-even s hd is ok o (own s) ids₀ ids₁ gone₀ gone₁ places₀ places₁ n room filled in (
+                record { rules-tracked = kept .tracked; excluded-tracked = left .tracked; overrides = even .marks; lent = omega arith },
+                (
+                  subst (λ (k : ℕ). Window k from to) (sym begins) w,
+                  (
+                    even,
+                    record {
+                      valid = rw (toZ-ofZ fb) valid;
+                      small = kept-small s hd is ok o (own s) ids₀ ids₁ gone₀ gone₁ places₀ places₁ n room filled;
+                    },
+                  ),
+                ),
+              )
+
+          l : Loaded
+          l = loaded (hd .start) rules flags excluded excludedFlags (take n ids₁) (take n gone₁)
+
+          stands : Stands (datesOf (eventOf s)) limit l
+          unfolding l
+          stands = kept-stands s hd is ok o (own s) ids₀ ids₁ gone₀ gone₁ places₀ places₁ n room filled limit within rules flags excluded excludedFlags kept left
+
+          enough : to ≤ 86400 * limit
+          enough = rw lim (limit-enough to (w .high))
+
+          sheet-same : (name : List ℕ) (floating : Bool) → floating ≡ isFloating (nameIn s (hd .zone))
+              → sheetBy (rowBy floating b ts ns (detailsBy s (detailsIn s o) (take n ids₁) (take n places₁))) (isIn l) from to ≡ sheetOf (zonesOf name b ts ns) (eventOf s) from to
+          unfolding sheetOf
+          sheet-same name floating f =
+              sheet-is (zonesOf name b ts ns) (eventOf s) (detailsBy s (detailsIn s o) (take n ids₁) (take n places₁))
+              (kept-details s hd is ok o (own s) ids₀ ids₁ gone₀ gone₁ places₀ places₁ n room filled) floating
+              (f ∙ ap isFloating (sym (head-zone s hd is))) from to (w .order) limit l stands enough
+
+          pub table-given : (floating : Bool) → floating ≡ isFloating (nameIn s (hd .zone)) → (buffer : List ℕ) (r k : ℕ) (after : List ℕ)
+              → Gives (fitted (sheetBy (rowBy floating (toZ w64 (ofZ w64 b)) ts ns (detailsBy s (detailsIn s o) (take n ids₁) (take n places₁)))
+              (isIn (loaded (o .start) rules flags excluded excludedFlags (take n ids₁) (take n gone₁))) from to) buffer) r k after
+              → (name : List ℕ) → Gives (fitted (sheetOf (zonesOf name b ts ns) (eventOf s) from to) buffer) r k after
+          unfolding l
+          table-given floating f buffer r k after g name =
+              let here = rw (toZ-ofZ fb) at g in
+              subst (λ (t : List ℕ). Gives (fitted t buffer) r k after) (sheet-same name floating f)
+              (subst (λ (start : ℕ). Gives (fitted (sheetBy (rowBy floating b ts ns (detailsBy s (detailsIn s o) (take n ids₁) (take n places₁)))
+              (isIn (loaded start rules flags excluded excludedFlags (take n ids₁) (take n gone₁))) from to) buffer) r k after) begins here)
