@@ -55,11 +55,11 @@ Judged n = isFault n ≡ true
 -- ---- joins and choices
 
 module _ {A : Type 0} (P : A → Type 0) where
-  pick : (t : Bool) (a b : A) → P a → P b → P (if t then a else b)
+  pub pick : (t : Bool) (a b : A) → P a → P b → P (if t then a else b)
   pick true a b p q = p
   pick false a b p q = q
 
-  pick-text : (t : Bool) (a b : A) → P a → P b → P (choice.if_then_else_ t a b)
+  pub pick-text : (t : Bool) (a b : A) → P a → P b → P (choice.if_then_else_ t a b)
   pick-text true a b p q = p
   pick-text false a b p q = q
 

@@ -5,3 +5,5 @@ pub mod DemandOne
 pub mod TableParts
 pub mod DemandTwo
 pub mod DemandThree
+pub mod OwnBytes
+pub mod DemandTwoTexts

@@ -46,8 +46,9 @@ rawOf none = []
 rawOf (some t) = t .raw
 
 -- "texts": the part of the caller's own text that a call shows of a public event is the text of that occurrence, after its patch.
-pub record Told (which : Details → Option Text) (s : List ℕ) (e : Event) (date : ℤ) (start size : ℕ) (x : ℕ) : Type 0 where
-  pub dated : dateTimeOf date ≡ some x
-  pub occurs : isOccurrence e x ≡ true
-  pub part : take size (drop start s) ≡ rawOf (which (detailsAt e x))
-  pub sizeIs : size ≡ length (rawOf (which (detailsAt e x)))
+pub record Told (which : Details → Option Text) (s : List ℕ) (e : Event) (date : ℤ) (start size : ℕ) : Type 0 where
+  pub id : ℕ
+  pub dated : dateTimeOf date ≡ some id
+  pub occurs : isOccurrence e id ≡ true
+  pub part : take size (drop start s) ≡ rawOf (which (detailsAt e id))
+  pub sizeIs : size ≡ length (rawOf (which (detailsAt e id)))
