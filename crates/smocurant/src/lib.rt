@@ -1,0 +1,3 @@
+// The exported functions: what the ingest service links and calls.
+pub mod by_entries;
+pub mod by_numbers;
