@@ -1,10 +1,12 @@
 -- The place of a text by how many bytes it has.
 use Prim.Native.Nat.{ℕ, zero, suc, _+_, _-_, _≤_}
+use mathlib.Core.Bool.{Bool, true, false}
 use mathlib.Core.List.{List, []}
 use mathlib.Core.Path.{_≡_, refl, ap, sym, subst, _∙_}
 use native.Mathlib.Omega.{arith}
 use lib.ListN.{length}
 use borrow.Author.Tests.{ne-eqb}
+use Rattle.signed.specs.Choose.{if_then_else_}
 use Rattle.json_walk.specs.Strings.{bytesAt, rawAt}
 use Rattle.table.specs.Call.{Shown, noPlace, placeFrom}
 use Rattle.texts.specs.Shown.{spanned, Placed}
@@ -53,3 +55,8 @@ empty-placed size answer = record { is = refl; within = omega arith }
 
 pub placed-same : (size : ℕ) (o u : Shown) → o ≡ u → (r : Shown) → Placed size o r → Placed size u r
 placed-same size o u e r p = record { is = p .is ∙ e; within = p .within }
+
+-- Only a public event shows what was found.
+pub visible-placed : (size : ℕ) (o q : Shown) → Placed size o q → (all : Bool) (r : Shown) → r ≡ (if all then q else noPlace 0) → Placed size (if all then o else noPlace 0) r
+visible-placed size o q p true r e = record { is = e ∙ p .is; within = subst (λ (u : Shown). u .start + u .length ≤ size) (sym e) (p .within) }
+visible-placed size o q p false r e = record { is = e; within = subst (λ (u : Shown). u .start + u .length ≤ size) (sym e) (omega arith) }

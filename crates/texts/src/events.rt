@@ -22,6 +22,10 @@ use event_text::heads::head;
 use event_text::heads::own_of;
 use record::window::since_1600;
 
+// The first second of 1601 and the second behind 9998, from 1600-01-01T00:00:00.
+const FIRST: u64 = 31622400;
+const END: u64 = 265046860800;
+
 // Days behind that of the date are not asked for.
 fn look_up_event(text: &[u8], title: bool, public: bool, head: Head, x: u64) -> Lookup
     requires { ⌜ ((fromHead inner (now text) head ≡ frontOf (now text)) × (eventFault (now text) ≡ 0)) × ((366 * 86400 ≤ x) × (x < 86400 * endDay)) ⌝ }
@@ -76,10 +80,10 @@ pub fn look_up(text: &[u8], title: bool, date: i64) -> Lookup
 {
     let head = head(text);
     let x = since_1600(date);
-    if x < 31622400 {
+    if x < FIRST {
         return Lookup::Missing;
     }
-    if 265046860800 <= x {
+    if END <= x {
         return Lookup::Missing;
     }
     look_up_at(text, title, head, x)

@@ -2,13 +2,14 @@
 ghost use mathlib.Core.Path.{_≡_};
 ghost use Prim.Native.Nat.{_+_};
 ghost use lib.ListN.{length};
+ghost use Rattle.signed.specs.Choose.{if_then_else_};
 ghost use Rattle.override_text.specs.Meaning.{detailsIn};
 ghost use Rattle.dates.specs.Loaded.{loaded, isIn};
 ghost use Rattle.window.specs.Chunks.{Window, Ready};
 ghost use Rattle.writing.specs.Details.{detailsBy};
 ghost use Rattle.writing.specs.Runs.{Overridden};
-ghost use Rattle.table.specs.Call.{placeOf};
-ghost use Rattle.texts.specs.Shown.{lookupShown, Placed, chosen, shownBy};
+ghost use Rattle.table.specs.Call.{placeOf, noPlace};
+ghost use Rattle.texts.specs.Shown.{partShown, lookupShown, Placed, chosen, shownBy};
 use crate::Lookup;
 use crate::Part;
 use crate::parts::part_at;
@@ -18,6 +19,19 @@ use override_text::Own;
 use window::whole::is_id;
 
 // "For a private event, or where there are none, the part has no bytes."
+fn visible(public: bool, part: Part) -> Part
+    ensures { λ r. ⌜ partShown r ≡ (if public then partShown part else noPlace 0) ⌝ }
+{
+    if public {
+        return part;
+    }
+    Part {
+        start: 0,
+        length: 0,
+    }
+}
+
+// The text of the occurrence x of an event that is not secret.
 pub fn look_up_kept(
     text: &[u8],
     title: bool,
@@ -50,13 +64,7 @@ pub fn look_up_kept(
     if !there {
         return Lookup::Missing;
     }
-    if !public {
-        return Lookup::Found(Part {
-            start: 0,
-            length: 0,
-        });
-    }
     let place = text_by(text, title, own, ids, places, x);
-    let part = part_at(text, place);
+    let part = visible(public, part_at(text, place));
     Lookup::Found(part)
 }

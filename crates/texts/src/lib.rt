@@ -1,9 +1,9 @@
 // The texts of one occurrence, its title and its description, as parts of the event's text.
 pub mod calls;
-pub mod events;
-pub mod kept;
-pub mod parts;
-pub mod patched;
+mod events;
+mod kept;
+mod parts;
+mod patched;
 
 // A part of the event's text: the place of its first byte and how many bytes it has; both 0 where it has none.
 pub struct Part {
