@@ -45,12 +45,16 @@ module _ (s : List ℕ) (own : Details) (ids places : List ℕ) (even : length i
       ≡ detailsBy s own (getD ids i 0 ∷ drop (suc i) ids) (getD places i 0 ∷ drop (suc i) places) x
   one i h = rw (drop-cons ids i 0 h, drop-cons places i 0 (omega arith))
 
-  pub seen-here : (i : ℕ) → i < length ids → Seen s own ids places x i → getD ids i 0 ≡ x → patchTimes own s (getD places i 0) x ≡ timesIn (detailsBy s own ids places x)
-  unfolding detailsBy patchTimes
-  seen-here i h seen e =
+  pub seen-patch : (i : ℕ) → i < length ids → Seen s own ids places x i → getD ids i 0 ≡ x → patchDetails own s (getD places i 0) x ≡ detailsBy s own ids places x
+  unfolding detailsBy
+  seen-patch i h seen e =
       let found : detailsBy s own (getD ids i 0 ∷ drop (suc i) ids) (getD places i 0 ∷ drop (suc i) places) x ≡ patchDetails own s (getD places i 0) (getD ids i 0) =
       rw (eq-eqb (getD ids i 0) x e) refl in
-      ap timesIn (ap (patchDetails own s (getD places i 0)) (sym e) ∙ (sym found ∙ (sym (one i h) ∙ seen .1)))
+      ap (patchDetails own s (getD places i 0)) (sym e) ∙ (sym found ∙ (sym (one i h) ∙ seen .1))
+
+  pub seen-here : (i : ℕ) → i < length ids → Seen s own ids places x i → getD ids i 0 ≡ x → patchTimes own s (getD places i 0) x ≡ timesIn (detailsBy s own ids places x)
+  unfolding patchTimes
+  seen-here i h seen e = ap timesIn (seen-patch i h seen e)
 
   pub seen-next : (i : ℕ) → i < length ids → Seen s own ids places x i → (getD ids i 0 ≡ x → ⊥) → Seen s own ids places x (i + 1)
   unfolding detailsBy
@@ -59,12 +63,16 @@ module _ (s : List ℕ) (own : Details) (ids places : List ℕ) (even : length i
       rw (ne-eqb (getD ids i 0) x differ) refl in
       (omega arith, rw (add-one i) (sym passed ∙ (sym (one i h) ∙ seen .1)))
 
-  pub seen-none : (i : ℕ) → length ids ≤ i → Seen s own ids places x i → timesFrom x (own .length .days) (own .length .seconds) (own .busy) (own .allDay) ≡ timesIn (detailsBy s own ids places x)
-  unfolding detailsBy timesIn withStart
-  seen-none i h seen =
+  pub seen-own : (i : ℕ) → length ids ≤ i → Seen s own ids places x i → withStart own x ≡ detailsBy s own ids places x
+  unfolding detailsBy
+  seen-own i h seen =
       let empty : drop i ids ≡ [] = drop-of-length-le ids h in
-      let own-times : detailsBy s own (drop i ids) (drop i places) x ≡ withStart own x = rw empty refl in
-      ap timesIn (sym own-times ∙ seen .1)
+      let own-details : detailsBy s own (drop i ids) (drop i places) x ≡ withStart own x = rw empty refl in
+      sym own-details ∙ seen .1
+
+  pub seen-none : (i : ℕ) → length ids ≤ i → Seen s own ids places x i → timesFrom x (own .length .days) (own .length .seconds) (own .busy) (own .allDay) ≡ timesIn (detailsBy s own ids places x)
+  unfolding timesIn withStart
+  seen-none i h seen = ap timesIn (seen-own i h seen)
 
 -- ---- the record: t the times that were found, the initial offset passed by its bits
 

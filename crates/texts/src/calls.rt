@@ -1,0 +1,72 @@
+// The calls for the texts of one occurrence. "the words need only text and date and answer 0 to 9 or 14"; a text is the caller's own bytes
+// between the quotes, and has none after a refusal.
+ghost use Rattle.table.specs.Call.{textOf, titleOf, descriptionOf};
+ghost use Rattle.table.specs.Results.{Shows};
+ghost use Rattle.texts.specs.Shown.{chosen, Tells};
+use crate::Lookup;
+use crate::events::look_up;
+use answers::texts::text_fault;
+
+// The place of the title or of the description in the text.
+fn place_of(text: &[u8], title: bool, date: i64, start: &mut u64, length: &mut u64) -> u32
+    ensures { λ r. ⌜ Shows (textOf (chosen title) (now (text .entry)) date) r (now (start .exit)) (now (length .exit)) ⌝ }
+{
+    *start = 0;
+    *length = 0;
+    let fault = text_fault(text);
+    if fault != 0 {
+        return fault;
+    }
+    let Lookup::Found(part) = look_up(text, title, date) else {
+        return 14;
+    };
+    *start = part.start as u64;
+    *length = part.length as u64;
+    0
+}
+
+// The title or the description as a part of the text; the number through `answer`.
+fn text_of<'a>(text: &'a [u8], title: bool, date: i64, answer: &mut u32) -> &'a [u8]
+    ensures { λ r. ⌜ Tells (textOf (chosen title) (now (text .entry)) date) (now (text .entry)) (now (answer .exit)) (now r) ⌝ }
+{
+    let fault = text_fault(text);
+    *answer = fault;
+    if fault != 0 {
+        return &text[0..0];
+    }
+    let Lookup::Found(part) = look_up(text, title, date) else {
+        *answer = 14;
+        return &text[0..0];
+    };
+    let start = part.start;
+    let end = start + part.length;
+    &text[start..end]
+}
+
+// Where the title stands in the text: its first byte and how many it has.
+pub fn title_place(text: &[u8], date: i64, start: &mut u64, length: &mut u64) -> u32
+    ensures { λ r. ⌜ Shows (titleOf (now (text .entry)) date) r (now (start .exit)) (now (length .exit)) ⌝ }
+{
+    place_of(text, true, date, start, length)
+}
+
+// Where the description stands in the text.
+pub fn description_place(text: &[u8], date: i64, start: &mut u64, length: &mut u64) -> u32
+    ensures { λ r. ⌜ Shows (descriptionOf (now (text .entry)) date) r (now (start .exit)) (now (length .exit)) ⌝ }
+{
+    place_of(text, false, date, start, length)
+}
+
+// The title as a part of the text.
+pub fn title<'a>(text: &'a [u8], date: i64, answer: &mut u32) -> &'a [u8]
+    ensures { λ r. ⌜ Tells (titleOf (now (text .entry)) date) (now (text .entry)) (now (answer .exit)) (now r) ⌝ }
+{
+    text_of(text, true, date, answer)
+}
+
+// The description as a part of the text.
+pub fn description<'a>(text: &'a [u8], date: i64, answer: &mut u32) -> &'a [u8]
+    ensures { λ r. ⌜ Tells (descriptionOf (now (text .entry)) date) (now (text .entry)) (now (answer .exit)) (now r) ⌝ }
+{
+    text_of(text, false, date, answer)
+}

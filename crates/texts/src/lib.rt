@@ -1,0 +1,18 @@
+// The texts of one occurrence, its title and its description, as parts of the event's text.
+pub mod calls;
+mod events;
+mod kept;
+mod parts;
+mod patched;
+
+// A part of the event's text: the place of its first byte and how many bytes it has; both 0 where it has none.
+pub struct Part {
+    pub start: usize,
+    pub length: usize,
+}
+
+// What is found for a date: the part that is shown, or that the date is no occurrence that may be told of.
+pub enum Lookup {
+    Found(Part),
+    Missing,
+}
