@@ -5,11 +5,10 @@ use mathlib.Core.List.{List}
 use mathlib.Core.Option.{Option}
 use mathlib.Core.Path.{_≡_, sym, ap, _∙_, subst}
 use lib.IntN.{ℤ}
-use Rattle.words.specs.declared.Privacy.{Privacy}
 use Rattle.words.specs.declared.Privacy.the-variants.{Private, Secret}
 use Rattle.event.specs.Types.{Text, Details}
 use Rattle.event.specs.Event.{eventOf}
-use Rattle.table.specs.Agree.{Agree}
+use Rattle.table.specs.Agree.{Agree, Accepted}
 use Rattle.table.specs.Window.{since1600}
 use Rattle.table.specs.Occurrence.{occurrences}
 use Rattle.table.specs.Bytes.{ZoneTable}
@@ -19,12 +18,9 @@ use Rattle.table.specs.Results.{Gives, Shows}
 use Rattle.table.proofs.DemandThree as definitions
 use Rattle.demands.specs.One.{TableAnswered}
 use Rattle.demands.specs.Two.{Listed}
-use Rattle.demands.specs.Three.{Accepted, SameTable, SameText, Indistinguishable, PrivatePair}
+use Rattle.demands.specs.Three.{SameTable, SameText, Indistinguishable, PrivatePair}
 use Rattle.demands.proofs.DemandOne.{table-answered}
 use Rattle.demands.proofs.DemandTwo.{table-listed}
-
-accepted-by : (privacy : Privacy) (s : List ℕ) → Accepted privacy s → definitions.Accepted privacy s
-accepted-by privacy s h = record { accepted = h .accepted; setting = h .setting }
 
 -- what two calls hand back, by what the definitions say of the two texts
 module _ (s t : List ℕ) (i : definitions.Indistinguishable s t) where
@@ -63,18 +59,18 @@ module _ (s t : List ℕ) (i : definitions.Indistinguishable s t) where
 -- "Two accepted private events that agree on the listed points are indistinguishable through the library, byte for byte in the whole buffer"
 pub private-indistinguishable : (s t : List ℕ) → Accepted Private s → Accepted Private t → Agree (eventOf s) (eventOf t) → Indistinguishable s t
 private-indistinguishable s t h k agree =
-    indistinguishable s t (definitions.demand-three-private s t (accepted-by Private s h) (accepted-by Private t k) agree)
+    indistinguishable s t (definitions.demand-three-private s t h k agree)
 
 -- "two accepted secret ones are too, whatever they hold"
 pub secret-indistinguishable : (s t : List ℕ) → Accepted Secret s → Accepted Secret t → Indistinguishable s t
-secret-indistinguishable s t h k = indistinguishable s t (definitions.demand-three-secret s t (accepted-by Secret s h) (accepted-by Secret t k))
+secret-indistinguishable s t h k = indistinguishable s t (definitions.demand-three-secret s t h k)
 
 -- and the private pair's bytes are those of demands 1 and 2
 pub private-pair : (s t : List ℕ) → Accepted Private s → Accepted Private t → Agree (eventOf s) (eventOf t)
     → (zones : ZoneTable) (from to : ℤ) (buffer : List ℕ) (answer size : ℕ) (after : List ℕ) → Gives (expandText zones s from to buffer) answer size after
     → PrivatePair zones s t from to buffer answer size after
 private-pair s t h k agree zones from to buffer answer size after g =
-    let e = definitions.demand-three-private s t (accepted-by Private s h) (accepted-by Private t k) agree .table zones from to buffer in
+    let e = definitions.demand-three-private s t h k agree .table zones from to buffer in
     record {
       other = subst (λ (o : Outcome). Gives o answer size after) e g;
       answered = table-answered zones s from to buffer answer size after g;

@@ -13,12 +13,12 @@ use Rattle.words.specs.declared.Privacy.{Privacy}
 use Rattle.words.specs.declared.Privacy.the-variants.{Public}
 use Rattle.event.specs.Types.{Text, Details, Event}
 use Rattle.event.specs.Event.{eventOf}
+use Rattle.table.specs.Agree.{Accepted}
 use Rattle.table.specs.Occurrence.{isOccurrence, detailsAt}
 use Rattle.table.specs.Answer.{isPublic, isSecret, dateTimeOf, textAnswerFor, textAnswer}
 use Rattle.table.specs.Call.{Shown, textFault, placeFrom, placeOf, noPlace, shownFor, shownAt, textOf, titleOf, descriptionOf}
 use Rattle.table.specs.Results.{Shows}
 use Rattle.demands.specs.Two.{rawOf, Told}
-use Rattle.demands.specs.Three.{Accepted}
 use Rattle.demands.proofs.OwnBytes.{Own, OwnIn, title-own, description-own}
 
 -- The part that a place names is a text.

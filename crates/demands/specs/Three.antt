@@ -4,20 +4,14 @@ use Prim.Native.Nat.{ℕ}
 use mathlib.Core.List.{List}
 use mathlib.Core.Path.{_≡_}
 use lib.IntN.{ℤ}
-use Rattle.words.specs.declared.Privacy.{Privacy}
 use Rattle.event.specs.Event.{eventOf}
 use Rattle.table.specs.Bytes.{ZoneTable}
-use Rattle.table.specs.Call.{textFault, expandText, titleOf, descriptionOf}
+use Rattle.table.specs.Call.{expandText, titleOf, descriptionOf}
 use Rattle.table.specs.Results.{Gives, Shows}
 use Rattle.table.specs.Window.{since1600}
 use Rattle.table.specs.Occurrence.{occurrences}
 use Rattle.demands.specs.One.{TableAnswered}
 use Rattle.demands.specs.Two.{Listed}
-
--- An accepted text of an event of that privacy.
-pub record Accepted (privacy : Privacy) (s : List ℕ) : Type 0 where
-  pub accepted : textFault s ≡ 0
-  pub setting : eventOf s .privacy ≡ privacy
 
 -- What two calls hand back: the answer, the length, and every byte of the buffer.
 pub record SameTable (answer answer′ size size′ : ℕ) (after after′ : List ℕ) : Type 0 where
