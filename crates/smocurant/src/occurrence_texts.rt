@@ -10,7 +10,12 @@ pub extern "C" fn smocurant_title(text: &[u8], date: i64, start: &mut u64, lengt
 }
 
 #[no_mangle]
-pub extern "C" fn smocurant_description(text: &[u8], date: i64, start: &mut u64, length: &mut u64) -> u32
+pub extern "C" fn smocurant_description(
+    text: &[u8],
+    date: i64,
+    start: &mut u64,
+    length: &mut u64,
+) -> u32
     ensures { λ r. ⌜ Shows (descriptionOf (now (text .entry)) date) r (now (start .exit)) (now (length .exit)) ⌝ }
 {
     texts::calls::description_place(text, date, start, length)
