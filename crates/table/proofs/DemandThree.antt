@@ -25,7 +25,7 @@ use Rattle.table.specs.Bytes.{ZoneTable, marksOf, secondsIn, recordOf, r
 use Rattle.table.specs.Answer.{isSecret, outcomeBy, answerFor, expanded, dateTimeOf, textAnswerFor, textAnswer}
 use Rattle.table.specs.Call.{textFault, expandText, Shown, placeOf, noPlace, shownFor, shownAt, textOf}
 use Rattle.event.specs.Event.{eventOf}
-use Rattle.table.specs.Agree.{Times, timesOf, Agree}
+use Rattle.table.specs.Agree.{Times, timesOf, Agree, Accepted}
 use Rattle.table.proofs.Same.{same-set, same-occurrences, same-times}
 
 and-right : (s t : Bool) → (s && t) ≡ true → t ≡ true
@@ -130,11 +130,6 @@ secret-text-answer e (some x) p = ap (λ (c : Privacy). textAnswerFor c (isOccur
 
 -- ---- on texts
 
--- An accepted text of an event of that privacy.
-pub record Accepted (privacy : Privacy) (s : List ℕ) : Type 0 where
-  pub accepted : textFault s ≡ 0
-  pub setting : eventOf s .privacy ≡ privacy
-
 accepted-table : (privacy : Privacy) (s : List ℕ) → Accepted privacy s → (zones : ZoneTable) (from to : ℤ) (buffer : List ℕ)
     → expandText zones s from to buffer ≡ expanded zones (eventOf s) from to buffer
 unfolding expandText
@@ -173,8 +168,8 @@ secret-shown which e (some x) p =
     ∙ secret-no-place (textAnswer e (some x)) (placeOf (which (detailsAt e x)))
     ∙ ap noPlace (secret-text-answer e (some x) p)
 
--- Demand 3: "Two accepted private events that agree on the listed points are indistinguishable through the library, byte for byte in the whole
--- buffer": the same answer, length and buffer of the table, the same answer of each text, and no words come out.
+-- The definitions do not tell the two texts apart: the same answer, length and buffer of the table, the same answer of each text, and no words come
+-- out.
 pub record Indistinguishable (s t : List ℕ) : Type 0 where
   pub table : (zones : ZoneTable) (from to : ℤ) (buffer : List ℕ) → expandText zones s from to buffer ≡ expandText zones t from to buffer
   pub texts : (which : Details → Option Text) (date : ℤ) → textOf which s date ≡ textOf which t date

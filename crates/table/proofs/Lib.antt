@@ -2,5 +2,4 @@ pub mod Same
 pub mod DemandThree
 pub mod Starred
 pub mod DemandTwo
-pub mod DemandOne
 pub mod Invalid

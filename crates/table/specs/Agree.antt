@@ -1,10 +1,14 @@
 -- 01, "The sheet and the words": "For demand 3, two events agree ..". Texts, `uid` and `updated` are not among the points.
 use Prim.Native.Nat.{ℕ}
+use mathlib.Core.List.{List}
 use mathlib.Core.Bool.{Bool, true, false}
 use mathlib.Core.Path.{_≡_}
 use Rattle.recurrence.specs.Event.{overrideExcludes, overrideNames}
+use Rattle.words.specs.declared.Privacy.{Privacy}
 use Rattle.event.specs.Types.{Length, Details, Event}
+use Rattle.event.specs.Event.{eventOf}
 use Rattle.table.specs.Occurrence.{datesOf, detailsAt}
+use Rattle.table.specs.Call.{textFault}
 
 -- "its start .., length and marks": what is compared of the event itself and of an occurrence.
 pub record Times : Type 0 where
@@ -30,3 +34,8 @@ pub record Agree (a b : Event) : Type 0 where
   -- "Where it isn't excluded, its start (its own date where no patch gives one), length and marks after the patch are compared."
   pub patched : (x : ℕ) → overrideNames (datesOf a) x ≡ true → overrideExcludes (datesOf a) x ≡ false
       → timesOf (detailsAt a x) ≡ timesOf (detailsAt b x)
+
+-- An accepted text of an event of that privacy.
+pub record Accepted (privacy : Privacy) (s : List ℕ) : Type 0 where
+  pub accepted : textFault s ≡ 0
+  pub setting : eventOf s .privacy ≡ privacy

@@ -9,7 +9,7 @@ use Rattle.table.specs.Answer.{Outcome}
 use Rattle.zone.specs.Table.{validTable}
 use Rattle.table.specs.Call.{expandText}
 use Rattle.table.proofs.Invalid.{invalid-same}
-use Rattle.expansion.specs.Call.{zonesOf, Gives}
+use Rattle.table.specs.Results.{zonesOf, Gives}
 use Rattle.entries.specs.declared.Transition.{Transition}
 use Rattle.entries.specs.declared.Entries.{Entries}
 use Rattle.entries.specs.Gather.{gathered, instantsOf, offsetsOf, Holds}

@@ -1,7 +1,7 @@
 // 01: "lent slice of entry structs in a thin outer function; the core first works over slices of numbers".
 ghost use lib.ListN.{take};
 ghost use Rattle.table.specs.Call.{expandText};
-ghost use Rattle.expansion.specs.Call.{zonesOf, Gives};
+ghost use Rattle.table.specs.Results.{zonesOf, Gives};
 ghost use Rattle.entries.specs.Gather.{Reaching, instantsOf, offsetsOf};
 use entries::Entries;
 use entries::Transition;
@@ -23,7 +23,7 @@ fn with_numbers(
     let instants = t.instants;
     let offsets = t.offsets;
     let n = t.n;
-    expansion::expand(
+    expansion::expand::expand(
         text,
         zone_name,
         initial_offset,

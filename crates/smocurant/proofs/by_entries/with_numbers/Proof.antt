@@ -6,7 +6,7 @@ use Rattle.smocurant.proofs.by_entries.with_numbers.Statement.{statemen
 use Rattle.smocurant.proofs.by_entries.with_numbers.Tie as tie
 use Rattle.smocurant.proofs.by_entries.with_numbers.Reads as reads
 use Rattle.smocurant.proofs.by_entries.with_numbers.Lts as lts
-use Rattle.expansion.proofs.expand.Reads as expand-reads
+use Rattle.expansion.proofs.expand.expand.Reads as expand-reads
 
 -- src/by_entries.rt:16:56
 array-share-prefix-instants : tie.Need-array-share-prefix-instants

@@ -41,7 +41,7 @@ use denote.Triple.Walked.{says, Stays, stay-none, stay-none-slice, gave-ref, gav
 use denote.Exit.{yes}
 use denote.Triple.Clauses.{ensured, lasts}
 use Rattle.table.specs.Call.{expandText}
-use Rattle.expansion.specs.Call.{zonesOf, Gives}
+use Rattle.table.specs.Results.{zonesOf, Gives}
 use Rattle.entries.specs.Gather.{gathered, instantsOf, offsetsOf, Reaching}
 use Rattle.entries.specs.declared.Transition.{Transition}
 use Rattle.entries.specs.declared.Entries.{Entries}

@@ -1,0 +1,164 @@
+-- Demand 1 of every call that keeps its contract: `Gives (expandText ..)` is that of the table's calls, `Shows (titleOf ..)` and
+-- `Shows (descriptionOf ..)` are those of the texts'.
+use Prim.Native.Nat.{ℕ, _<_}
+use mathlib.Core.Bool.{Bool, true, false, not, _&&_, _||_}
+use mathlib.Core.List.{List, [], _∷_, _++_}
+use mathlib.Core.Option.{Option, none, some}
+use mathlib.Core.Path.{_≡_, refl, sym, ap, _∙_, subst}
+use native.Mathlib.Omega.{arith}
+use lib.Dec.{eqb}
+use lib.IntN.{ℤ}
+use borrow.Author.Tests.{eqb-true, eq-eqb, ne-eqb}
+use Rattle.signed.specs.Choose.{if_then_else_}
+use Rattle.rule.proofs.Bools.{by}
+use Rattle.words.specs.declared.Privacy.{Privacy}
+use Rattle.event.specs.Types.{Text, Details, Event}
+use Rattle.event.specs.Event.{eventOf}
+use Rattle.table.specs.Occurrence.{isOccurrence, detailsAt}
+use Rattle.table.specs.Bytes.{ZoneTable, tableOf}
+use Rattle.table.specs.Answer.{Outcome, isSecret, isPublic, answerFor, outcomeBy, expanded, dateTimeOf, textAnswerFor, textAnswer}
+use Rattle.table.specs.Call.{textFault, expandText, Shown, placeFrom, placeOf, noPlace, shownFor, shownAt, textOf, titleOf, descriptionOf}
+use Rattle.table.specs.Results.{Gives, Shows}
+use Rattle.demands.specs.Conditions.{Numbered, Lowest, textConditions, callConditions, tableConditions, occursAt, wordsConditions}
+use Rattle.demands.specs.One.{TableAnswered, TextAnswered}
+use Rattle.demands.proofs.Lowest.{lowestOf, Rising, lowest-of}
+use Rattle.demands.proofs.TextAnswers.{lowest-join, text-lowest, text-rises}
+
+-- ---- the table's call
+
+module _ (zones : ZoneTable) (s : List ℕ) (from to : ℤ) (buffer : List ℕ) where
+  table-rises : Rising 0 (tableConditions zones s from to buffer)
+  unfolding tableConditions textConditions callConditions
+  table-rises = (omega arith, (omega arith, (omega arith, (omega arith, (omega arith, (omega arith, (omega arith, (omega arith, (omega arith, (omega arith, (omega arith, (omega arith, (omega arith, tt)))))))))))))
+
+  calls : ℕ
+  calls = lowestOf (callConditions zones (eventOf s) from to buffer)
+
+  table-lowest : lowestOf (tableConditions zones s from to buffer) ≡ (if eqb (textFault s) 0 then calls else textFault s)
+  unfolding tableConditions calls
+  table-lowest =
+      lowest-join 0 (textConditions s) (callConditions zones (eventOf s) from to buffer) (text-rises s)
+      ∙ ap (λ (n : ℕ). if eqb n 0 then lowestOf (callConditions zones (eventOf s) from to buffer) else n) (text-lowest s)
+
+  -- an accepted event has the lowest of 10 to 13
+  accepted-answer : expanded zones (eventOf s) from to buffer ≡ outcomeBy calls (tableOf zones (eventOf s) from to) buffer
+  unfolding expanded answerFor calls callConditions lowestOf
+  accepted-answer = refl
+
+  outcome-answer : (answer : ℕ) (table : List ℕ) → outcomeBy answer table buffer .answer ≡ answer
+  unfolding outcomeBy
+  outcome-answer answer table = by (eqb answer 0) (λ e. rw e (sym (eqb-true answer 0 e))) (λ e. rw e)
+
+  table-answer : expandText zones s from to buffer .answer ≡ lowestOf (tableConditions zones s from to buffer)
+  unfolding expandText
+  table-answer =
+      by (eqb (textFault s) 0)
+      (λ e. rw (table-lowest, e, accepted-answer) (outcome-answer calls (tableOf zones (eventOf s) from to)))
+      (λ e. rw (table-lowest, e))
+
+  -- a refusal leaves nothing
+  nothing-left : (answer : ℕ) (table : List ℕ) → (answer ≡ 0 → ⊥)
+      → (outcomeBy answer table buffer .length ≡ 0) × (outcomeBy answer table buffer .buffer ≡ buffer)
+  unfolding outcomeBy
+  nothing-left answer table h = rw (ne-eqb answer 0 h) (refl, refl)
+
+  table-refused : (expandText zones s from to buffer .answer ≡ 0 → ⊥)
+      → (expandText zones s from to buffer .length ≡ 0) × (expandText zones s from to buffer .buffer ≡ buffer)
+  unfolding expandText
+  table-refused h =
+      by (eqb (textFault s) 0)
+      (λ e.
+      rw (e, accepted-answer)
+      (nothing-left calls (tableOf zones (eventOf s) from to) (λ z. h (rw (e, accepted-answer) (outcome-answer calls (tableOf zones (eventOf s) from to) ∙ z)))))
+      (λ e. rw e (refl, refl))
+
+  pub table-answered : (answer length : ℕ) (after : List ℕ) → Gives (expandText zones s from to buffer) answer length after
+      → TableAnswered zones s from to buffer answer length after
+  table-answered answer length after g =
+      record {
+        one = subst (Lowest (tableConditions zones s from to buffer)) (sym (g .answer-is ∙ table-answer)) (lowest-of 0 (tableConditions zones s from to buffer) table-rises);
+        refusedLength = λ h. g .length-is ∙ table-refused (λ z. h (g .answer-is ∙ z)) .0;
+        refusedBuffer = λ h. g .buffer-is ∙ table-refused (λ z. h (g .answer-is ∙ z)) .1;
+      }
+
+-- ---- a text's call
+
+module _ (s : List ℕ) (date : ℤ) where
+  words-rises : Rising 0 (wordsConditions s date)
+  unfolding wordsConditions textConditions
+  words-rises = (omega arith, (omega arith, (omega arith, (omega arith, (omega arith, (omega arith, (omega arith, (omega arith, (omega arith, (omega arith, tt))))))))))
+
+  secret-or-no : (privacy : Privacy) (occurs : Bool) → textAnswerFor privacy occurs ≡ (if not occurs || isSecret privacy then 14 else 0)
+  unfolding textAnswerFor
+  secret-or-no privacy occurs = go (isSecret privacy) occurs
+    where
+      go : (secret occurs : Bool) → _≡_ {A = ℕ} (if not secret && occurs then 0 else 14) (if not occurs || secret then 14 else 0)
+      go true true = refl
+      go true false = refl
+      go false true = refl
+      go false false = refl
+
+  asked : (e : Event) (date : Option ℕ) → textAnswer e date ≡ (if not (occursAt e date) || isSecret (e .privacy) then 14 else 0)
+  unfolding textAnswer occursAt
+  asked e none = refl
+  asked e (some x) = secret-or-no (e .privacy) (isOccurrence e x)
+
+  words-lowest : lowestOf (wordsConditions s date) ≡ (if eqb (textFault s) 0 then textAnswer (eventOf s) (dateTimeOf date) else textFault s)
+  unfolding wordsConditions lowestOf
+  words-lowest =
+      lowest-join 0 (textConditions s) _ (text-rises s)
+      ∙ ap (λ (n : ℕ). if eqb n 0 then (if not (occursAt (eventOf s) (dateTimeOf date)) || isSecret (eventOf s .privacy) then 14 else 0) else n) (text-lowest s)
+      ∙ ap (λ (n : ℕ). if eqb (textFault s) 0 then n else textFault s) (sym (asked (eventOf s) (dateTimeOf date)))
+
+  -- where a place is shown, the answer is 0
+  from-answer : (at : ℕ) (raw : List ℕ) → placeFrom at raw .answer ≡ 0
+  unfolding placeFrom
+  from-answer at [] = refl
+  from-answer at (b ∷ raw) = refl
+
+  place-answer : (t : Option Text) → placeOf t .answer ≡ 0
+  unfolding placeOf
+  place-answer none = refl
+  place-answer (some t) = from-answer (t .at) (t .raw)
+
+  -- what is shown has the answer, and a refusal no place
+  record Said (answer : ℕ) (o : Shown) : Type 0 where
+    answer-is : o .answer ≡ answer
+    no-place : (o .answer ≡ 0 → ⊥) → (o .start ≡ 0) × (o .length ≡ 0)
+
+  said-for : (privacy : Privacy) (answer : ℕ) (place : Shown) → place .answer ≡ 0 → Said answer (shownFor privacy answer place)
+  unfolding shownFor
+  said-for privacy answer place z = go (eqb answer 0) (isPublic privacy) refl
+    where
+      go : (t p : Bool) → eqb answer 0 ≡ t → Said answer (if t && p then place else noPlace answer)
+      go true true e = record { answer-is = z ∙ sym (eqb-true answer 0 e); no-place = λ h. absurd (h z) }
+      go true false e = record { answer-is = refl; no-place = λ h. (refl, refl) }
+      go false p e = record { answer-is = refl; no-place = λ h. (refl, refl) }
+
+  module _ (which : Details → Option Text) where
+    said-at : (e : Event) (d : Option ℕ) → Said (textAnswer e d) (shownAt which e d)
+    unfolding shownAt
+    said-at e none = unfold textAnswer in (record { answer-is = refl; no-place = λ h. (refl, refl) })
+    said-at e (some x) = said-for (e .privacy) (textAnswer e (some x)) (placeOf (which (detailsAt e x))) (place-answer (which (detailsAt e x)))
+
+    said : Said (lowestOf (wordsConditions s date)) (textOf which s date)
+    unfolding textOf
+    said = by (eqb (textFault s) 0) (λ e. rw (words-lowest, e) (said-at (eventOf s) (dateTimeOf date))) (λ e. rw (words-lowest, e) (record { answer-is = refl; no-place = λ h. (refl, refl) }))
+
+    text-answered : (answer start length : ℕ) → Shows (textOf which s date) answer start length → TextAnswered s date answer start length
+    text-answered answer start length g =
+        record {
+          one = subst (Lowest (wordsConditions s date)) (sym (g .answer-is ∙ said .answer-is)) (lowest-of 0 (wordsConditions s date) words-rises);
+          refusedText =
+              λ h.
+              let no = said .no-place (λ z. h (g .answer-is ∙ z)) in
+              (g .start-is ∙ no .0, g .length-is ∙ no .1);
+        }
+
+  pub title-answered : (answer start length : ℕ) → Shows (titleOf s date) answer start length → TextAnswered s date answer start length
+  unfolding titleOf
+  title-answered answer start length g = text-answered (λ d. d .title) answer start length g
+
+  pub description-answered : (answer start length : ℕ) → Shows (descriptionOf s date) answer start length → TextAnswered s date answer start length
+  unfolding descriptionOf
+  description-answered answer start length g = text-answered (λ d. d .description) answer start length g

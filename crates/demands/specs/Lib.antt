@@ -1,0 +1,4 @@
+pub mod Conditions
+pub mod One
+pub mod Two
+pub mod Three

@@ -1,0 +1,30 @@
+// The table of occurrences, its zone table lent as two runs of numbers.
+ghost use Rattle.table.specs.Call.{expandText};
+ghost use Rattle.table.specs.Results.{zonesOf, Gives};
+
+#[no_mangle]
+pub extern "C" fn smocurant_expand(
+    text: &[u8],
+    zone_name: &[u8],
+    initial_offset: i64,
+    instants: &[i64],
+    offsets: &[i64],
+    window_start: i64,
+    window_end: i64,
+    buffer: &mut [u8],
+    length: &mut u64,
+) -> u32
+    ensures { λ r. ⌜ Gives (expandText (zonesOf (now («zone_name» .entry)) «initial_offset» (now (instants .entry)) (now (offsets .entry))) (now (text .entry)) «window_start» «window_end» (now (buffer .entry))) r (now (length .exit)) (now (buffer .exit)) ⌝ }
+{
+    expansion::expand::expand(
+        text,
+        zone_name,
+        initial_offset,
+        instants,
+        offsets,
+        window_start,
+        window_end,
+        buffer,
+        length,
+    )
+}

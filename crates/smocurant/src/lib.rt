@@ -1,0 +1,4 @@
+// The exported functions: what the ingest service links and calls.
+pub mod by_entries;
+pub mod by_numbers;
+pub mod occurrence_texts;
