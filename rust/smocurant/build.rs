@@ -4,6 +4,8 @@
 //! the repository; where there is none, `rt staticlib smocurant` proves the library and writes it, which takes some minutes.
 
 use std::env;
+use std::fs::File;
+use std::io::Write;
 use std::path::{Path, PathBuf};
 use std::process::Command;
 
@@ -38,7 +40,7 @@ fn folder_of_repository() -> PathBuf {
 }
 
 fn build(root: &Path) {
-    println!("cargo:warning=proving and building the library: rt staticlib smocurant");
+    say("proving and building the library, which takes some minutes: rt staticlib smocurant");
     match Command::new("rt").args(["staticlib", "smocurant"]).current_dir(root).output() {
         Err(error) => fail(&format!("the Rattle kit's `rt` cannot be started ({error}); put it on the PATH, or set {FOLDER_VARIABLE}")),
         Ok(done) if !done.status.success() => {
@@ -46,6 +48,13 @@ fn build(root: &Path) {
             fail(&format!("`rt staticlib smocurant` failed:\n{said}"));
         }
         Ok(_) => {}
+    }
+}
+
+/// Cargo shows nothing of a build script until it has ended, so a line for whoever waits goes to the terminal, if there is one.
+fn say(line: &str) {
+    if let Ok(mut terminal) = File::options().write(true).open("/dev/tty") {
+        let _ = writeln!(terminal, "\rsmocurant: {line}");
     }
 }
 

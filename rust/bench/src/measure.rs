@@ -4,8 +4,8 @@ use std::hint::black_box;
 use std::time::{Duration, Instant};
 
 /// The time of a batch, and how many there are.
-const BATCH: Duration = Duration::from_millis(60);
-const BATCHES: usize = 5;
+const BATCH: Duration = Duration::from_millis(5);
+const BATCHES: usize = 40;
 
 /// Nanoseconds of one call: the best batch's mean.
 pub fn nanoseconds<T>(mut call: impl FnMut() -> T) -> f64 {

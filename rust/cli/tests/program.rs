@@ -4,7 +4,8 @@ use std::io::Write;
 use std::path::{Path, PathBuf};
 use std::process::{Command, Output, Stdio};
 
-const LONDON: [&str; 4] = ["--zone", "Europe/London", "--year", "2026"];
+/// The shipped zones, so that the tests ask for nothing of the system.
+const LONDON: [&str; 6] = ["--zones", "zones", "--zone", "Europe/London", "--year", "2026"];
 
 fn program(arguments: &[&str]) -> Command {
     let mut command = Command::new(env!("CARGO_BIN_EXE_smocurant"));
@@ -85,7 +86,7 @@ fn raw_bytes_into_a_file() {
 
 #[test]
 fn several_zones() {
-    let (code, out, errors) = run(&["--zone", "Asia/Tokyo", "--zone", "Europe/London", "--floating", "--year", "2026", "--quiet", "."]);
+    let (code, out, errors) = run(&[&["--zone", "Asia/Tokyo", "--floating", "--quiet"], &LONDON[..], &["."]].concat());
     assert_eq!((code, errors.as_str()), (0, ""));
     assert!(out.contains("137 occurrences"));
 }
@@ -161,9 +162,9 @@ fn wrong_options() {
         (&["a.json", "--floating", "--year", "2026", "--format", "xml"], "\"xml\" is no format"),
         (&["a.json", "--floating=1", "--year", "2026"], "takes no value"),
         (&["a.json", "--fast"], "there is no option --fast"),
-        (&["a.json", "--zone", "Europe/Atlantis", "--year", "2026"], "Europe/Atlantis cannot be read"),
+        (&["a.json", "--zones", "zones", "--zone", "Europe/Atlantis", "--year", "2026"], "Europe/Atlantis cannot be read"),
         (&["a.json", "--zone", "../etc/passwd", "--year", "2026"], "is not the name of a time zone"),
-        (&["a.json", "--zone", "Europe/London", "--always"], "choose an earlier end"),
+        (&["a.json", "--zones", "zones", "--zone", "Europe/London", "--always"], "choose an earlier end"),
     ];
     for (arguments, expected) in cases {
         let (code, out, errors) = run(arguments);

@@ -4,6 +4,17 @@ use std::fmt;
 use std::ops::Range;
 
 /// A part of the caller's text: the bytes of a JSON string between its quotes, escapes kept.
+///
+/// ```
+/// use smocurant::{time, title};
+///
+/// let event = br#"{"@type": "Event", "uid": "1", "updated": "2024-01-01T00:00:00Z", "start": "2024-02-29T00:00:00", "title": "A\u0026E"}"#;
+/// let title = title(event, time::read("2024-02-29").unwrap())?;
+/// assert_eq!(title, r"A\u0026E");
+/// assert_eq!(title.unescaped(), "A&E");
+/// assert_eq!(&event[title.place()], br"A\u0026E");
+/// # Ok::<(), smocurant::Status>(())
+/// ```
 #[derive(Clone, Copy, PartialEq, Eq, Hash)]
 pub struct Text<'t> {
     start: usize,
@@ -85,6 +96,12 @@ impl AsRef<str> for Text<'_> {
 impl PartialEq<str> for Text<'_> {
     fn eq(&self, other: &str) -> bool {
         self.raw == other
+    }
+}
+
+impl PartialEq<&str> for Text<'_> {
+    fn eq(&self, other: &&str) -> bool {
+        self.raw == *other
     }
 }
 

@@ -17,10 +17,20 @@ fn check(seed: u64, what: &str, case: &Case, same: bool) {
     assert!(same, "seed {seed}, {what}: window {window:?}, zone {:?} {}, {}", zone.name, zone.initial_offset, shown(&case.text));
 }
 
+/// The seeds are shared out among the processors.
 #[test]
 fn tables_and_texts() {
+    let workers = std::thread::available_parallelism().map_or(1, usize::from);
+    std::thread::scope(|scope| {
+        for worker in 0..workers {
+            scope.spawn(move || compare(seeds().skip(worker).step_by(workers)));
+        }
+    });
+}
+
+fn compare(seeds: impl Iterator<Item = u64>) {
     let mut buffer = vec![0; LONGEST];
-    for seed in seeds() {
+    for seed in seeds {
         let case = Case::new(seed);
         let length = table_length(&case, &mut buffer);
         compare_tables(seed, &case, length);

@@ -1,27 +1,23 @@
-//! The system's zones, where there are any.
+//! The shipped zones, and the system's where there are any.
 
 use smocurant::{time, tzif, Window, ZoneTable};
-use std::path::{Path, PathBuf};
+use std::path::Path;
 
 const FOLDER: &str = "/usr/share/zoneinfo";
+const SHIPPED: &str = concat!(env!("CARGO_MANIFEST_DIR"), "/../../examples/zones");
 
-/// Every zone of the system, by name.
-fn names(folder: &Path, names: &mut Vec<String>) {
-    let Ok(entries) = std::fs::read_dir(folder) else { return };
+/// Every zone below a folder of zones, by name. The folders `posix` and `right` have all zones again, the latter with leap seconds.
+fn names(root: &Path, folder: &Path) -> Vec<String> {
+    let Ok(entries) = std::fs::read_dir(folder) else { return Vec::new() };
+    let mut found = Vec::new();
     for path in entries.flatten().map(|entry| entry.path()) {
-        if path.is_dir() {
-            names_below(&path, names);
+        if path.is_dir() && !path.ends_with("right") && !path.ends_with("posix") {
+            found.extend(names(root, &path));
         } else if std::fs::read(&path).is_ok_and(|bytes| bytes.starts_with(b"TZif")) {
-            names.push(path.strip_prefix(FOLDER).unwrap().to_str().unwrap().to_string());
+            found.push(path.strip_prefix(root).unwrap().to_str().unwrap().to_string());
         }
     }
-}
-
-/// The folders `posix` and `right` have all zones again, the latter with leap seconds.
-fn names_below(folder: &Path, found: &mut Vec<String>) {
-    if !folder.ends_with("right") && !folder.ends_with("posix") {
-        names(folder, found);
-    }
+    found
 }
 
 fn offset(zone: &ZoneTable, instant: &str) -> i64 {
@@ -31,24 +27,21 @@ fn offset(zone: &ZoneTable, instant: &str) -> i64 {
 
 #[test]
 fn every_zone_makes_a_valid_table() {
-    let mut all = Vec::new();
-    names(&PathBuf::from(FOLDER), &mut all);
-    for name in all {
-        let zone = tzif::system(&name, Window::year(2030).unwrap()).unwrap_or_else(|error| panic!("{name}: {error}"));
-        let text = format!(
-            r#"{{"@type": "Event", "uid": "1", "updated": "2024-01-01T00:00:00Z", "start": "2030-07-01T12:00:00", "timeZone": "{name}"}}"#
-        );
-        let table = smocurant::expand_to_vec(text.as_bytes(), &zone, Window::year(2030).unwrap());
-        assert_eq!(table.map(|table| table.len()), Ok(1), "{name}");
+    let window = Window::year(2030).unwrap();
+    assert!(names(Path::new(SHIPPED), Path::new(SHIPPED)).len() >= 4);
+    for folder in [FOLDER, SHIPPED].map(Path::new) {
+        for name in names(folder, folder) {
+            let zone = tzif::in_folder(folder, &name, window).unwrap_or_else(|error| panic!("{name}: {error}"));
+            let text = generator::examples::event("2030-07-01T12:00:00", &format!(r#", "timeZone": "{name}""#));
+            let table = smocurant::expand_to_vec(text.as_bytes(), &zone, window);
+            assert_eq!(table.map(|table| table.len()), Ok(1), "{name}");
+        }
     }
 }
 
 #[test]
 fn known_offsets() {
-    if !Path::new(FOLDER).join("Europe/London").exists() {
-        return;
-    }
-    let zone = |name: &str| tzif::system(name, Window::year(2060).unwrap()).unwrap();
+    let zone = |name: &str| tzif::in_folder(Path::new(SHIPPED), name, Window::year(2060).unwrap()).unwrap();
     for (name, instant, hours) in [
         ("Europe/London", "2024-03-31T00:59:59", 0.0),
         ("Europe/London", "2024-03-31T01:00:00", 1.0),
@@ -59,7 +52,7 @@ fn known_offsets() {
         ("Australia/Melbourne", "2020-10-03T15:59:59", 10.0),
         ("Australia/Melbourne", "2020-10-03T16:00:00", 11.0),
         ("Asia/Tokyo", "2060-01-01T00:00:00", 9.0),
-        ("Asia/Kathmandu", "2060-01-01T00:00:00", 5.75),
+        ("Europe/London", "1969-06-01T00:00:00", 1.0),
     ] {
         assert_eq!(offset(&zone(name), instant), (hours * 3_600.0) as i64, "{name} {instant}");
     }
@@ -83,9 +76,9 @@ fn wrong_names_and_files() {
 /// A file that breaks off, or has other bytes, is refused and nothing else.
 #[test]
 fn damaged_files() {
-    let Ok(bytes) = std::fs::read(Path::new(FOLDER).join("Europe/London")) else { return };
+    let bytes = std::fs::read(Path::new(SHIPPED).join("Europe/London")).unwrap();
     let window = Window::year(2024).unwrap();
-    for length in 0..bytes.len() - 40 {
+    for length in 0..bytes.len() {
         assert!(tzif::table("x", &bytes[..length], window).is_err());
     }
     let random = &mut generator::Random::new(1);

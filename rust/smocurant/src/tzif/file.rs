@@ -79,7 +79,9 @@ fn number(bytes: &[u8]) -> u32 {
 /// The footer: a rule between two line ends.
 fn read_footer(footer: &[u8]) -> Result<Option<Rule>, Error> {
     let wrong = Error::Form("its footer is wrong");
-    let Some(rule) = footer.strip_prefix(b"\n").and_then(|rest| rest.split(|byte| *byte == b'\n').next()) else { return Err(wrong) };
+    let Some(rest) = footer.strip_prefix(b"\n") else { return Err(wrong) };
+    let Some(end) = rest.iter().position(|byte| *byte == b'\n') else { return Err(wrong) };
+    let rule = &rest[..end];
     if rule.is_empty() {
         return Ok(None);
     }
