@@ -13,8 +13,8 @@ fn seeds() -> std::ops::Range<u64> {
 }
 
 fn check(seed: u64, what: &str, case: &Case, same: bool) {
-    let (zone, window) = (&case.zone, case.window);
-    assert!(same, "seed {seed}, {what}: window {window:?}, zone {:?} {}, {}", zone.name, zone.initial_offset, shown(&case.text));
+    let (window, zone, offset) = (case.window, String::from_utf8_lossy(&case.zone.name), case.zone.initial_offset);
+    assert!(same, "seed {seed}, {what}: window {window:?}, zone {zone:?} {offset}, {}", shown(&case.text));
 }
 
 /// The seeds are shared out among the processors.
