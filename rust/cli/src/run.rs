@@ -43,12 +43,14 @@ pub fn run(options: &Options) -> Result<usize, Failure> {
 
 /// The tables of the zones, in the order they are tried.
 fn zones(options: &Options) -> Result<Vec<ZoneTable>, Failure> {
-    let read = |name: &String| match &options.zone_folder {
-        Some(folder) => tzif::in_folder(folder, name, options.window),
-        None => tzif::system(name, options.window),
+    let read = |name: &String| {
+        let table = match &options.zone_folder {
+            Some(folder) => tzif::in_folder(folder, name, options.window),
+            None => tzif::system(name, options.window),
+        };
+        table.map_err(|error| Failure::Zone(format!("--zone {name}: {error}")))
     };
-    let tables: Result<Vec<ZoneTable>, tzif::Error> = options.zones.iter().map(read).collect();
-    let mut tables = tables.map_err(|error| Failure::Zone(error.to_string()))?;
+    let mut tables = options.zones.iter().map(read).collect::<Result<Vec<ZoneTable>, Failure>>()?;
     if options.floating {
         tables.push(ZoneTable::floating());
     }

@@ -1,15 +1,15 @@
 //! The library against the independent expander, on seeded cases: the same answer, length, texts, and every byte of the buffer.
 //!
-//! `SMOCURANT_CASES` says how many cases (20,000 by default), `SMOCURANT_SEED` from which seed on.
+//! There are 20,000 cases, or more if `SMOCURANT_CASES` says so, from the seed `SMOCURANT_SEED` on, or else from 0.
 
 mod support;
 use generator::{Case, Random};
 use smocurant::Transition;
-use support::{expander, library, number, shown, table_length, LONGEST};
+use support::{cases, expander, library, number, shown, table_length, LONGEST};
 
 fn seeds() -> std::ops::Range<u64> {
-    let first = number("SMOCURANT_SEED", 0);
-    first..first + number("SMOCURANT_CASES", 20_000)
+    let first = number("SMOCURANT_SEED").unwrap_or(0);
+    first..first + cases()
 }
 
 fn check(seed: u64, what: &str, case: &Case, same: bool) {

@@ -2,7 +2,7 @@
 
 mod support;
 use generator::{pairs, Case, Random};
-use support::{library, number};
+use support::{cases, library};
 
 /// All that can be learned of a text: tables in several buffers, titles and descriptions.
 fn learned(case: &Case, text: &[u8], seed: u64) -> (Vec<support::Outcome>, Vec<(u32, u64, u64)>) {
@@ -14,7 +14,7 @@ fn learned(case: &Case, text: &[u8], seed: u64) -> (Vec<support::Outcome>, Vec<(
 
 #[test]
 fn pairs_look_the_same() {
-    for seed in 0..number("SMOCURANT_CASES", 20_000) / 10 {
+    for seed in 0..cases() / 10 {
         let random = &mut Random::new(seed);
         let (_, [first, second]) = if seed % 3 == 0 { pairs::secret(random) } else { pairs::private(random) };
         let case = Case::new(seed);

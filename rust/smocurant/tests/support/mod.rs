@@ -55,9 +55,15 @@ pub fn expander(case: &Case, room: usize, seed: u64) -> Outcome {
     call(expander::expand, case, room, seed)
 }
 
-/// A number of the environment, or else the default.
-pub fn number(name: &str, default: u64) -> u64 {
-    std::env::var(name).map_or(default, |value| value.parse().unwrap_or_else(|_| panic!("{name} is no number: {value}")))
+/// How many cases are compared: 20,000, or more if `SMOCURANT_CASES` says so.
+pub fn cases() -> u64 {
+    number("SMOCURANT_CASES").unwrap_or(0).max(20_000)
+}
+
+/// A number of the environment.
+pub fn number(name: &str) -> Option<u64> {
+    let value = std::env::var(name).ok()?;
+    Some(value.parse().unwrap_or_else(|_| panic!("{name} is no number: {value}")))
 }
 
 /// A text for messages.
