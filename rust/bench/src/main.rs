@@ -21,8 +21,8 @@ fn main() {
         println!("libical is not installed, so its column is empty.\n");
     }
     println!("## Whole calls\n");
-    println!("| Workload | Text, bytes | Records | Library, calls/s | ns/record | ns/byte | Expander / library | libical / library |");
-    println!("|---|---|---|---|---|---|---|---|");
+    println!("| Workload | Text, bytes | Records | Library, ms | calls/s | ns/record | ns/byte | Expander / library | libical / library |");
+    println!("|---|---|---|---|---|---|---|---|---|");
     for workload in workloads::all() {
         print_line(&workload, libical.as_ref());
     }
@@ -43,12 +43,13 @@ fn print_line(workload: &Workload, libical: Option<&libical::Libical>) {
     let expander = nanoseconds(|| workload.expander(&mut buffer));
     let other = libical.zip(workload.rule.as_ref()).map(|(libical, rule)| nanoseconds(|| libical.expand(rule, records)));
     println!(
-        "| {} | {} | {} | {:.0} | {} | {:.1} | {:.2} | {} |",
+        "| {} | {} | {} | {:.3} | {:.0} | {} | {:.1} | {:.2} | {} |",
         workload.name,
         workload.text.len(),
         if answer == 0 { records.to_string() } else { format!("answer {answer}") },
+        library / 1e6,
         1e9 / library,
-        if records > 0 { format!("{:.1}", library / records as f64) } else { String::new() },
+        if records >= 10 { format!("{:.1}", library / records as f64) } else { String::new() },
         library / workload.text.len() as f64,
         expander / library,
         other.map_or(String::new(), |other| format!("{:.1}", other / library)),

@@ -3,16 +3,19 @@
 use std::hint::black_box;
 use std::time::{Duration, Instant};
 
-/// The time of a batch, and how many there are.
+/// The time of a batch, how many there are at most and at least, and the time after which there are no more.
 const BATCH: Duration = Duration::from_millis(5);
-const BATCHES: usize = 40;
+const MOST_BATCHES: usize = 40;
+const FEWEST_BATCHES: usize = 3;
+const PATIENCE: Duration = Duration::from_millis(600);
 
 /// Nanoseconds of one call: the best batch's mean.
 pub fn nanoseconds<T>(mut call: impl FnMut() -> T) -> f64 {
     let mut calls = 1u32;
     let mut best = f64::INFINITY;
     let mut batches = 0;
-    while batches < BATCHES {
+    let begin = Instant::now();
+    while batches < FEWEST_BATCHES || (batches < MOST_BATCHES && begin.elapsed() < PATIENCE) {
         let start = Instant::now();
         for _ in 0..calls {
             black_box(call());

@@ -16,10 +16,12 @@ pub fn worst() -> Vec<(&'static str, String)> {
     vec![
         ("64 KiB: a long title", padded(|room| format!(r#", "title": "{}""#, "a".repeat(room - 14)))),
         ("64 KiB: 10,000 escapes", event(START, &escapes(10_800))),
-        ("64 KiB: 8,000 members", event(START, &members(8_000))),
+        ("64 KiB: 8,600 members", event(START, &members(8_600))),
         ("64 KiB: members with long names alike", event(START, &long_names(240))),
         ("64 KiB: 16 levels, again and again", event(START, &deep(1_900))),
         ("64 KiB: members on 15 levels", event(START, &deep_members(7_500))),
+        ("64 KiB: 14 objects in one another, each with 600 members", event(START, &nested_members(300))),
+        ("64 KiB: 9,000 objects on level 15", event(START, &small_objects(9_000))),
         ("64 KiB: 30,000 elements", event(START, &format!(r#", "x": [{}0]"#, "0,".repeat(32_000)))),
         ("64 KiB: 250 overrides, each with a title", event(START, &overrides(250, &format!(r#""title": "{}""#, "b".repeat(205))))),
         ("64 KiB: 256 overrides, 16 rules with 64 entries each", event(START, &rules_and_overrides())),
@@ -61,6 +63,32 @@ fn deep_members(count: usize) -> String {
     let innermost: Vec<String> = (0..count).map(|place| format!("\"{place:x}\":0")).collect();
     let (open, close) = (r#"{"a":"#.repeat(14), "}".repeat(14));
     format!(r#", "x": {open}{{{}}}{close}"#, innermost.join(","))
+}
+
+/// Objects in one another, each with so many members before the next one and behind it.
+fn nested_members(count: usize) -> String {
+    let run = |from: usize| (from..from + count).map(|place| format!("\"{place:x}\":0")).collect::<Vec<_>>().join(",");
+    let (before, behind) = (run(0), run(count));
+    let nested = (0..14).fold("0".to_string(), |inner, _| format!(r#"{{{before},"a b":{inner},{behind}}}"#));
+    format!(r#", "x": {nested}"#)
+}
+
+/// Objects of one member each, all on one level.
+fn small_objects(count: usize) -> String {
+    let (open, close) = ("[".repeat(13), "]".repeat(13));
+    format!(r#", "x": {open}{}{close}"#, vec![r#"{"":0}"#; count].join(","))
+}
+
+/// Members of one name, which is refused.
+pub fn alike(count: usize) -> String {
+    event(START, &format!(r#", "x": {{{}}}"#, vec![r#""":0"#; count].join(",")))
+}
+
+/// As many rules as are allowed, each with a count that the calendar does not use up.
+pub fn counted() -> String {
+    let rule = r#"{"@type":"RecurrenceRule","frequency":"yearly","byMonth":["2"],"byMonthDay":[29],"count":10000}"#;
+    let list = vec![rule; 8].join(",");
+    event("1601-01-01T09:00:00", &format!(r#", "recurrenceRules": [{list}], "excludedRecurrenceRules": [{list}]"#))
 }
 
 /// Overrides of the days from the start on.

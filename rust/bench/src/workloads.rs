@@ -56,6 +56,9 @@ fn zone() -> ([i64; 200], [i64; 200]) {
 pub fn all() -> Vec<Workload> {
     let mut list = rules();
     list.extend(texts::worst().into_iter().map(|(name, text)| Workload::new(name, text, "2026-01-01", "2027-01-01")));
+    list.push(Workload::new("64 KiB: 13,000 members of one name", texts::alike(13_000), "2026-01-01", "2027-01-01"));
+    list.push(Workload::new("16 rules with a count from 1601 on, the year 2026", texts::counted(), "2026-01-01", "2027-01-01"));
+    list.push(Workload::new("16 rules with a count from 1601 on, the year 9998", texts::counted(), "9998-01-01", "9999-01-01"));
     list
 }
 
