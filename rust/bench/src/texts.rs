@@ -87,7 +87,7 @@ pub fn alike(count: usize) -> String {
 /// As many rules as are allowed, each with a count that the calendar does not use up.
 pub fn counted() -> String {
     let rule = r#"{"@type":"RecurrenceRule","frequency":"yearly","byMonth":["2"],"byMonthDay":[29],"count":10000}"#;
-    let list = vec![rule; 8].join(",");
+    let list = [rule; 8].join(",");
     event("1601-01-01T09:00:00", &format!(r#", "recurrenceRules": [{list}], "excludedRecurrenceRules": [{list}]"#))
 }
 
