@@ -2,8 +2,8 @@
 //!
 //!     cargo run --release -p bench
 //!
-//! A time is the best of some batches, as everything else that a machine does only makes it longer. Times are of this machine alone; the
-//! ratios say more.
+//! A time is processor time, and the best of some batches, as everything else that a machine does only makes it longer. Times are of this
+//! machine alone; the ratios say more.
 
 mod libical;
 mod measure;
