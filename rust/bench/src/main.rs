@@ -1,0 +1,71 @@
+//! Times of the library beside the independent expander and, where it is installed, libical, in one run. Prints Markdown.
+//!
+//!     cargo run --release -p bench
+//!
+//! A time is processor time, and the best of some batches, as everything else that a machine does only makes it longer. Times are of this
+//! machine alone; the ratios say more.
+
+mod libical;
+mod measure;
+mod texts;
+mod workloads;
+
+use measure::nanoseconds;
+use workloads::Workload;
+
+fn main() {
+    let machine = measure::machine();
+    println!("Machine: {machine}.\n");
+    let libical = libical::Libical::load();
+    if libical.is_none() {
+        println!("libical is not installed, so its column is empty.\n");
+    }
+    println!("## Whole calls\n");
+    println!("| Workload | Text, bytes | Records | Library, ms | calls/s | ns/record | ns/byte | Expander / library | libical / library |");
+    println!("|---|---|---|---|---|---|---|---|---|");
+    for workload in workloads::all() {
+        print_line(&workload, libical.as_ref());
+    }
+    println!("\n## Growth\n");
+    println!("| Workload | Text, bytes | Records | Library, ms | To the line before |");
+    println!("|---|---|---|---|---|");
+    print_growth(&workloads::growing_windows());
+    workloads::growing_texts().iter().for_each(|texts| print_growth(texts));
+}
+
+/// One workload in all programs.
+fn print_line(workload: &Workload, libical: Option<&libical::Libical>) {
+    let mut buffer = vec![0; workload.room()];
+    let (answer, length) = workload.library(&mut buffer);
+    assert_eq!((answer, length), workload.expander(&mut buffer), "{}", workload.name);
+    let records = (length as usize).saturating_sub(12) / 28;
+    let library = nanoseconds(|| workload.library(&mut buffer));
+    let expander = nanoseconds(|| workload.expander(&mut buffer));
+    let other = libical.zip(workload.rule.as_ref()).map(|(libical, rule)| nanoseconds(|| libical.expand(rule, records)));
+    println!(
+        "| {} | {} | {} | {:.3} | {:.0} | {} | {:.1} | {:.2} | {} |",
+        workload.name,
+        workload.text.len(),
+        if answer == 0 { records.to_string() } else { format!("answer {answer}") },
+        library / 1e6,
+        1e9 / library,
+        if records >= 10 { format!("{:.1}", library / records as f64) } else { String::new() },
+        library / workload.text.len() as f64,
+        expander / library,
+        other.map_or(String::new(), |other| format!("{:.1}", other / library)),
+    );
+}
+
+/// Workloads of which each is twice the one before.
+fn print_growth(workloads: &[Workload]) {
+    let mut before = None;
+    for workload in workloads {
+        let mut buffer = vec![0; workload.room()];
+        let (_, length) = workload.library(&mut buffer);
+        let time = nanoseconds(|| workload.library(&mut buffer));
+        let ratio = before.map_or(String::new(), |before: f64| format!("{:.2}", time / before));
+        let records = length.saturating_sub(12) / 28;
+        println!("| {} | {} | {records} | {:.3} | {ratio} |", workload.name, workload.text.len(), time / 1e6);
+        before = Some(time);
+    }
+}

@@ -1,0 +1,125 @@
+//! What is timed.
+
+use crate::texts;
+use generator::dates;
+use generator::examples::{by_day, event, recurring};
+
+/// One call.
+pub struct Workload {
+    pub name: String,
+    pub text: Vec<u8>,
+    pub window: (i64, i64),
+    /// The same rule for libical, with its start.
+    pub rule: Option<(String, i64)>,
+}
+
+impl Workload {
+    fn new(name: &str, text: impl Into<Vec<u8>>, from: &str, to: &str) -> Workload {
+        Workload { name: name.to_string(), text: text.into(), window: (dates::read(from), dates::read(to)), rule: None }
+    }
+
+    fn with_rule(self, rule: &str, start: &str) -> Workload {
+        Workload { rule: Some((rule.to_string(), dates::read(start))), ..self }
+    }
+
+    /// Room for an occurrence a day, and the overrides.
+    pub fn room(&self) -> usize {
+        let days = (self.window.1 - self.window.0) / dates::DAY + 1;
+        (days as usize + 256) * 28 + 12
+    }
+
+    /// The library's call.
+    pub fn library(&self, buffer: &mut [u8]) -> (u32, u64) {
+        let (instants, offsets) = zone();
+        smocurant::raw::expand(&self.text, b"Europe/London", 0, &instants, &offsets, self.window.0, self.window.1, buffer)
+    }
+
+    /// The expander's call.
+    pub fn expander(&self, buffer: &mut [u8]) -> (u32, u64) {
+        let (instants, offsets) = zone();
+        expander::expand(&self.text, b"Europe/London", 0, &instants, &offsets, self.window.0, self.window.1, buffer)
+    }
+}
+
+/// A hundred years of summer time, from 1970 on.
+fn zone() -> ([i64; 200], [i64; 200]) {
+    let mut instants = [0; 200];
+    let mut offsets = [0; 200];
+    for place in 0..200 {
+        instants[place] = 7_776_000 + place as i64 * 15_778_800;
+        offsets[place] = if place % 2 == 0 { 3_600 } else { 0 };
+    }
+    (instants, offsets)
+}
+
+/// The workloads of one line each.
+pub fn all() -> Vec<Workload> {
+    let mut list = rules();
+    list.extend(texts::worst().into_iter().map(|(name, text)| Workload::new(name, text, "2026-01-01", "2027-01-01")));
+    list.push(Workload::new("64 KiB: 13,000 members of one name", texts::alike(13_000), "2026-01-01", "2027-01-01"));
+    list.push(Workload::new("16 rules with a count from 1601 on, the year 2026", texts::counted(), "2026-01-01", "2027-01-01"));
+    list.push(Workload::new("16 rules with a count from 1601 on, the year 9998", texts::counted(), "9998-01-01", "9999-01-01"));
+    list
+}
+
+/// Typical rules.
+fn rules() -> Vec<Workload> {
+    let weekdays = by_day("mo tu we th fr");
+    let daily = r#""frequency": "daily""#;
+    let weekly = format!(r#""frequency": "weekly", {weekdays}"#);
+    let last = format!(r#""frequency": "monthly", "bySetPosition": [-1], {weekdays}"#);
+    let yearly = r#""frequency": "yearly""#;
+    let at = "2026-01-01T09:00:00";
+    vec![
+        Workload::new("a theatre event, a year", texts::THEATRE, "2026-01-01", "2027-01-01"),
+        Workload::new("daily, 1 year", recurring(at, daily), "2026-01-01", "2027-01-01").with_rule("FREQ=DAILY", at),
+        Workload::new("daily, 30 years", recurring(at, daily), "2026-01-01", "2056-01-01").with_rule("FREQ=DAILY", at),
+        Workload::new("weekly on five days, 1 year", recurring(at, &weekly), "2026-01-01", "2027-01-01")
+            .with_rule("FREQ=WEEKLY;BYDAY=MO,TU,WE,TH,FR", at),
+        Workload::new("last weekday of the month, 10 years", recurring(at, &last), "2026-01-01", "2036-01-01")
+            .with_rule("FREQ=MONTHLY;BYDAY=MO,TU,WE,TH,FR;BYSETPOS=-1", at),
+        Workload::new("yearly, 50 years", recurring(at, yearly), "2026-01-01", "2076-01-01").with_rule("FREQ=YEARLY", at),
+        Workload::new("daily, a year, start 30 years before", recurring("1996-01-01T09:00:00", daily), "2026-01-01", "2027-01-01"),
+        Workload::new(
+            "daily, count 10,000, its last year",
+            recurring(at, r#""frequency": "daily", "count": 10000"#),
+            "2052-01-01",
+            "2054-01-01",
+        ),
+        Workload::new(
+            "weekly on five days, count 10,000, all of it",
+            recurring(at, &format!(r#"{weekly}, "count": 10000"#)),
+            "2026-01-01",
+            "2076-01-01",
+        )
+        .with_rule("FREQ=WEEKLY;BYDAY=MO,TU,WE,TH,FR;COUNT=10000", at),
+        Workload::new("daily, the widest window", recurring("1601-01-01T09:00:00", daily), "1601-01-01", "9999-01-01"),
+        Workload::new("yearly, the widest window", recurring("1601-01-01T09:00:00", yearly), "1601-01-01", "9999-01-01"),
+        Workload::new(
+            "30 February, the widest window",
+            recurring("1601-01-01T09:00:00", r#""frequency": "yearly", "byMonth": ["2"], "byMonthDay": [30]"#),
+            "1601-01-01",
+            "9999-01-01",
+        ),
+    ]
+}
+
+/// Each window is twice as long as the one before.
+pub fn growing_windows() -> Vec<Workload> {
+    let daily = recurring("2026-01-01T09:00:00", r#""frequency": "daily""#);
+    let end = |years: i64| format!("{}-01-01", 2026 + years);
+    [1, 2, 4, 8, 16, 32].map(|years| Workload::new(&format!("daily, {years} years"), daily.clone(), "2026-01-01", &end(years))).into()
+}
+
+/// In each list, each text is twice as long as the one before: overrides, then members, then an escaped text.
+pub fn growing_texts() -> [Vec<Workload>; 3] {
+    let texts = |name: &str, counts: [usize; 4], members: &dyn Fn(usize) -> String| {
+        let text = |count: usize| event("2026-01-01T09:00:00", &members(count));
+        counts.map(|count| Workload::new(&format!("{count} {name}"), text(count), "2026-01-01", "2027-01-01")).into()
+    };
+    [
+        texts("overrides", [32, 64, 128, 256], &|count| texts::overrides(count, "")),
+        texts("members", [1_000, 2_000, 4_000, 8_000], &texts::members),
+        texts("escapes", [1_250, 2_500, 5_000, 10_000], &texts::escapes),
+    ]
+}

@@ -1,0 +1,55 @@
+//! The files that are read.
+
+use std::fs;
+use std::io::{self, Read};
+use std::path::{Path, PathBuf};
+
+/// A text is read up to one byte over what the library takes, so that it can say so.
+const MOST_BYTES: u64 = 65_537;
+
+/// Where an event comes from.
+pub enum Source {
+    /// A file.
+    File(PathBuf),
+    /// Standard input.
+    Input,
+}
+
+impl Source {
+    /// What it is called in the output.
+    pub fn name(&self) -> String {
+        match self {
+            Source::File(path) => path.display().to_string(),
+            Source::Input => "-".to_string(),
+        }
+    }
+
+    /// The event's text.
+    pub fn read(&self) -> io::Result<Vec<u8>> {
+        let mut text = Vec::new();
+        match self {
+            Source::File(path) => fs::File::open(path)?.take(MOST_BYTES).read_to_end(&mut text)?,
+            Source::Input => io::stdin().lock().take(MOST_BYTES).read_to_end(&mut text)?,
+        };
+        Ok(text)
+    }
+}
+
+/// The files that a word of the command line means; a folder means its `*.json` files by name.
+pub fn sources(word: &str) -> Result<Vec<Source>, String> {
+    if word == "-" {
+        return Ok(vec![Source::Input]);
+    }
+    let path = Path::new(word);
+    if !path.is_dir() {
+        return Ok(vec![Source::File(path.to_path_buf())]);
+    }
+    let entries = fs::read_dir(path).map_err(|error| format!("{word}: the folder cannot be read: {error}"))?;
+    let is_event = |path: &PathBuf| path.extension().is_some_and(|extension| extension == "json") && path.is_file();
+    let mut files: Vec<PathBuf> = entries.flatten().map(|entry| entry.path()).filter(is_event).collect();
+    if files.is_empty() {
+        return Err(format!("{word}: the folder has no *.json files"));
+    }
+    files.sort();
+    Ok(files.into_iter().map(Source::File).collect())
+}

@@ -1,0 +1,46 @@
+//! Lists every occurrence of JSCalendar events in a window: for a planner to read, or for programs to take on.
+
+mod inputs;
+mod options;
+mod output;
+mod progress;
+mod run;
+
+use options::{Command, HELP};
+use std::io::Write;
+use std::process::ExitCode;
+
+/// Some event was refused or could not be read.
+const SOME_REFUSED: u8 = 1;
+/// The options are wrong, or a time zone is not there.
+const WRONG_OPTIONS: u8 = 2;
+/// The output could not be written.
+const NOT_WRITTEN: u8 = 3;
+
+fn main() -> ExitCode {
+    let words: Result<Vec<String>, _> = std::env::args_os().skip(1).map(|word| word.into_string()).collect();
+    let Ok(words) = words else { return fail(WRONG_OPTIONS, "the options are no UTF-8") };
+    let options = match options::read(words.into_iter()) {
+        Ok(Command::Help) => return say(HELP),
+        Ok(Command::Version) => return say(concat!("smocurant ", env!("CARGO_PKG_VERSION"), "\n")),
+        Ok(Command::Run(options)) => options,
+        Err(reason) => return fail(WRONG_OPTIONS, &format!("{reason}\nsmocurant --help lists the options.")),
+    };
+    match run::run(&options) {
+        Ok(0) => ExitCode::SUCCESS,
+        Ok(_) => ExitCode::from(SOME_REFUSED),
+        Err(run::Failure::Zone(reason)) => fail(WRONG_OPTIONS, &reason),
+        Err(run::Failure::Output(reason)) => fail(NOT_WRITTEN, &reason),
+    }
+}
+
+/// Writes a text; a reader that has gone away is no failure.
+fn say(text: &str) -> ExitCode {
+    let _ = std::io::stdout().write_all(text.as_bytes());
+    ExitCode::SUCCESS
+}
+
+fn fail(code: u8, reason: &str) -> ExitCode {
+    eprintln!("smocurant: {reason}");
+    ExitCode::from(code)
+}

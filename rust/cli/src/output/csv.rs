@@ -1,0 +1,27 @@
+//! Comma-separated values (RFC 4180).
+
+use super::Line;
+use std::io::{self, Write};
+
+/// The names of the columns.
+pub fn start(out: &mut impl Write) -> io::Result<()> {
+    writeln!(out, "file,id,start,end,busy,all_day,floating,title")
+}
+
+/// One occurrence.
+pub fn line(line: &Line, out: &mut impl Write) -> io::Result<()> {
+    let record = &line.record;
+    let id = smocurant::time::written(record.id);
+    let (start, end) = (line.time(record.start), line.time(record.end));
+    let (busy, all_day, floating) = (record.busy, record.all_day, record.floating);
+    writeln!(out, "{},{id},{start},{end},{busy},{all_day},{floating},{}", quoted(line.file), quoted(&line.title()))
+}
+
+/// A field, in quotes where it needs them.
+fn quoted(field: &str) -> String {
+    if field.contains([',', '"', '\n', '\r']) {
+        format!("\"{}\"", field.replace('"', "\"\""))
+    } else {
+        field.to_string()
+    }
+}

@@ -1,0 +1,134 @@
+//! The exported functions of the archive, made safe: numbers and slices in, numbers out.
+//!
+//! They ask for nothing of their arguments and refuse instead; the types below are all that a caller owes them. A slice is passed as its
+//! pointer and its length, which are two parameters.
+#![allow(unsafe_code)]
+
+use crate::zone::Transition;
+
+mod exported {
+    use super::Transition;
+
+    // The build script says where the archive is.
+    extern "C" {
+        pub fn smocurant_expand(
+            text: *const u8,
+            text_length: usize,
+            zone_name: *const u8,
+            zone_name_length: usize,
+            initial_offset: i64,
+            instants: *const i64,
+            instants_length: usize,
+            offsets: *const i64,
+            offsets_length: usize,
+            window_start: i64,
+            window_end: i64,
+            buffer: *mut u8,
+            buffer_length: usize,
+            length: *mut u64,
+        ) -> u32;
+
+        pub fn smocurant_expand_entries(
+            text: *const u8,
+            text_length: usize,
+            zone_name: *const u8,
+            zone_name_length: usize,
+            initial_offset: i64,
+            entries: *const Transition,
+            entries_length: usize,
+            window_start: i64,
+            window_end: i64,
+            buffer: *mut u8,
+            buffer_length: usize,
+            length: *mut u64,
+        ) -> u32;
+
+        pub fn smocurant_title(text: *const u8, text_length: usize, date: i64, start: *mut u64, length: *mut u64) -> u32;
+
+        pub fn smocurant_description(text: *const u8, text_length: usize, date: i64, start: *mut u64, length: *mut u64) -> u32;
+    }
+}
+
+/// Writes the table of an event's occurrences in a window into the buffer: the answer number, and the table's length.
+#[allow(clippy::too_many_arguments)] // the exported function has them
+pub fn expand(
+    text: &[u8],
+    zone_name: &[u8],
+    initial_offset: i64,
+    instants: &[i64],
+    offsets: &[i64],
+    window_start: i64,
+    window_end: i64,
+    buffer: &mut [u8],
+) -> (u32, u64) {
+    let mut length = 0;
+    // SAFETY: each pointer and length come from one slice, which lives through the call. Buffer and length are borrowed alone, so the function
+    // may write there. It keeps no pointer, and is proved to touch nothing outside of the slices.
+    let answer = unsafe {
+        exported::smocurant_expand(
+            text.as_ptr(),
+            text.len(),
+            zone_name.as_ptr(),
+            zone_name.len(),
+            initial_offset,
+            instants.as_ptr(),
+            instants.len(),
+            offsets.as_ptr(),
+            offsets.len(),
+            window_start,
+            window_end,
+            buffer.as_mut_ptr(),
+            buffer.len(),
+            &mut length,
+        )
+    };
+    (answer, length)
+}
+
+/// As [`expand`], with the zone table's entries as structs.
+#[allow(clippy::too_many_arguments)] // the exported function has them
+pub fn expand_entries(
+    text: &[u8],
+    zone_name: &[u8],
+    initial_offset: i64,
+    entries: &[Transition],
+    window_start: i64,
+    window_end: i64,
+    buffer: &mut [u8],
+) -> (u32, u64) {
+    let mut length = 0;
+    // SAFETY: as in `expand`; `Transition` is `repr(C)` with the fields of the exported struct.
+    let answer = unsafe {
+        exported::smocurant_expand_entries(
+            text.as_ptr(),
+            text.len(),
+            zone_name.as_ptr(),
+            zone_name.len(),
+            initial_offset,
+            entries.as_ptr(),
+            entries.len(),
+            window_start,
+            window_end,
+            buffer.as_mut_ptr(),
+            buffer.len(),
+            &mut length,
+        )
+    };
+    (answer, length)
+}
+
+/// The title of one occurrence: the answer number, and place and length of the title in the text.
+pub fn title(text: &[u8], date: i64) -> (u32, u64, u64) {
+    let (mut start, mut length) = (0, 0);
+    // SAFETY: pointer and length come from one slice, which lives through the call; the two numbers are borrowed alone.
+    let answer = unsafe { exported::smocurant_title(text.as_ptr(), text.len(), date, &mut start, &mut length) };
+    (answer, start, length)
+}
+
+/// The description of one occurrence, as [`title`].
+pub fn description(text: &[u8], date: i64) -> (u32, u64, u64) {
+    let (mut start, mut length) = (0, 0);
+    // SAFETY: as in `title`.
+    let answer = unsafe { exported::smocurant_description(text.as_ptr(), text.len(), date, &mut start, &mut length) };
+    (answer, start, length)
+}

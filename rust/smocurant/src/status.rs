@@ -1,0 +1,116 @@
+//! Why a call was refused.
+
+use std::fmt;
+
+/// The answer of a call. The discriminant is the answer number of the exported functions.
+#[derive(Clone, Copy, Debug, PartialEq, Eq, PartialOrd, Ord, Hash)]
+#[repr(u32)]
+pub enum Status {
+    /// 0: done. Functions of this crate say this by `Ok`.
+    Done = 0,
+    /// 1: the text is longer than 65,536 bytes.
+    TextTooLong = 1,
+    /// 2: the text is nested deeper than 16 levels.
+    TooDeep = 2,
+    /// 3: not a JSON text in valid UTF-8.
+    NotJson = 3,
+    /// 4: two equal member names in one object, or an escape in one.
+    MemberNames = 4,
+    /// 5: no Event, or a mandatory property is missing.
+    NotEvent = 5,
+    /// 6: a property has a wrong type or value.
+    Value = 6,
+    /// 7: properties that may not stand together.
+    Conflict = 7,
+    /// 8: a form that is not supported.
+    Unsupported = 8,
+    /// 9: too many rules, entries of a list, or overrides.
+    TooMany = 9,
+    /// 10: the zone table is invalid.
+    ZoneTable = 10,
+    /// 11: the window is invalid.
+    Window = 11,
+    /// 12: the event is in another zone than the table.
+    OtherZone = 12,
+    /// 13: the table is longer than the buffer.
+    Buffer = 13,
+    /// 14: the date is no occurrence, or the event is secret.
+    NoOccurrence = 14,
+}
+
+/// All answers, by their numbers.
+const ALL: [Status; 15] = [
+    Status::Done,
+    Status::TextTooLong,
+    Status::TooDeep,
+    Status::NotJson,
+    Status::MemberNames,
+    Status::NotEvent,
+    Status::Value,
+    Status::Conflict,
+    Status::Unsupported,
+    Status::TooMany,
+    Status::ZoneTable,
+    Status::Window,
+    Status::OtherZone,
+    Status::Buffer,
+    Status::NoOccurrence,
+];
+
+impl Status {
+    /// The answer number.
+    pub fn number(self) -> u32 {
+        self as u32
+    }
+
+    /// The answer of a number.
+    pub fn of_number(number: u32) -> Option<Status> {
+        ALL.get(usize::try_from(number).ok()?).copied()
+    }
+
+    /// What it means, as a sentence.
+    pub fn sentence(self) -> &'static str {
+        match self {
+            Status::Done => "Done.",
+            Status::TextTooLong => "The text is longer than 65,536 bytes.",
+            Status::TooDeep => "The text opens a 17th level of arrays and objects.",
+            Status::NotJson => "The text is not JSON in valid UTF-8, or has half of a surrogate pair.",
+            Status::MemberNames => "An object has two members of one name, or a backslash in a member name.",
+            Status::NotEvent => "The text is no Event with `@type`, `uid`, `updated` and `start`.",
+            Status::Value => "A property has a wrong type or value.",
+            Status::Conflict => {
+                "Properties exclude each other: `count` and `until`, `excluded` and another patch, or `nthOfPeriod` in a weekly or daily rule."
+            }
+            Status::Unsupported => "The event uses a form that is not supported.",
+            Status::TooMany => "The event has more than 8 rules in a list, 64 entries in a by-list, or 256 overrides.",
+            Status::ZoneTable => "The zone table is invalid.",
+            Status::Window => "The window is invalid: its start lies behind its end, or it leaves the years 1601 to 9998.",
+            Status::OtherZone => "The event is in another time zone than the zone table.",
+            Status::Buffer => "The table is longer than the buffer.",
+            Status::NoOccurrence => "The date is no occurrence, or the event is secret.",
+        }
+    }
+}
+
+impl fmt::Display for Status {
+    fn fmt(&self, out: &mut fmt::Formatter) -> fmt::Result {
+        write!(out, "{} (answer {})", self.sentence(), self.number())
+    }
+}
+
+impl std::error::Error for Status {}
+
+#[cfg(test)]
+mod tests {
+    use super::*;
+
+    #[test]
+    fn numbers_go_round() {
+        for (number, status) in (0..).zip(ALL) {
+            assert_eq!(status.number(), number);
+            assert_eq!(Status::of_number(number), Some(status));
+            assert!(status.sentence().ends_with('.'));
+        }
+        assert_eq!(Status::of_number(15), None);
+    }
+}
