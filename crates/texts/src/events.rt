@@ -22,8 +22,10 @@ use event_text::heads::head;
 use event_text::heads::own_of;
 use record::window::since_1600;
 
-// The first second of 1601 and the second behind 9998, from 1600-01-01T00:00:00.
+// The first second of 1601, from 1600-01-01T00:00:00.
 const FIRST: u64 = 31622400;
+
+// The second behind 9998.
 const END: u64 = 265046860800;
 
 // Days behind that of the date are not asked for.
