@@ -5,9 +5,9 @@
 
 use std::env;
 use std::fs::File;
-use std::io::Write;
+use std::io::{BufRead, BufReader, Write};
 use std::path::{Path, PathBuf};
-use std::process::Command;
+use std::process::{Command, Stdio};
 
 const FOLDER_VARIABLE: &str = "SMOCURANT_ARCHIVE";
 const ARCHIVE: &str = "libsmocurant.a";
@@ -39,19 +39,22 @@ fn folder_of_repository() -> PathBuf {
     folder
 }
 
+/// Runs `rt`, and passes on what it says while it works.
 fn build(root: &Path) {
     say("proving and building the library, which takes some minutes: rt staticlib smocurant");
-    match Command::new("rt").args(["staticlib", "smocurant"]).current_dir(root).output() {
-        Err(error) => fail(&format!("the Rattle kit's `rt` cannot be started ({error}); put it on the PATH, or set {FOLDER_VARIABLE}")),
-        Ok(done) if !done.status.success() => {
-            let said = String::from_utf8_lossy(&done.stdout).into_owned() + &String::from_utf8_lossy(&done.stderr);
-            fail(&format!("`rt staticlib smocurant` failed:\n{said}"));
-        }
-        Ok(_) => {}
+    let started = Command::new("rt").args(["staticlib", "smocurant"]).current_dir(root).stdout(Stdio::piped()).spawn();
+    let mut child = started.unwrap_or_else(|error| {
+        fail(&format!("the Rattle kit's `rt` cannot be started ({error}); put it on the PATH, or set {FOLDER_VARIABLE}"))
+    });
+    let output = child.stdout.take().expect("the output is piped");
+    let lines: Vec<String> = BufReader::new(output).lines().map_while(Result::ok).inspect(|line| say(line)).collect();
+    let status = child.wait().unwrap_or_else(|error| fail(&format!("`rt staticlib smocurant` was lost: {error}")));
+    if !status.success() {
+        fail(&format!("`rt staticlib smocurant` failed:\n{}", lines.join("\n")));
     }
 }
 
-/// Cargo shows nothing of a build script until it has ended, so a line for whoever waits goes to the terminal, if there is one.
+/// Cargo shows nothing of a build script until it has ended, so lines for whoever waits go to the terminal, if there is one.
 fn say(line: &str) {
     if let Ok(mut terminal) = File::options().write(true).open("/dev/tty") {
         let _ = writeln!(terminal, "\rsmocurant: {line}");
