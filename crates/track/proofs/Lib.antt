@@ -3,4 +3,5 @@ pub mod RunLaws
 pub mod LastLaws
 pub mod SettleLaws
 pub mod SkipLaws
+pub mod SpanLaws
 pub mod PlaceLaws

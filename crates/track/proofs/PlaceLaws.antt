@@ -1,8 +1,8 @@
--- A rule whose set positions no period has picks no day.
+-- A rule picks no day of a period that has too few for its set positions.
 use Prim.Native.Nat.{ℕ, _+_, _-_, _<_, _≤_}
 use mathlib.Core.Bool.{Bool, true, false, false≢true}
 use mathlib.Core.List.{List}
-use mathlib.Core.Path.{_≡_, refl, sym, ap, subst}
+use mathlib.Core.Path.{_≡_, refl, sym, ap, _∙_, subst}
 use native.Mathlib.Omega.{arith}
 use lib.Dec.{ltb}
 use lib.ListN.{length, getD}
@@ -23,9 +23,13 @@ use Rattle.rule.proofs.PeriodLaws.{day-number}
 use Rattle.matcher.specs.declared.Terms.{Terms}
 use Rattle.matcher.specs.Flags.{named, staysBy}
 use Rattle.matcher.specs.Walk.{Asked, staysOnBy, stepBy, placedBy, picksBy, picksOnBy}
-use Rattle.matcher.proofs.WalkLaws.{before, whole, asked-places}
+use Rattle.matcher.proofs.WalkLaws.{before, whole, asked-early, asked-places}
 use Rattle.track.specs.Skips.{Between}
-use Rattle.track.specs.Places.{mostDays, Unplaced}
+use Rattle.track.specs.Places.{mostDays, Unset, InPeriod}
+use Rattle.track.specs.declared.Cursor.{Cursor}
+use Rattle.track.specs.Steps.{staying, Holding}
+use Rattle.track.proofs.StepLaws.{held-asked, held-total}
+use Rattle.track.proofs.SpanLaws.{Later, in-period}
 
 most-is : (f : Frequency) (n : ℕ) → n < dayCount → daysOf f (dayAt n) ≤ mostDays f
 unfolding daysOf mostDays
@@ -34,18 +38,12 @@ most-is Weekly n h = omega arith
 most-is Monthly n h = day-facts n h .monthdays
 most-is Yearly n h = day-facts n h .yeardays
 
--- the positions before k are not set
-pub record Scanned (row : List Bool) (k : ℕ) : Type 0 where
-  pub low : 1 ≤ k
-  pub on : (j : ℕ) → 1 ≤ j → j < k → getD row (840 + j) false ≡ false
-  pub back : (j : ℕ) → 1 ≤ j → j < k → getD row (1207 + j) false ≡ false
-
-pub scan-starts : (row : List Bool) → Scanned row 1
+pub scan-starts : (row : List Bool) → Unset row 1
 scan-starts row =
     record { low = omega arith; on = λ j low high. absurd (omega arith); back = λ j low high. absurd (omega arith) }
 
-pub scan-goes-on : (row : List Bool) (k : ℕ) → Scanned row k → getD row (840 + k) false ≡ false → getD row (1207 + k) false ≡ false
-    → Scanned row (k + 1)
+pub scan-goes-on : (row : List Bool) (k : ℕ) → Unset row k → getD row (840 + k) false ≡ false → getD row (1207 + k) false ≡ false
+    → Unset row (k + 1)
 scan-goes-on row k s e f =
     record { low = omega arith; on = one-more 840 (s .on) e; back = one-more 1207 (s .back) f }
   where
@@ -55,10 +53,6 @@ scan-goes-on row k s e f =
         by (ltb j k) (λ g. before j low (ltb-true j k g))
         (λ g. let same : k ≡ j = omega (arith, ltb-false j k g) in subst (λ (i : ℕ). getD row (base + i) false ≡ false) same here)
 
-pub scan-ends : (t : Terms) (row : List Bool) (k : ℕ) → Scanned row k → mostDays (t .frequency) < k → t .placed ≡ true → Unplaced t row
-scan-ends t row k s over placed =
-    record { placed = placed; on = λ j low high. s .on j low (omega arith); back = λ j low high. s .back j low (omega arith) }
-
 pub most-few : (f : Frequency) → mostDays f ≤ 366
 unfolding mostDays
 most-few Daily = omega arith
@@ -66,45 +60,81 @@ most-few Weekly = omega arith
 most-few Monthly = omega arith
 most-few Yearly = omega arith
 
-module _ (t : Terms) (row : List Bool) (u : Unplaced t row) (n : ℕ) (a : Asked t (length row) (dayAt n)) where
-  not-placed : staysBy row (t .inyear) (dayAt n) ≡ true → placedBy t row (dayAt n) ≡ false
-  unfolding placedBy named
-  not-placed here =
-      let p = asked-places t (length row) (dayAt n) a row _ _ here refl refl in
-      let place = countIn (staysOnBy row (t .inyear)) (dayAt n .number - before t (dayAt n)) (before t (dayAt n)) + 1 in
-      let count = countIn (staysOnBy row (t .inyear)) (dayAt n .number - before t (dayAt n)) (whole t (dayAt n)) in
-      let few = count-most (staysOnBy row (t .inyear)) (dayAt n .number - before t (dayAt n)) (whole t (dayAt n)) in
-      let most = most-is (t .frequency) n (omega (arith, a .high, day-number n)) in
-      rw (
-        u .on place (p .low) (omega (arith, p .high, few, most)),
-        u .back (count + 1 - place) (omega (arith, p .high)) (omega (arith, p .low, p .high, few, most)),
-      )
+-- the days of its period that stay
+abbrev staysIn : Terms → List Bool → Day → ℕ
+staysIn t row x = countIn (staysOnBy row (t .inyear)) (x .number - before t x) (whole t x)
 
-  never-picked : picksOnBy t row n ≡ false
-  unfolding picksOnBy picksBy
-  never-picked =
-      by (staysBy row (t .inyear) (dayAt n))
-      (λ here. rw here (go (stepBy t (dayAt n)) (t .placed) (placedBy t row (dayAt n)) (u .placed) (not-placed here)))
-      (λ here. rw here)
-    where
-      go : (a b d : Bool) → b ≡ true → d ≡ false → (if a then (if b then d else true) else false) ≡ false
-      go true true d e f = f
-      go true false d e f = absurd (false≢true e)
-      go false b d e f = refl
+module _ (t : Terms) (row : List Bool) (k : ℕ) (placed : t .placed ≡ true) (u : Unset row k) where
+  module _ (n : ℕ) (a : Asked t (length row) (dayAt n)) (few : staysIn t row (dayAt n) < k) where
+    not-placed : staysBy row (t .inyear) (dayAt n) ≡ true → placedBy t row (dayAt n) ≡ false
+    unfolding placedBy named
+    not-placed here =
+        let p = asked-places t (length row) (dayAt n) a row _ _ here refl refl in
+        let place = countIn (staysOnBy row (t .inyear)) (dayAt n .number - before t (dayAt n)) (before t (dayAt n)) + 1 in
+        rw (
+          u .on place (p .low) (omega (arith, p .high, few)),
+          u .back (staysIn t row (dayAt n) + 1 - place) (omega (arith, p .high)) (omega (arith, p .low, p .high, few)),
+        )
 
-pub unplaced-between : (t : Terms) (row : List Bool) (x : Day) → Asked t (length row) x → Unplaced t row
-    → Between (picksOnBy t row) (x .number) (endDay - x .number)
-unplaced-between t row x a u =
-    record {
-      none = λ j low high.
-          never-picked t row u j
-          (record {
-            row-length = a .row-length;
-            week = a .week;
-            day = ap dayAt (sym (day-number j));
-            low = omega (arith, a .low, day-number j);
-            high = omega (arith, a .high, day-number j);
-          });
-      more = omega (arith, a .high);
-      few = omega arith;
-    }
+    never-picked : picksOnBy t row n ≡ false
+    unfolding picksOnBy picksBy
+    never-picked =
+        by (staysBy row (t .inyear) (dayAt n))
+        (λ here. rw here (go (stepBy t (dayAt n)) (t .placed) (placedBy t row (dayAt n)) placed (not-placed here)))
+        (λ here. rw here)
+      where
+        go : (a b d : Bool) → b ≡ true → d ≡ false → (if a then (if b then d else true) else false) ≡ false
+        go true true d e f = f
+        go true false d e f = absurd (false≢true e)
+        go false b d e f = refl
+
+  module _ (x : Day) (a : Asked t (length row) x) where
+    later-asked : (j : ℕ) → x .number < j → j < endDay → Asked t (length row) (dayAt j)
+    later-asked j low high =
+        record {
+          row-length = a .row-length;
+          week = a .week;
+          day = ap dayAt (sym (day-number j));
+          low = omega (arith, a .low, day-number j);
+          high = omega (arith, day-number j);
+        }
+
+    -- no period has days enough
+    pub unplaced-between : mostDays (t .frequency) < k → Between (picksOnBy t row) (x .number) (endDay - x .number)
+    unplaced-between over =
+        record {
+          none = λ j low high.
+              never-picked j (later-asked j low (omega arith))
+              (omega (
+                arith,
+                over,
+                count-most (staysOnBy row (t .inyear)) (dayAt j .number - before t (dayAt j)) (whole t (dayAt j)),
+                most-is (t .frequency) j (omega (arith, a .high)),
+              ));
+          more = omega (arith, a .high);
+          few = omega arith;
+        }
+
+    -- the own period has not
+    short-between : (total n : ℕ) → total ≡ staysIn t row x → total < k → InPeriod t x n → Between (picksOnBy t row) (x .number) n
+    short-between total n is few p =
+        record {
+          none = λ j low high.
+              let there : x .number + (j - x .number) ≡ j = omega arith in
+              let q = subst (λ (i : ℕ). Later (t .frequency) (t .first) x (j - x .number) (dayAt i)) there
+              (in-period (t .frequency) (t .first) x (a .day) (a .week) (j - x .number) (omega (arith, p .known)) (omega (arith, p .within)))
+              in
+              let first : dayAt j .number - before t (dayAt j) ≡ x .number - before t x =
+              omega (arith, q .since, day-number j, asked-early t (length row) x a) in
+              let same : staysIn t row (dayAt j) ≡ staysIn t row x =
+              ap (λ (i : ℕ). countIn (staysOnBy row (t .inyear)) i (whole t (dayAt j))) first
+              ∙ ap (countIn (staysOnBy row (t .inyear)) (x .number - before t x)) (q .whole)
+              in
+              never-picked j (later-asked j low (omega (arith, p .known))) (omega (arith, same, is, few));
+          more = p .more;
+          few = omega (arith, p .known);
+        }
+
+  pub held-short : (c : Cursor) → Holding t row (length row) c → (n : ℕ) → c .total < k → InPeriod t (c .day) n → Between (picksOnBy t row) (c .day .number) n
+  unfolding staying
+  held-short c hold n few p = short-between (c .day) (held-asked t row c hold) (c .total) n (held-total t row c hold placed) few p

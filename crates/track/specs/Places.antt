@@ -1,11 +1,14 @@
--- Set positions that no period of a rule could have.
-use Prim.Native.Nat.{ℕ, _+_, _≤_}
+-- Set positions that a period has too few days for.
+use Prim.Native.Nat.{ℕ, _+_, _<_, _≤_}
 use mathlib.Core.Bool.{Bool, true, false}
 use mathlib.Core.List.{List}
 use mathlib.Core.Path.{_≡_}
 use lib.ListN.{getD}
 use Rattle.rule.specs.declared.Frequency.{Frequency}
 use Rattle.rule.specs.declared.Frequency.the-variants.{Daily, Weekly, Monthly, Yearly}
+use Rattle.rule.specs.declared.Day.{Day}
+use Rattle.rule.specs.Period.{sinceFirst, daysOf}
+use Rattle.rule.specs.Gives.{endDay}
 use Rattle.matcher.specs.declared.Terms.{Terms}
 
 -- The most days that a period has.
@@ -15,8 +18,14 @@ mostDays Weekly = 7
 mostDays Monthly = 31
 mostDays Yearly = 366
 
--- A rule has set positions, and none that one of its periods could have.
-pub record Unplaced (t : Terms) (row : List Bool) : Type 0 where
-  pub placed : t .placed ≡ true
-  pub on : (k : ℕ) → 1 ≤ k → k ≤ mostDays (t .frequency) → getD row (840 + k) false ≡ false
-  pub back : (k : ℕ) → 1 ≤ k → k ≤ mostDays (t .frequency) → getD row (1207 + k) false ≡ false
+-- No position before k is set, from the beginning or from the end: a period of fewer than k days has none.
+pub record Unset (row : List Bool) (k : ℕ) : Type 0 where
+  pub low : 1 ≤ k
+  pub on : (j : ℕ) → 1 ≤ j → j < k → getD row (840 + j) false ≡ false
+  pub back : (j : ℕ) → 1 ≤ j → j < k → getD row (1207 + j) false ≡ false
+
+-- The n days from x on lie in its period and in the profile.
+pub record InPeriod (t : Terms) (x : Day) (n : ℕ) : Type 0 where
+  pub more : 1 ≤ n
+  pub known : x .number + n ≤ endDay
+  pub within : sinceFirst (t .frequency) (t .first) x + n ≤ daysOf (t .frequency) x

@@ -80,7 +80,7 @@ fn count_day(
     if limit <= first {
         return first;
     }
-    let unplaced = super::places::is_unplaced(terms, flags);
+    let need = super::places::least_days(terms, flags);
     let mut c = super::steps::cursor_at(terms, flags, first);
     let mut left = limit - first;
     let mut more = count;
@@ -93,7 +93,7 @@ fn count_day(
             left -= 1;
             c = super::steps::advance(terms, flags, c);
         } else {
-            let gap = super::skips::gap(terms, flags, unplaced, c.day);
+            let gap = super::skips::gap(terms, flags, need, c);
             if left <= gap {
                 return limit;
             }

@@ -1,12 +1,13 @@
-// Set positions that no period of a rule could have.
-ghost use mathlib.Core.Bool.{true};
+// Set positions that a period has too few days for.
 ghost use mathlib.Core.Path.{_≡_};
 ghost use lib.ListN.{length};
-ghost use Rattle.track.specs.Places.{mostDays, Unplaced};
+ghost use Rattle.matcher.specs.Walk.{Asked};
+ghost use Rattle.track.specs.Places.{mostDays, Unset, InPeriod};
 use matcher::Terms;
+use rule::Day;
 use rule::Frequency;
 
-fn most_days(frequency: Frequency) -> u32
+pub fn most_days(frequency: Frequency) -> u32
     ensures { λ r. ⌜ r ≡ mostDays frequency ⌝ }
 {
     match frequency {
@@ -17,26 +18,41 @@ fn most_days(frequency: Frequency) -> u32
     }
 }
 
-// Whether the rule has set positions, and surely none that one of its periods could have: then it has no days.
-pub fn is_unplaced(terms: Terms, flags: &[bool]) -> bool
+// The least number of days that a period must have for a set position to name one of them.
+pub fn least_days(terms: Terms, flags: &[bool]) -> u32
     requires { ⌜ length (now flags) ≡ 1574 ⌝ }
-    ensures { λ r. ⌜ (r ≡ true → Unplaced terms (now (flags .entry))) ⌝ }
+    ensures { λ r. ⌜ Unset (now (flags .entry)) r ⌝ }
 {
     let placed = terms.placed;
     if !placed {
-        return false;
+        return 1;
     }
     let frequency = terms.frequency;
     let most = most_days(frequency);
     let mut k = 1;
     while k <= most {
         if flags[840 + k as usize] {
-            return false;
+            return k;
         }
         if flags[1207 + k as usize] {
-            return false;
+            return k;
         }
         k += 1;
     }
-    true
+    k
+}
+
+// Days from this one on to the end of its period, or of the profile.
+pub fn to_period_end(terms: Terms, x: Day) -> u32
+    requires { ⌜ Asked terms 1574 x ⌝ }
+    ensures { λ r. ⌜ InPeriod terms x r ⌝ }
+{
+    let frequency = terms.frequency;
+    let before = matcher::periods::since_first(frequency, terms.first, x);
+    let rest = matcher::periods::days_of(frequency, x) - before;
+    let known = 3067672 - x.number;
+    if known < rest {
+        return known;
+    }
+    rest
 }

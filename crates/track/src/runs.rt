@@ -40,7 +40,7 @@ pub fn mark_run(
         return;
     }
     let terms = track.terms;
-    let unplaced = super::places::is_unplaced(terms, flags);
+    let need = super::places::least_days(terms, flags);
     let mut c = super::steps::cursor_at(terms, flags, first);
     let mut i = 0;
     while i < hits.len() {
@@ -50,7 +50,7 @@ pub fn mark_run(
             i += 1;
             c = super::steps::advance(terms, flags, held);
         } else {
-            let gap = super::skips::gap(terms, flags, unplaced, held.day);
+            let gap = super::skips::gap(terms, flags, need, held);
             if hits.len() <= i + gap as usize {
                 return;
             }

@@ -7,7 +7,9 @@ ghost use Rattle.rule.specs.Day.{dayAt};
 ghost use Rattle.rule.specs.Gives.{endDay};
 ghost use Rattle.matcher.specs.Walk.{Asked, picksOnBy};
 ghost use Rattle.track.specs.Skips.{Without, Between, stepAt, stepOn, monthOn, toMonthEnd, daysAhead, isCarried};
-ghost use Rattle.track.specs.Places.{Unplaced};
+ghost use Rattle.track.specs.Places.{Unset};
+ghost use Rattle.track.specs.Steps.{Holding};
+use super::Cursor;
 use matcher::Terms;
 use rule::Day;
 use rule::Frequency;
@@ -124,21 +126,53 @@ fn to_next(terms: Terms, flags: &[bool], x: Day) -> u32
     k
 }
 
-// Days to go on by from a day that is none of the rule's: those between are not either.
-pub fn gap(terms: Terms, flags: &[bool], unplaced: bool, x: Day) -> u32
-    requires { ⌜ Asked terms (length (now flags)) x × (unplaced ≡ true → Unplaced terms (now flags)) ⌝ }
-    ensures { λ r. ⌜ Between (picksOnBy terms (now (flags .entry))) (x .number) r ⌝ }
+// The days that are passed are looked for where a period begins: after one that stays, the period is in step.
+fn skip_early(terms: Terms, flags: &[bool], c: Cursor) -> u32
+    requires { ⌜ Asked terms (length (now flags)) (c .day) ⌝ }
+    ensures { λ r. ⌜ Without (picksOnBy terms (now (flags .entry))) (c .day .number) r ⌝ }
 {
-    if unplaced {
+    let seen = c.seen;
+    if 0 < seen {
+        return 0;
+    }
+    skip(terms, flags, c.day)
+}
+
+// The same for a rule with set positions: a period with too few days for them is passed whole.
+fn place_gap(terms: Terms, flags: &[bool], need: u32, c: Cursor) -> u32
+    requires { ⌜ (terms .placed ≡ true) × (Holding terms (now flags) (length (now flags)) c × Unset (now flags) need) ⌝ }
+    ensures { λ r. ⌜ Between (picksOnBy terms (now (flags .entry))) (c .day .number) r ⌝ }
+{
+    let x = c.day;
+    let frequency = terms.frequency;
+    let most = super::places::most_days(frequency);
+    if most < need {
         return 3067672 - x.number;
     }
-    let n = skip(terms, flags, x);
+    let n = skip_early(terms, flags, c);
     if 0 < n {
         return n;
     }
+    let total = c.total;
+    if total < need {
+        return super::places::to_period_end(terms, x);
+    }
+    1
+}
+
+// Days to go on by from a day that is none of the rule's: those between are not either.
+pub fn gap(terms: Terms, flags: &[bool], need: u32, c: Cursor) -> u32
+    requires { ⌜ Holding terms (now flags) (length (now flags)) c × Unset (now flags) need ⌝ }
+    ensures { λ r. ⌜ Between (picksOnBy terms (now (flags .entry))) (c .day .number) r ⌝ }
+{
     let placed = terms.placed;
     if placed {
-        return 1;
+        return place_gap(terms, flags, need, c);
+    }
+    let x = c.day;
+    let n = skip(terms, flags, x);
+    if 0 < n {
+        return n;
     }
     to_next(terms, flags, x)
 }

@@ -1,6 +1,6 @@
 -- `track::last::count_day` meets its contract. The invariant: from here on the walk ends where it ends from the start on.
 use Rattle.track.proofs.LastLaws.{EndAt, end-none, end-starts, end-found, end-over, end-goes-on, end-leaps, end-nowhere, falls-between}
-use Rattle.track.proofs.StepLaws.{at-number, at-again, held-asked, held-here}
+use Rattle.track.proofs.StepLaws.{at-number, at-again, held-here}
 use Rattle.track.proofs.SkipLaws.{between-all}
 use Rattle.track.specs.Steps.{cursorAt}
 use Rattle.matcher.specs.Member.{fallsOnBy}
@@ -12,10 +12,10 @@ use Rattle.track.proofs.last.count_day.Statement.{statement}
 use Rattle.track.proofs.last.count_day.Tie as tie
 
 abbrev Inv-loop : tie.InvT-loop
-Inv-loop excluded end terms flags start limit count first unplaced c₀ left₀ more₀ c left more = (c ≡ cursorAt terms flags (c .day .number)) × EndAt (fallsOnBy excluded end terms flags start) (start / 86400) limit count (c .day .number) left more
+Inv-loop excluded end terms flags start limit count first need c₀ left₀ more₀ c left more = (c ≡ cursorAt terms flags (c .day .number)) × EndAt (fallsOnBy excluded end terms flags start) (start / 86400) limit count (c .day .number) left more
 
 abbrev μ-loop : tie.MeasureT-loop
-μ-loop excluded end terms flags start limit count first unplaced c₀ left₀ more₀ c left more = left
+μ-loop excluded end terms flags start limit count first need c₀ left₀ more₀ c left more = left
 
 cast-first : tie.Need-cast-first Inv-loop μ-loop
 cast-first c = search needs
@@ -25,8 +25,8 @@ returns c =
     let none : c .before .before .args .limit - c .before .before .args .start / 86400 ≡ 0 = omega (arith, c .if1 .taken) in
     sym (rw none (end-none _ _ _))
 
-is-unplaced-requires : tie.Need-is-unplaced-requires Inv-loop μ-loop
-is-unplaced-requires c κs = c .before .before .pre .row-length
+least-days-requires : tie.Need-least-days-requires Inv-loop μ-loop
+least-days-requires c κs = c .before .before .pre .row-length
 
 cursor-at-requires : tie.Need-cursor-at-requires Inv-loop μ-loop
 cursor-at-requires c κs =
@@ -82,7 +82,7 @@ gap-requires c κs =
     let w = c .before .before .before .before .loop .inv in
     let a = c .before .before .before .before .before .before .before .before .before .pre in
     let held = held-here _ _ _ _ (a .row-length) (a .week) (omega (arith, w .1 .low, a .low)) (omega (arith, w .1 .ends, a .within, c .before .before .before .loop-test .taken)) (w .0) in
-    (held-asked _ _ _ held, c .before .before .before .before .before .before .is-unplaced .ensures)
+    (held, c .before .before .before .before .before .before .least-days .ensures)
 
 returns-3 : tie.Need-returns-3 Inv-loop μ-loop
 returns-3 c =
@@ -123,7 +123,7 @@ count-day-spec =
     μ-loop
     cast-first
     returns
-    is-unplaced-requires
+    least-days-requires
     cursor-at-requires
     sub-left
     loop-holds

@@ -1,6 +1,6 @@
 -- `track::runs::mark_run` meets its contract. The invariant: what is marked, and what is left to mark, make the whole.
 use Rattle.track.proofs.RunLaws.{MarkAt, mark-starts, mark-yes, mark-goes-by, mark-rests, mark-ends, run-ended, run-between}
-use Rattle.track.proofs.StepLaws.{at-number, at-leap, held-asked, held-here}
+use Rattle.track.proofs.StepLaws.{at-number, at-leap, held-here}
 use Rattle.track.proofs.SkipLaws.{between-all}
 use Rattle.track.specs.Steps.{cursorAt}
 use Rattle.track.specs.Runs.{hasDay}
@@ -13,16 +13,16 @@ use Rattle.track.proofs.runs.mark_run.Statement.{statement}
 use Rattle.track.proofs.runs.mark_run.Tie as tie
 
 abbrev Inv-loop : tie.InvT-loop
-Inv-loop track flags hits₀ first begin value last terms unplaced c₀ i₀ hits c i = (c ≡ cursorAt terms flags (first + i)) × MarkAt (hasDay track flags begin) value first hits₀ hits i
+Inv-loop track flags hits₀ first begin value last terms need c₀ i₀ hits c i = (c ≡ cursorAt terms flags (first + i)) × MarkAt (hasDay track flags begin) value first hits₀ hits i
 
 abbrev μ-loop : tie.MeasureT-loop
-μ-loop track flags hits₀ first begin value last terms unplaced c₀ i₀ hits c i = length hits - i
+μ-loop track flags hits₀ first begin value last terms need c₀ i₀ hits c i = length hits - i
 
 returns : tie.Need-returns Inv-loop μ-loop
 returns c = run-ended _ _ _ _ _ _ (c .if1 .taken)
 
-is-unplaced-requires : tie.Need-is-unplaced-requires Inv-loop μ-loop
-is-unplaced-requires c κs = c .before .before .before .before .pre .row-length
+least-days-requires : tie.Need-least-days-requires Inv-loop μ-loop
+least-days-requires c κs = c .before .before .before .before .pre .row-length
 
 cursor-at-requires : tie.Need-cursor-at-requires Inv-loop μ-loop
 cursor-at-requires c κs =
@@ -73,7 +73,7 @@ gap-requires c κs =
     let m = c .before .before .before .loop .inv in
     let a = c .before .before .before .before .before .before .before .before .before .before .pre in
     let held = held-here _ _ _ _ (a .row-length) (a .week) (omega (arith, a .low)) (omega (arith, m .1 .size, c .before .before .loop-test .taken, a .high)) (m .0) in
-    (held-asked _ _ _ held, c .before .before .before .before .before .is-unplaced .ensures)
+    (held, c .before .before .before .before .before .least-days .ensures)
 
 cast-if3 : tie.Need-cast-if3 Inv-loop μ-loop
 cast-if3 c = search needs
@@ -129,7 +129,7 @@ mark-run-spec =
     Inv-loop
     μ-loop
     returns
-    is-unplaced-requires
+    least-days-requires
     cursor-at-requires
     loop-holds
     has-day-requires

@@ -1,21 +1,20 @@
--- `track::places::is_unplaced` meets its contract. The invariant: the positions before k are not set.
-use Rattle.track.proofs.PlaceLaws.{Scanned, scan-starts, scan-goes-on, scan-ends, most-few}
-use mathlib.Core.Bool.{false≢true}
-use borrow.Author.Tests.{not-false}
+-- `track::places::least_days` meets its contract. The invariant: the positions before k are not set.
+use Rattle.track.proofs.PlaceLaws.{scan-starts, scan-goes-on, most-few}
+use Rattle.track.specs.Places.{Unset}
 use native.Mathlib.Omega.{arith}
 use Prim.Native.Nat.{_+_, _-_}
 use borrow.Author.Needs.{needs}
-use Rattle.track.proofs.places.is_unplaced.Statement.{statement}
-use Rattle.track.proofs.places.is_unplaced.Tie as tie
+use Rattle.track.proofs.places.least_days.Statement.{statement}
+use Rattle.track.proofs.places.least_days.Tie as tie
 
 abbrev Inv-loop : tie.InvT-loop
-Inv-loop flags placed most k₀ k = Scanned flags k
+Inv-loop flags placed most k₀ k = Unset flags k
 
 abbrev μ-loop : tie.MeasureT-loop
 μ-loop flags placed most k₀ k = most + 1 - k
 
 returns : tie.Need-returns Inv-loop μ-loop
-returns c = λ e. absurd (false≢true e)
+returns c = scan-starts _
 
 most-days-requires : tie.Need-most-days-requires Inv-loop μ-loop
 most-days-requires c κs = search needs
@@ -33,7 +32,7 @@ shared-slice-read-if2 : tie.Need-shared-slice-read-if2 Inv-loop μ-loop
 shared-slice-read-if2 c = omega (arith, c .before .before .before .most-days .ensures, c .before .loop-test .taken, most-few (c .before .before .before .before .before .before .args .terms .frequency), c .before .before .before .before .before .before .pre)
 
 returns-2 : tie.Need-returns-2 Inv-loop μ-loop
-returns-2 c = λ e. absurd (false≢true e)
+returns-2 c = c .before .before .before .loop .inv
 
 cast-if3 : tie.Need-cast-if3 Inv-loop μ-loop
 cast-if3 c = search needs
@@ -45,7 +44,7 @@ shared-slice-read-if3 : tie.Need-shared-slice-read-if3 Inv-loop μ-loop
 shared-slice-read-if3 c = omega (arith, c .before .before .before .before .before .most-days .ensures, c .before .before .before .loop-test .taken, most-few (c .before .before .before .before .before .before .before .before .args .terms .frequency), c .before .before .before .before .before .before .before .before .pre)
 
 returns-3 : tie.Need-returns-3 Inv-loop μ-loop
-returns-3 c = λ e. absurd (false≢true e)
+returns-3 c = c .before .before .before .before .before .loop .inv
 
 add-k : tie.Need-add-k Inv-loop μ-loop
 add-k c = omega (arith, c .before .before .before .before .before .before .most-days .ensures, c .before .before .before .before .loop-test .taken, most-few (c .before .before .before .before .before .before .before .before .before .args .terms .frequency))
@@ -57,11 +56,10 @@ loop-again : tie.Need-loop-again Inv-loop μ-loop
 loop-again c = scan-goes-on _ _ (c .before .before .before .before .before .loop .inv) (c .before .before .if2 .left) (c .if3 .left)
 
 returns-4 : tie.Need-returns-4 Inv-loop μ-loop
-returns-4 c =
-    λ e. scan-ends _ _ _ (c .before .loop .inv) (omega (arith, c .before .before .most-days .ensures, c .loop-test .left)) (not-false (c .before .before .before .before .before .args .terms .placed) (c .before .before .before .if1 .left))
+returns-4 c = c .before .loop .inv
 
-pub is-unplaced-spec : {M : Type 1} → statement M
-is-unplaced-spec =
+pub least-days-spec : {M : Type 1} → statement M
+least-days-spec =
     tie.close
     (tie.spec
     Inv-loop
