@@ -169,6 +169,10 @@ def plain(**more):
     return {**event('2020-11-01', time='01:30:00'), 'timeZone': 'America/New_York', 'duration': 'PT1H', **more}
 
 
+def rfc8984(title, start, length, made, **more):
+    return {**event(start, made), 'title': title, 'duration': length, **more}
+
+
 TRAILER = '1c0001000000000000000000'
 
 
@@ -197,6 +201,15 @@ def whole():
     yield Case(None, widest, text=sized(65537), answer=1)
     yield Case(plain(), widest, text=nested(16))
     yield Case(None, widest, text=nested(17), answer=2)
+    # RFC 8984, 6.5, 6.8 and 6.9: a day each year, a floating time each day, a course with overrides (its zone left out: the program's table is another's)
+    yield Case(rfc8984('April Fool\'s Day', '1900-04-01T00:00:00', 'P1D', rule('yearly'), showWithoutTime=True), window('1900-01-01', '2031-01-01'))
+    yield Case(rfc8984('Yoga', '2020-01-01T07:00:00', 'PT30M', rule('daily'), timeZone=None), window('2019-12-01', '2020-03-01'))
+    yield Case(rfc8984('Calculus I', '2020-01-08T09:00:00', 'PT1H30M', rule('weekly', until='2020-06-24T09:00:00'), recurrenceOverrides={
+        '2020-01-07T14:00:00': {'title': 'Introduction to Calculus I (optional)'},
+        '2020-04-01T09:00:00': {'excluded': True},
+        '2020-06-25T09:00:00': {'title': 'Calculus I Exam', 'start': '2020-06-25T10:00:00', 'duration': 'PT2H'}}), widest,
+        printed=[datetime.datetime(2020, 1, 7, 14)]
+        + [datetime.datetime(2020, 1, 8, 9) + 7 * n * datetime.timedelta(days=1) for n in range(25) if n != 12] + [datetime.datetime(2020, 6, 25, 9)])
     # overlap and gap: the offset before
     for time in ('00:59:59', '01:00:00', '01:30:00', '01:59:59', '02:00:00', '03:00:00'):
         yield Case({**plain(), 'start': f'2020-11-01T{time}'}, widest)
