@@ -56,8 +56,11 @@ module _ (overrides : List Override) (patches : List ℕ) (ids₀ ids₁ : List 
   places-long : length places₁ ≡ length places₀
   places-long = ap length (w .places) ∙ length-sets places₀ 0 (take 256 patches)
 
-taken : {A : Type 0} (l : List A) (n : ℕ) → n ≤ length l → n ≡ length (take n l)
+pub taken : {A : Type 0} (l : List A) (n : ℕ) → n ≤ length l → n ≡ length (take n l)
 taken l n h = sym (length-take-le n l h)
+
+pub some-taken : {A : Type 0} (l : List A) (n : ℕ) → 0 < n → n ≤ length l → 0 < length (take n l)
+some-taken l n some room = omega (arith, length-take-le n l room)
 
 module _ (s : List ℕ) (hd : Head) (is : fromHead inner s hd ≡ frontOf s) (ok : eventFault s ≡ 0) (to limit : ℕ) (lim : limit ≡ limitOf to) where
   within : limit ≤ endDay
@@ -103,13 +106,13 @@ module _ (s : List ℕ) (hd : Head) (is : fromHead inner s hd ≡ frontOf s) (ok
           begins : o .start ≡ hd .start
           begins = kept-start s hd is ok o (own s)
 
-          pub table-needs : validTable b ts ns ≡ true
-              → Ready rules (length flags) excluded (length excludedFlags) (length (take n ids₁)) (length (take n gone₁)) 1024
+          pub table-needs : validTable b ts ns ≡ true → (hits : ℕ) → 0 < hits
+              → Ready rules (length flags) excluded (length excludedFlags) (length (take n ids₁)) (length (take n gone₁)) hits
               × (Window (o .start) from to × (Overridden (length (take n ids₁)) (length (take n gone₁)) (length (take n places₁))
               × Timed (toZ w64 (ofZ w64 b)) ts ns (detailsBy s (detailsIn s o) (take n ids₁) (take n places₁))))
-          table-needs valid =
+          table-needs valid hits some =
               let even = kept-even s hd is ok o (own s) ids₀ ids₁ gone₀ gone₁ places₀ places₁ n room filled in (
-                record { rules-tracked = kept .tracked; excluded-tracked = left .tracked; overrides = even .marks; lent = omega arith },
+                record { rules-tracked = kept .tracked; excluded-tracked = left .tracked; overrides = even .marks; lent = some },
                 (
                   subst (λ (k : ℕ). Window k from to) (sym begins) w,
                   (

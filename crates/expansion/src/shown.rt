@@ -2,7 +2,7 @@
 ghost use mathlib.Core.Bool.{true};
 ghost use mathlib.Core.List.{List};
 ghost use mathlib.Core.Path.{_≡_};
-ghost use Prim.Native.Nat.{ℕ};
+ghost use Prim.Native.Nat.{ℕ, _<_, _≤_};
 ghost use Rattle.zone.specs.Table.{validTable};
 ghost use Rattle.event.specs.Event.{eventFault, eventOf};
 ghost use Rattle.event_text.specs.Front.{frontOf, inner};
@@ -19,7 +19,22 @@ use event_text::Head;
 use event_text::heads::own_of;
 use tables::whole::put_table;
 
-// The flags are rows for eight rules of each list; the hits are one chunk of days.
+// As many days are marked at once as the window has, at least one and at most 1,024.
+fn days_at_once(from: u64, limit: u32) -> usize
+    ensures { λ r. ⌜ (0 < r) × (r ≤ 1024) ⌝ }
+{
+    let first = from / 86400;
+    if limit as u64 <= first {
+        return 1;
+    }
+    let days = limit as u64 - first;
+    if 1024 < days {
+        return 1024;
+    }
+    days as usize
+}
+
+// The flags are rows for eight rules of each list; the hits are days that are marked at once.
 pub fn put_shown(
     text: &[u8],
     event: Head,
@@ -47,6 +62,7 @@ pub fn put_shown(
     let mut gone = [false; 256];
     let mut places = [0usize; 256];
     let mut hits = [false; 1024];
+    let days = days_at_once(from, limit);
     let kept = load_list(text, rules, false, start, limit, &mut rulerows);
     let left = load_list(text, excluded, true, start, limit, &mut excludedrows);
     let n = load_overrides(text, overrides, &mut ids, &mut gone, &mut places);
@@ -66,7 +82,7 @@ pub fn put_shown(
         &rulerows,
         left,
         &excludedrows,
-        &mut hits,
+        &mut hits[..days],
         from,
         to,
     )
