@@ -70,6 +70,17 @@ fn days_out(terms: Terms, x: Day) -> u32
     days_ahead(frequency, terms.first, n, x)
 }
 
+// Days from this one on to the end of its period, where that is out of step.
+fn period_out(terms: Terms, x: Day) -> u32
+    requires { ⌜ Asked terms 1574 x ⌝ }
+    ensures { λ r. ⌜ Without (stepOn terms) (x .number) r ⌝ }
+{
+    if matcher::walk::in_step(terms, x) {
+        return 0;
+    }
+    super::places::to_period_end(terms, x)
+}
+
 // Days from this one on of a month that the rule has not.
 fn month_out(flags: &[bool], x: Day) -> u32
     requires { ⌜ (length (now flags) ≡ 1574) × ((x ≡ dayAt (x .number)) × (x .number < endDay)) ⌝ }
@@ -81,7 +92,7 @@ fn month_out(flags: &[bool], x: Day) -> u32
     to_month_end(x)
 }
 
-// The positions of a year are counted once, where it begins: no part of it is passed.
+// The positions of a year are counted once, where it begins: it is passed whole or not at all.
 fn is_carried(frequency: Frequency, placed: bool) -> bool
     ensures { λ r. ⌜ r ≡ isCarried frequency placed ⌝ }
 {
@@ -100,7 +111,7 @@ fn skip(terms: Terms, flags: &[bool], x: Day) -> u32
 {
     let frequency = terms.frequency;
     if is_carried(frequency, terms.placed) {
-        return 0;
+        return period_out(terms, x);
     }
     let out = days_out(terms, x);
     if 0 < out {
