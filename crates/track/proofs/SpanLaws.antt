@@ -1,5 +1,5 @@
 -- The days of one period, from one of them on.
-use Prim.Native.Nat.{ℕ, zero, suc, _+_, _-_, _*_, _%_, _<_, _≤_}
+use Prim.Native.Nat.{ℕ, zero, suc, _+_, _-_, _*_, _<_}
 use mathlib.Core.Bool.{false}
 use mathlib.Core.Path.{_≡_, refl, sym, ap, _∙_}
 use native.Mathlib.Omega.{arith}
@@ -13,7 +13,6 @@ use Rattle.rule.specs.declared.Frequency.the-variants.{Daily, Weekly, Monthly, 
 use Rattle.rule.specs.declared.Day.{Day}
 use Rattle.rule.specs.Day.{onDate, dayAt}
 use Rattle.rule.specs.Period.{periodOf, sinceFirst, daysOf}
-use Rattle.rule.specs.Gives.{endDay}
 use Rattle.rule.proofs.Bools.{by}
 use Rattle.rule.proofs.DayLaws.{of-day, step-month, step-year, step-next-year, year-start-of}
 use Rattle.rule.proofs.PeriodLaws.{day-number}

@@ -137,7 +137,7 @@ fn to_next(terms: Terms, flags: &[bool], x: Day) -> u32
     k
 }
 
-// The days that are passed are looked for where a period begins: after one that stays, the period is in step.
+// Looked for only up to the first day of a period that stays: asked on each day, it would cost more than it saves.
 fn skip_early(terms: Terms, flags: &[bool], c: Cursor) -> u32
     requires { ⌜ Asked terms (length (now flags)) (c .day) ⌝ }
     ensures { λ r. ⌜ Without (picksOnBy terms (now (flags .entry))) (c .day .number) r ⌝ }
@@ -149,7 +149,7 @@ fn skip_early(terms: Terms, flags: &[bool], c: Cursor) -> u32
     skip(terms, flags, c.day)
 }
 
-// The same for a rule with set positions: a period with too few days for them is passed whole.
+// Days to go on by for a rule with set positions: a period with too few days for them is passed whole.
 fn place_gap(terms: Terms, flags: &[bool], need: u32, c: Cursor) -> u32
     requires { ⌜ (terms .placed ≡ true) × (Holding terms (now flags) (length (now flags)) c × Unset (now flags) need) ⌝ }
     ensures { λ r. ⌜ Between (picksOnBy terms (now (flags .entry))) (c .day .number) r ⌝ }

@@ -3,7 +3,7 @@ use Rattle.track.proofs.SkipLaws.{between-one, without-between}
 use Rattle.track.proofs.PlaceLaws.{unplaced-between, held-short}
 use Rattle.track.proofs.StepLaws.{held-asked}
 use native.Mathlib.Omega.{arith}
-use mathlib.Core.Path.{_≡_, refl, sym, _∙_}
+use mathlib.Core.Path.{refl}
 use borrow.Author.Needs.{needs}
 use Rattle.track.proofs.skips.place_gap.Statement.{statement}
 use Rattle.track.proofs.skips.place_gap.Tie as tie
