@@ -1,3 +1,2 @@
 pub mod Ordered
 pub mod Exactly
-mod WorkedDates

@@ -2,5 +2,4 @@ pub mod RangeLaws
 pub mod OrderLaws
 pub mod TableLaws
 pub mod LookupLaws
-pub mod Starred
 mod Machine

@@ -1,0 +1,77 @@
+-- How the cases are written.
+use Prim.Native.Nat.{ℕ, _+_, _*_}
+use mathlib.Core.Bool.{true, false}
+use mathlib.Core.List.{List, [], _∷_, _++_, map}
+use mathlib.Core.Option.{Option, none, some}
+use lib.IntN.{ℤ}
+use lib.ListN.{length}
+use Rattle.gregorian.specs.Days.{dayOf}
+use Rattle.rule.specs.declared.Frequency.{Frequency}
+use Rattle.rule.specs.Written.{NDay, RecurrenceRule}
+use Rattle.little_endian.specs.Bytes.{bytesOf, twos}
+use Rattle.words.specs.declared.Privacy.the-variants.{Public}
+use Rattle.event.specs.Types.{Details, Override, Event}
+use Rattle.table.specs.Window.{since1970}
+use Rattle.table.specs.Bytes.{ZoneTable, trailerOf}
+
+-- A zone table, an event, and the bytes of the table of its occurrences in the widest window.
+pub record Case : Type 0 where
+  pub zones : ZoneTable
+  pub event : Event
+  pub table : List ℕ
+
+-- ---- events
+
+-- Midnight of a date, in seconds from 1600-01-01T00:00:00.
+unfoldable pub on : ℕ → ℕ → ℕ → ℕ
+on y m d = 86400 * dayOf (record { year = y; month = m; day = d })
+
+unfoldable pub lasting : ℕ → ℕ → Details
+lasting start seconds =
+    record { start = start; length = record { days = 0; seconds = seconds }; busy = true; allDay = false; title = none; description = none }
+
+unfoldable pub eventOf : Option (List ℕ) → ℕ → ℕ → List RecurrenceRule → List RecurrenceRule → List Override → Event
+eventOf zone start seconds rules excluded overrides =
+    record { zone = zone; privacy = Public; details = lasting start seconds; rules = rules; excludedRules = excluded; overrides = overrides }
+
+-- A rule of this frequency and interval, first day of the week, days, days of the month, positions and count.
+unfoldable pub rule : Frequency → ℕ → ℕ → List ℕ → List ℤ → List ℤ → Option ℕ → RecurrenceRule
+rule f n week days monthDays positions count =
+    record {
+      frequency = f;
+      interval = n;
+      firstDayOfWeek = week;
+      byDay = map (λ d. record { day = d; nthOfPeriod = none }) days;
+      byMonthDay = monthDays;
+      byMonth = [];
+      bySetPosition = positions;
+      until = none;
+      count = count;
+    }
+
+-- ---- tables
+
+unfoldable pub row : ℤ → ℤ → ℤ → ℕ → List ℕ
+row id start end marks = bytesOf 8 (twos id) ++ (bytesOf 8 (twos start) ++ (bytesOf 8 (twos end) ++ (marks ∷ 0 ∷ 0 ∷ 0 ∷ [])))
+
+-- The rows of a floating event of no length at these date-times: busy and floating.
+unfoldable pub floatingRows : List ℕ → List ℕ
+floatingRows [] = []
+floatingRows (x ∷ xs) = row (since1970 x) (since1970 x) (since1970 x) 5 ++ floatingRows xs
+
+-- ---- cases
+
+unfoldable pub noZone : ZoneTable
+noZone = record { name = []; initial = lib.IntN.pos 0; instants = []; offsets = [] }
+
+-- A floating event of no length that occurs at these date-times.
+unfoldable pub dated : Event → List ℕ → Case
+dated e xs = record { zones = noZone; event = e; table = floatingRows xs ++ trailerOf (length xs) }
+
+unfoldable pub ruled : ℕ → RecurrenceRule → List ℕ → Case
+ruled start r xs = dated (eventOf none start 0 (r ∷ []) [] []) xs
+
+-- A single event of no length in a zone: its local time, from 1600 and from 1970, and its time in UTC.
+unfoldable pub timed : ZoneTable → ℕ → ℤ → ℤ → Case
+timed zones start local utc =
+    record { zones = zones; event = eventOf (some (zones .name)) start 0 [] [] []; table = row local utc utc 1 ++ trailerOf 1 }

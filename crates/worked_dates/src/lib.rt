@@ -1,0 +1,1 @@
+// 01's worked dates with a star: the cases (specs/Cases) and the one statement about all of them (proofs/Starred), computed by the checker.
