@@ -26,6 +26,9 @@ fn main() {
     for workload in workloads::all() {
         print_line(&workload, libical.as_ref());
     }
+    if let Some(libical) = &libical {
+        print_beside(libical);
+    }
     println!("\n## Growth\n");
     println!("| Workload | Text, bytes | Records | Library, ms | To the line before |");
     println!("|---|---|---|---|---|");
@@ -54,6 +57,37 @@ fn print_line(workload: &Workload, libical: Option<&libical::Libical>) {
         expander / library,
         other.map_or(String::new(), |other| format!("{:.1}", other / library)),
     );
+}
+
+/// The start and the end of each record.
+fn spans(records: &[u8]) -> Vec<(i64, i64)> {
+    let number = |bytes: &[u8]| i64::from_le_bytes(bytes.try_into().expect("eight bytes"));
+    records.chunks(28).map(|record| (number(&record[8..16]), number(&record[16..24]))).collect()
+}
+
+/// Events in London, with libical doing the same work: from a text and a zone at hand to the start and the end of each occurrence in UTC.
+fn print_beside(libical: &libical::Libical) {
+    println!("\n## The same work by libical\n");
+    println!("| Event in London | Records | Library, ms | Expander / library | libical, rule alone / library | libical, whole call / library |");
+    println!("|---|---|---|---|---|---|");
+    for (workload, text) in workloads::in_london() {
+        let mut buffer = vec![0; workload.room()];
+        let (_, length) = workload.library(&mut buffer);
+        let records = (length as usize - 12) / 28;
+        assert_eq!(libical.occurrences(&text, workload.window), spans(&buffer[..28 * records]), "{}", workload.name);
+        let library = nanoseconds(|| workload.library(&mut buffer));
+        let expander = nanoseconds(|| workload.expander(&mut buffer));
+        let rule = workload.rule.as_ref().map_or(0.0, |rule| nanoseconds(|| libical.expand(rule, records)));
+        let whole = nanoseconds(|| libical.occurrences(&text, workload.window));
+        println!(
+            "| {} | {records} | {:.4} | {:.2} | {:.0} | {:.0} |",
+            workload.name,
+            library / 1e6,
+            expander / library,
+            rule / library,
+            whole / library,
+        );
+    }
 }
 
 /// Workloads of which each is twice the one before.

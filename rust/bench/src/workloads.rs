@@ -3,6 +3,9 @@
 use crate::texts;
 use generator::dates;
 use generator::examples::{by_day, event, recurring};
+use smocurant::{tzif, Window, ZoneTable};
+use std::ffi::CString;
+use std::rc::Rc;
 
 /// One call.
 pub struct Workload {
@@ -11,11 +14,13 @@ pub struct Workload {
     pub window: (i64, i64),
     /// The same rule for libical, with its start.
     pub rule: Option<(String, i64)>,
+    zone: Rc<ZoneTable>,
 }
 
 impl Workload {
     fn new(name: &str, text: impl Into<Vec<u8>>, from: &str, to: &str) -> Workload {
-        Workload { name: name.to_string(), text: text.into(), window: (dates::read(from), dates::read(to)), rule: None }
+        let window = (dates::read(from), dates::read(to));
+        Workload { name: name.to_string(), text: text.into(), window, rule: None, zone: zone() }
     }
 
     fn with_rule(self, rule: &str, start: &str) -> Workload {
@@ -30,26 +35,33 @@ impl Workload {
 
     /// The library's call.
     pub fn library(&self, buffer: &mut [u8]) -> (u32, u64) {
-        let (instants, offsets) = zone();
-        smocurant::raw::expand(&self.text, b"Europe/London", 0, &instants, &offsets, self.window.0, self.window.1, buffer)
+        let zone = &*self.zone;
+        let (start, end) = self.window;
+        smocurant::raw::expand(&self.text, zone.name().as_bytes(), zone.initial_offset(), zone.instants(), zone.offsets(), start, end, buffer)
     }
 
     /// The expander's call.
     pub fn expander(&self, buffer: &mut [u8]) -> (u32, u64) {
-        let (instants, offsets) = zone();
-        expander::expand(&self.text, b"Europe/London", 0, &instants, &offsets, self.window.0, self.window.1, buffer)
+        let zone = &*self.zone;
+        let (start, end) = self.window;
+        expander::expand(&self.text, zone.name().as_bytes(), zone.initial_offset(), zone.instants(), zone.offsets(), start, end, buffer)
     }
 }
 
-/// A hundred years of summer time, from 1970 on.
-fn zone() -> ([i64; 200], [i64; 200]) {
-    let mut instants = [0; 200];
-    let mut offsets = [0; 200];
-    for place in 0..200 {
-        instants[place] = 7_776_000 + place as i64 * 15_778_800;
-        offsets[place] = if place % 2 == 0 { 3_600 } else { 0 };
-    }
-    (instants, offsets)
+thread_local! {
+    static LONDON: Rc<ZoneTable> = Rc::new(london());
+}
+
+/// London's zone table, read once.
+fn zone() -> Rc<ZoneTable> {
+    LONDON.with(Rc::clone)
+}
+
+/// London from its file, with the file's rule carried on to 2077.
+fn london() -> ZoneTable {
+    let bytes = include_bytes!("../../../examples/zones/Europe/London");
+    let window = Window::new(dates::read("1970-01-01"), dates::read("2076-01-01")).expect("the dates are in order");
+    tzif::table("Europe/London", bytes, window).expect("the file is right")
 }
 
 /// The workloads of one line each.
@@ -102,6 +114,52 @@ fn rules() -> Vec<Workload> {
             "9999-01-01",
         ),
     ]
+}
+
+/// The rules that libical has too, each as an event in London of one hour, with the same event as an iCalendar text.
+pub fn in_london() -> Vec<(Workload, CString)> {
+    let weekdays = by_day("mo tu we th fr");
+    let five = "FREQ=WEEKLY;BYDAY=MO,TU,WE,TH,FR";
+    [
+        ("daily, 1 year", r#""frequency": "daily""#.to_string(), "FREQ=DAILY", "2026-01-01", "2027-01-01"),
+        ("daily, 30 years", r#""frequency": "daily""#.to_string(), "FREQ=DAILY", "2026-01-01", "2056-01-01"),
+        ("weekly on five days, 1 year", format!(r#""frequency": "weekly", {weekdays}"#), five, "2026-01-01", "2027-01-01"),
+        (
+            "last weekday of the month, 10 years",
+            format!(r#""frequency": "monthly", "bySetPosition": [-1], {weekdays}"#),
+            "FREQ=MONTHLY;BYDAY=MO,TU,WE,TH,FR;BYSETPOS=-1",
+            "2026-01-30",
+            "2036-01-01",
+        ),
+        ("yearly, 50 years", r#""frequency": "yearly""#.to_string(), "FREQ=YEARLY", "2026-01-01", "2076-01-01"),
+    ]
+    .map(|(name, rule, short, from, to)| {
+        let members = r#", "timeZone": "Europe/London", "duration": "PT1H", "recurrenceRules": "#;
+        let start = format!("{from}T09:00:00");
+        let text = event(&start, &format!(r#"{members}[{{"@type": "RecurrenceRule", {rule}}}]"#));
+        (Workload::new(name, text, from, to).with_rule(short, &start), icalendar(&start, short))
+    })
+    .into()
+}
+
+/// An event of one hour as an iCalendar text. libical knows its zone by this name, and reads it from the system once.
+fn icalendar(start: &str, rule: &str) -> CString {
+    let start = start.replace(['-', ':'], "");
+    let lines = [
+        "BEGIN:VCALENDAR",
+        "VERSION:2.0",
+        "PRODID:bench",
+        "BEGIN:VEVENT",
+        "UID:1",
+        "DTSTAMP:20240101T000000Z",
+        &format!("DTSTART;TZID=/freeassociation.sourceforge.net/Europe/London:{start}"),
+        "DURATION:PT1H",
+        &format!("RRULE:{rule}"),
+        "END:VEVENT",
+        "END:VCALENDAR",
+        "",
+    ];
+    CString::new(lines.join("\r\n")).expect("the lines have no zero byte")
 }
 
 /// Each window is twice as long as the one before.
