@@ -24,7 +24,8 @@ fn utc_of_day(day: u32)
         show::text(b"no zone table");
         return;
     }
-    show::seconds(zone::utc(SUMMER, &instants, &offsets, local));
+    let mut hint = 0;
+    show::seconds(zone::utc(SUMMER, &instants, &offsets, local, &mut hint));
     show::text(b"Z");
 }
 

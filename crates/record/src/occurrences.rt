@@ -13,14 +13,21 @@ use crate::rows::put_record;
 use crate::window::since_1970;
 
 // A floating time is taken as it is.
-fn utc_of(floating: bool, initial: i64, instants: &[i64], offsets: &[i64], local: i64) -> i64
+fn utc_of(
+    floating: bool,
+    initial: i64,
+    instants: &[i64],
+    offsets: &[i64],
+    local: i64,
+    hint: &mut usize,
+) -> i64
     requires { ⌜ (validTable initial (now instants) (now offsets) ≡ true) × (natAbs local ≤ 2 ^ 62) ⌝ }
     ensures { λ r. ⌜ r ≡ utcBy floating initial (now (instants .entry)) (now (offsets .entry)) local ⌝ }
 {
     if floating {
         return local;
     }
-    zone::utc(initial, instants, offsets, local)
+    zone::utc(initial, instants, offsets, local, hint)
 }
 
 fn later(time: i64, seconds: u64) -> i64
@@ -30,7 +37,7 @@ fn later(time: i64, seconds: u64) -> i64
     time + seconds as i64
 }
 
-// The record of the occurrence `id` at a place of the buffer.
+// The record of the occurrence `id` at a place of the buffer. The hint says where in the zone table the last offset was found.
 pub fn put_occurrence(
     buf: &mut [u8],
     at: usize,
@@ -40,12 +47,13 @@ pub fn put_occurrence(
     initial: i64,
     instants: &[i64],
     offsets: &[i64],
+    hint: &mut usize,
 )
     requires { ⌜ (at + 28 ≤ length (now buf)) × ((validTable initial (now instants) (now offsets) ≡ true) × Small id times) ⌝ }
     ensures { λ _. ⌜ now (buf .exit) ≡ sets (now (buf .entry)) at (occurrenceRow floating initial (now (instants .entry)) (now (offsets .entry)) id times) ⌝ }
 {
     let local = since_1970(times.start);
-    let start = utc_of(floating, initial, instants, offsets, local);
+    let start = utc_of(floating, initial, instants, offsets, local, hint);
     let end = later(start, times.seconds);
     let m = marks(times.busy, times.allday, floating);
     put_record(buf, at, since_1970(id), start, end, m);

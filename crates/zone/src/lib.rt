@@ -5,7 +5,7 @@ mod range;
 
 ghost use mathlib.Core.Path.{_≡_};
 ghost use mathlib.Core.Bool.{true};
-ghost use Prim.Native.Nat.{_^_, _≤_};
+ghost use Prim.Native.Nat.{_^_, _≤_, _<_};
 ghost use lib.IntN.{natAbs};
 ghost use Rattle.zone.specs.Table.{validTable};
 ghost use Rattle.zone.specs.Lookup.{offsetAt, utcAt};
@@ -35,16 +35,44 @@ pub fn valid(initial: i64, instants: &[i64], offsets: &[i64]) -> bool
     mark::increasing(initial, instants, offsets)
 }
 
+// Where to look next between `low` and `high`: twice near the place that the caller guessed, then in the middle.
+fn probe(low: usize, high: usize, guess: usize, near: u32) -> usize
+    requires { ⌜ low < high ⌝ }
+    ensures { λ r. ⌜ (low ≤ r) × (r < high) ⌝ }
+{
+    if near == 0 {
+        return low + (high - low) / 2;
+    }
+    if guess < low {
+        return low;
+    }
+    if high <= guess {
+        return high - 1;
+    }
+    guess
+}
+
+fn fewer(n: u32) -> u32 {
+    if n == 0 {
+        return 0;
+    }
+    n - 1
+}
+
 // Marks increase, so the first one beyond the local time is found by halving: what stands before `low` is at or before it, and the mark at
-// `high`, where there is one, is beyond it.
-pub fn offset(initial: i64, instants: &[i64], offsets: &[i64], local: i64) -> i64
+// `high`, where there is one, is beyond it. The hint is where it was found before and is left where it is found now: a time soon after the
+// last one takes two looks. Any hint is right.
+pub fn offset(initial: i64, instants: &[i64], offsets: &[i64], local: i64, hint: &mut usize) -> i64
     requires { ⌜ validTable initial (now instants) (now offsets) ≡ true ⌝ }
     ensures { λ r. ⌜ r ≡ offsetAt initial (now (instants .entry)) (now (offsets .entry)) local ⌝ }
 {
+    let guess = *hint;
     let mut low = 0;
     let mut high = instants.len();
+    let mut near: u32 = 2;
     while low < high {
-        let middle = low + (high - low) / 2;
+        let middle = probe(low, high, guess, near);
+        near = fewer(near);
         let next = mark::at(initial, instants, offsets, middle);
         if local < next {
             high = middle;
@@ -52,12 +80,13 @@ pub fn offset(initial: i64, instants: &[i64], offsets: &[i64], local: i64) -> i6
             low = middle + 1;
         }
     }
+    *hint = low;
     mark::before(initial, offsets, low)
 }
 
-pub fn utc(initial: i64, instants: &[i64], offsets: &[i64], local: i64) -> i64
+pub fn utc(initial: i64, instants: &[i64], offsets: &[i64], local: i64, hint: &mut usize) -> i64
     requires { ⌜ (validTable initial (now instants) (now offsets) ≡ true) × (natAbs local ≤ 2 ^ 62) ⌝ }
     ensures { λ r. ⌜ r ≡ utcAt initial (now (instants .entry)) (now (offsets .entry)) local ⌝ }
 {
-    local - offset(initial, instants, offsets, local)
+    local - offset(initial, instants, offsets, local, hint)
 }

@@ -31,15 +31,16 @@ fn print_table(initial: i64, instants: &[i64], offsets: &[i64], local: i64) {
     io::write_all(STDOUT_FILENO, b": ");
 }
 
-// UTC is asked for a local time within ±2^62.
+// UTC is asked for a local time within ±2^62, with a hint of where the offset was found; the offset itself with one that is wrong for most.
 fn show(initial: i64, instants: &[i64], offsets: &[i64], local: i64) {
     print_table(initial, instants, offsets, local);
     if !zone::valid(initial, instants, offsets) {
         io::write_all(STDOUT_FILENO, b"not valid\n");
         return;
     }
+    let mut hint = 1;
     io::write_all(STDOUT_FILENO, b"offset ");
-    show::signed_number(zone::offset(initial, instants, offsets, local));
+    show::signed_number(zone::offset(initial, instants, offsets, local, &mut hint));
     if signed::positive_part(local) > 4611686018427387904 {
         io::write_all(STDOUT_FILENO, b", no UTC\n");
         return;
@@ -49,7 +50,7 @@ fn show(initial: i64, instants: &[i64], offsets: &[i64], local: i64) {
         return;
     }
     io::write_all(STDOUT_FILENO, b", UTC ");
-    show::signed_number(zone::utc(initial, instants, offsets, local));
+    show::signed_number(zone::utc(initial, instants, offsets, local, &mut hint));
     io::write_all(STDOUT_FILENO, b"\n");
 }
 

@@ -37,8 +37,8 @@ slice-aggregate-utc-2 c = search needs
 
 utc-requires : tie.Need-utc-requires
 utc-requires c κs =
-    let p = c .before .before .before .before .before .before in (
-      sym (c .before .before .before .valid .ensures) ∙ not-false _ (c .before .before .if1 .left),
+    let p = c .before .before .before .before .before .before .before in (
+      sym (c .before .before .before .before .valid .ensures) ∙ not-false _ (c .before .before .before .if1 .left),
       rw (back _ (p .seconds-of .ok), p .seconds-of .ensures) (seconds-small _ (p .before .pre) (lit< tt)),
     )
 

@@ -1,4 +1,4 @@
--- `zone::offset` meets its contract: what lies between `low` and `high` is halved at each turn.
+-- `zone::offset` meets its contract: what lies between `low` and `high` is halved at each turn, but for two looks near the hint.
 use Prim.Native.Nat.{_≤_, _-_, _+_, _/_}
 use native.Mathlib.Omega.{arith}
 use lib.ListN.{length}
@@ -11,34 +11,37 @@ use Rattle.zone.proofs.offset.Statement.{statement}
 use Rattle.zone.proofs.offset.Tie as tie
 
 abbrev Inv-loop : tie.InvT-loop
-Inv-loop initial instants offsets local low₀ high₀ low high = Halves (toZ w64 initial) instants offsets (toZ w64 local) low high
+Inv-loop initial instants offsets local hint guess low₀ high₀ near₀ low high near = Halves (toZ w64 initial) instants offsets (toZ w64 local) low high
 
 abbrev μ-loop : tie.MeasureT-loop
-μ-loop initial instants offsets local low₀ high₀ low high = high - low
+μ-loop initial instants offsets local hint guess low₀ high₀ near₀ low high near = high - low
 
 loop-holds : tie.Need-loop-holds Inv-loop μ-loop
-loop-holds c = halves-start _ (c .args .instants .now) (c .args .offsets .now) (valid-again _ (c .args .instants .now) (c .args .offsets .now) _ (c .fits .initial) (c .fits .local) (c .pre)) _
+loop-holds c =
+    let q = c .before in
+    halves-start _ (q .args .instants .now) (q .args .offsets .now) (valid-again _ (q .args .instants .now) (q .args .offsets .now) _ (q .fits .initial) (q .fits .local) (q .pre)) _
 
-sub-middle : tie.Need-sub-middle Inv-loop μ-loop
-sub-middle c = search needs
+probe-requires : tie.Need-probe-requires Inv-loop μ-loop
+probe-requires c κs = search needs
 
-add-middle : tie.Need-add-middle Inv-loop μ-loop
-add-middle c = search needs
+fewer-requires : tie.Need-fewer-requires Inv-loop μ-loop
+fewer-requires c κs = search needs
 
 at-requires : tie.Need-at-requires Inv-loop μ-loop
 at-requires c κs =
-    let q = c .before .before in
-    (valid-range _ (q .args .instants .now) (q .args .offsets .now) _ (q .fits .initial) (q .fits .local) (q .pre), omega (arith, c .before .loop .inv .fits))
+    let q = c .before .before .before .before .before in
+    (valid-range _ (q .args .instants .now) (q .args .offsets .now) _ (q .fits .initial) (q .fits .local) (q .pre), omega (arith, c .before .before .before .loop .inv .fits, c .before .probe .ensures .1))
 
 loop-less : tie.Need-loop-less Inv-loop μ-loop
 loop-less c = search needs
 
 loop-again : tie.Need-loop-again Inv-loop μ-loop
 loop-again c =
-    let p = c .before .before .before in
-    let q = p .before in
+    let p = c .before .before .before .before .before in
+    let q = p .before .before in
+    let e = c .before .before .before .probe .ensures in
     offset-high _ (q .args .instants .now) (q .args .offsets .now) _ (q .fits .initial) (q .fits .local) (q .pre)
-    (p .loop .low) (p .loop .high) (p .loop .inv) _ (omega arith) (omega arith) _ (c .before .at .ok) (c .before .at .ensures) (c .if1 .taken)
+    (p .loop .low) (p .loop .high) (p .loop .inv) _ (e .0) (e .1) _ (c .before .at .ok) (c .before .at .ensures) (c .if1 .taken)
 
 add-low : tie.Need-add-low Inv-loop μ-loop
 add-low c = search needs
@@ -48,37 +51,25 @@ loop-less-2 c = search needs
 
 loop-again-2 : tie.Need-loop-again-2 Inv-loop μ-loop
 loop-again-2 c =
-    let p = c .before .before .before in
-    let q = p .before in
+    let p = c .before .before .before .before .before in
+    let q = p .before .before in
+    let e = c .before .before .before .probe .ensures in
     offset-low _ (q .args .instants .now) (q .args .offsets .now) _ (q .fits .initial) (q .fits .local) (q .pre)
-    (p .loop .low) (p .loop .high) (p .loop .inv) _ (omega arith) (omega arith) _ (c .before .at .ok) (c .before .at .ensures) (c .if1 .left)
+    (p .loop .low) (p .loop .high) (p .loop .inv) _ (e .0) (e .1) _ (c .before .at .ok) (c .before .at .ensures) (c .if1 .left)
 
 before-requires : tie.Need-before-requires Inv-loop μ-loop
 before-requires c κs =
-    let q = c .before .before in
+    let q = c .before .before .before in
     as-many _ (q .args .instants .now) (q .args .offsets .now) _ (q .fits .initial) (q .fits .local) (q .pre) _ (omega (arith, c .before .loop .inv .order, c .before .loop .inv .fits))
 
 returns : tie.Need-returns Inv-loop μ-loop
 returns c =
     let p = c .before .before in
-    let q = p .before in
+    let q = p .before .before in
     offset-end _ (q .args .instants .now) (q .args .offsets .now) _ (q .fits .initial) (q .fits .local) (q .pre)
     (p .loop .low) (p .loop .high) (p .loop .inv) (c .before .loop-test .left) _ (c .before2 .ok) (c .before2 .ensures)
 
 pub offset-spec : {M : Type 1} → statement M
 offset-spec =
     tie.close
-    (tie.spec
-    Inv-loop
-    μ-loop
-    loop-holds
-    sub-middle
-    add-middle
-    at-requires
-    loop-less
-    loop-again
-    add-low
-    loop-less-2
-    loop-again-2
-    before-requires
-    returns)
+    (tie.spec Inv-loop μ-loop loop-holds probe-requires fewer-requires at-requires loop-less loop-again add-low loop-less-2 loop-again-2 before-requires returns)

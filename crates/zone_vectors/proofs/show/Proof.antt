@@ -31,7 +31,7 @@ write-all-requires-2 : tie.Need-write-all-requires-2
 write-all-requires-2 c κs = search needs
 
 offset-requires : tie.Need-offset-requires
-offset-requires c κs = sym (c .before .before .before .valid .ensures) ∙ not-false _ (c .before .before .if1 .left)
+offset-requires c κs = sym (c .before .before .before .before .valid .ensures) ∙ not-false _ (c .before .before .before .if1 .left)
 
 signed-number-requires : tie.Need-signed-number-requires
 signed-number-requires c κs = search needs
@@ -68,11 +68,11 @@ write-all-requires-5 c κs = search needs
 
 utc-requires : tie.Need-utc-requires
 utc-requires c κs =
-    let p = c .before .before .before .before .before .before .before .before .before .before in
-    let q = c .before .before .before .before .before in (
+    let p = c .before .before .before .before .before .before .before .before .before .before .before .before in
+    let q = c .before .before .before .before .before .before in (
       sym (p .before .valid .ensures) ∙ not-false _ (p .if1 .left),
       parts-abs (toZ w64 (ofZ w64 (p .before .before .before .args .local))) (2 ^ 62)
-          (rw (q .positive-part .ensures) at (c .before .before .before .before .if2 .left)) (rw (c .before .before .before .negative-part .ensures) at (c .before .before .if3 .left)),
+          (rw (q .positive-part .ensures) at (c .before .before .before .before .before .if2 .left)) (rw (c .before .before .before .before .negative-part .ensures) at (c .before .before .before .if3 .left)),
     )
 
 signed-number-requires-2 : tie.Need-signed-number-requires-2

@@ -9,15 +9,15 @@ since-1970-requires c κs = search needs
 
 utc-of-requires : tie.Need-utc-of-requires
 utc-of-requires c κs =
-    let p = c .before .before in
+    let p = c .before .before .before in
     utc-needs (p .args .floating) _ (p .args .instants .now) (p .args .offsets .now) (p .fits .initial) (p .pre .1 .0) _ _ (p .pre .1 .1)
-    _ (c .since-1970 .ok) (c .since-1970 .ensures)
+    _ (c .before .since-1970 .ok) (c .before .since-1970 .ensures)
 
 later-requires : tie.Need-later-requires
 later-requires c κs =
-    let p = c .before .before .before in
+    let p = c .before .before .before .before in
     later-needs (p .args .floating) _ (p .args .instants .now) (p .args .offsets .now) (p .fits .initial) (p .pre .1 .0) _ _ (p .pre .1 .1)
-    _ (c .before .since-1970 .ok) (c .before .since-1970 .ensures) _ (c .utc-of .ok) (c .utc-of .ensures)
+    _ (c .before .before .since-1970 .ok) (c .before .before .since-1970 .ensures) _ (c .utc-of .ok) (c .utc-of .ensures)
 
 marks-requires : tie.Need-marks-requires
 marks-requires c κs = search needs
@@ -33,7 +33,7 @@ same-length c = search needs
 
 returns : tie.Need-returns
 returns c =
-    let l = c .before .before .before .before .before .before .before .before in
+    let l = c .before .before .before .before .before .before .before .before .before in
     let u = c .before .before .before .before .before .before .before in
     let e = c .before .before .before .before .before .before in
     let m = c .before .before .before .before .before in
