@@ -7,10 +7,9 @@ ghost use Rattle.event.specs.Event.{eventFault};
 ghost use Rattle.event.specs.Overrides.{readOverrides};
 ghost use Rattle.event.specs.Reading.{optional};
 ghost use Rattle.event.specs.Rules.{readRules};
-ghost use Rattle.event_text.specs.Front.{inner, listsFault};
+ghost use Rattle.event_text.specs.Front.{inner, frontOf, listsFault};
 ghost use Rattle.event_text.specs.Held.{fromHead};
 use crate::Head;
-use crate::heads::head_at;
 use crate::heads::own_of;
 use crate::judged::no_event;
 use fault::lower;
@@ -57,9 +56,9 @@ pub fn lists_fault(text: &[u8], ends: &[u32], head: Head) -> u32
     lower(kept, lower(left, patched))
 }
 
-// Where 5 applies, 6 to 9 are not judged.
-pub fn event_fault(text: &[u8], ends: &[u32]) -> u32
-    requires { ⌜ Ends (now text) (now ends) ⌝ }
+// The head is that of the text, which callers go on with. Where 5 applies, 6 to 9 are not judged.
+pub fn event_fault(text: &[u8], ends: &[u32], head: Head) -> u32
+    requires { ⌜ Ends (now text) (now ends) × (fromHead inner (now text) head ≡ frontOf (now text)) ⌝ }
     ensures { λ r. ⌜ r ≡ eventFault (now (text .entry)) ⌝ }
 {
     let at = space(text, 0);
@@ -69,7 +68,6 @@ pub fn event_fault(text: &[u8], ends: &[u32]) -> u32
     if no_event(text, ends, at) {
         return 5;
     }
-    let head = head_at(text, ends, at);
     let own = head.fault;
     lower(own, lists_fault(text, ends, head))
 }
