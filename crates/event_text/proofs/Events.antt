@@ -62,3 +62,7 @@ pub fault-some : (s : List ℕ) (fields : Fields) → object (textTree s) ≡ so
     → eventFault s ≡ (if noEvent fields then 5 else lower (frontIn fields .fault) (listsFault (frontIn fields)))
 unfolding eventFault objectFault
 fault-some s fields e = rw (e, ← (fault-in fields))
+
+pub front-some : (s : List ℕ) (fields : Fields) → object (textTree s) ≡ some fields → frontOf s ≡ frontIn fields
+unfolding frontOf
+front-some s fields e = rw e

@@ -2,6 +2,7 @@
 ghost use Prim.Native.Nat.{ℕ};
 ghost use mathlib.Core.List.{List};
 ghost use mathlib.Core.Path.{_≡_};
+ghost use Rattle.json_ends.specs.Ends.{Ends};
 ghost use Rattle.property.specs.From.{valueIn, fieldsIn};
 ghost use Rattle.event.specs.Values.{member};
 ghost use Rattle.override_text.specs.Meaning.{detailsIn};
@@ -23,28 +24,33 @@ use property::Place;
 use property::members::member;
 
 // The place of the value of a member.
-pub fn place(text: &[u8], at: usize, name: &[u8]) -> Place
+pub fn place(text: &[u8], ends: &[u32], at: usize, name: &[u8]) -> Place
+    requires { ⌜ Ends (now text) (now ends) ⌝ }
     ensures { λ r. ⌜ ((l : ℕ) → valueIn l (now (text .entry)) r ≡ member (now (name .entry)) (fieldsIn l (now (text .entry)) at)) ⌝ }
 {
-    match member(text, at, name) {
+    match member(text, ends, at, name) {
         Found::Here(m) => Place::At(m.value),
         Found::Missing => Place::None,
     }
 }
 
 // The head of the object at a place.
-pub fn head_at(text: &[u8], at: usize) -> Head
+pub fn head_at(text: &[u8], ends: &[u32], at: usize) -> Head
+    requires { ⌜ Ends (now text) (now ends) ⌝ }
     ensures { λ r. ⌜ ((l : ℕ) → fromHead l (now (text .entry)) r ≡ frontIn (fieldsIn l (now (text .entry)) at)) ⌝ }
 {
-    let zone = zone(text, at);
-    let access = privacy(text, at);
-    let own = own_details(text, at);
-    let rules = place(text, at, b"recurrenceRules");
-    let excluded = place(text, at, b"excludedRecurrenceRules");
-    let overrides = place(text, at, b"recurrenceOverrides");
-    let details = lower(own.fault, id_fault(text, at));
+    let zone = zone(text, ends, at);
+    let access = privacy(text, ends, at);
+    let own = own_details(text, ends, at);
+    let rules = place(text, ends, at, b"recurrenceRules");
+    let excluded = place(text, ends, at, b"excludedRecurrenceRules");
+    let overrides = place(text, ends, at, b"recurrenceOverrides");
+    let details = lower(own.fault, id_fault(text, ends, at));
     let named = lower(zone.fault, lower(access.fault, details));
-    let fault = lower(uid_fault(text, at), lower(updated_fault(text, at), named));
+    let fault = lower(
+        uid_fault(text, ends, at),
+        lower(updated_fault(text, ends, at), named),
+    );
     let name = zone.place;
     let privacy = access.privacy;
     let title = own.title;
@@ -67,14 +73,15 @@ pub fn head_at(text: &[u8], at: usize) -> Head
 }
 
 // The head of the event of a text. A value that is no object has no members; the end of the text has none either.
-pub fn head(text: &[u8]) -> Head
+pub fn head(text: &[u8], ends: &[u32]) -> Head
+    requires { ⌜ Ends (now text) (now ends) ⌝ }
     ensures { λ r. ⌜ fromHead inner (now (text .entry)) r ≡ frontOf (now (text .entry)) ⌝ }
 {
     let at = space(text, 0);
     if byte(text, at) != 0x7B {
-        return head_at(text, text.len());
+        return head_at(text, ends, text.len());
     }
-    head_at(text, at)
+    head_at(text, ends, at)
 }
 
 // The details of a head, which patches change.

@@ -3,6 +3,7 @@ ghost use Prim.Native.Nat.{ℕ};
 ghost use mathlib.Core.Bool.{true};
 ghost use mathlib.Core.List.{[]};
 ghost use mathlib.Core.Path.{_≡_};
+ghost use Rattle.json_ends.specs.Ends.{Ends};
 ghost use Rattle.json_tree.specs.Tree.{treeAt};
 ghost use Rattle.event.specs.Ascii.{ascii};
 ghost use Rattle.event.specs.Event.{isType, isEvent, missing, noEvent};
@@ -19,30 +20,33 @@ use property::names::read_uid;
 use property::strings::word;
 
 // The fault of `uid`, 0 where there is none.
-pub fn uid_fault(text: &[u8], at: usize) -> u32
+pub fn uid_fault(text: &[u8], ends: &[u32], at: usize) -> u32
+    requires { ⌜ Ends (now text) (now ends) ⌝ }
     ensures { λ r. ⌜ ((l : ℕ) → r ≡ required [] readUid (member (ascii "uid") (fieldsIn l (now (text .entry)) at)) .fault) ⌝ }
 {
-    match member(text, at, b"uid") {
+    match member(text, ends, at, b"uid") {
         Found::Here(m) => read_uid(text, m.value),
         Found::Missing => 6,
     }
 }
 
 // The fault of `updated`, 0 where there is none.
-pub fn updated_fault(text: &[u8], at: usize) -> u32
+pub fn updated_fault(text: &[u8], ends: &[u32], at: usize) -> u32
+    requires { ⌜ Ends (now text) (now ends) ⌝ }
     ensures { λ r. ⌜ ((l : ℕ) → r ≡ required true readUpdated (member (ascii "updated") (fieldsIn l (now (text .entry)) at)) .fault) ⌝ }
 {
-    match member(text, at, b"updated") {
+    match member(text, ends, at, b"updated") {
         Found::Here(m) => read_updated(text, m.value),
         Found::Missing => 6,
     }
 }
 
 // 8 where there is a `recurrenceId`, else 0.
-pub fn id_fault(text: &[u8], at: usize) -> u32
+pub fn id_fault(text: &[u8], ends: &[u32], at: usize) -> u32
+    requires { ⌜ Ends (now text) (now ends) ⌝ }
     ensures { λ r. ⌜ ((l : ℕ) → r ≡ unsupported (member (ascii "recurrenceId") (fieldsIn l (now (text .entry)) at))) ⌝ }
 {
-    match member(text, at, b"recurrenceId") {
+    match member(text, ends, at, b"recurrenceId") {
         Found::Here(_) => 8,
         Found::Missing => 0,
     }
@@ -58,36 +62,39 @@ fn is_type(text: &[u8], at: usize) -> bool
     words::types::is_event(word(text, at))
 }
 
-pub fn is_event(text: &[u8], at: usize) -> bool
+pub fn is_event(text: &[u8], ends: &[u32], at: usize) -> bool
+    requires { ⌜ Ends (now text) (now ends) ⌝ }
     ensures { λ r. ⌜ ((l : ℕ) → r ≡ isEvent (member (ascii "@type") (fieldsIn l (now (text .entry)) at))) ⌝ }
 {
-    match member(text, at, b"@type") {
+    match member(text, ends, at, b"@type") {
         Found::Here(m) => is_type(text, m.value),
         Found::Missing => false,
     }
 }
 
-pub fn is_missing(text: &[u8], at: usize, name: &[u8]) -> bool
+pub fn is_missing(text: &[u8], ends: &[u32], at: usize, name: &[u8]) -> bool
+    requires { ⌜ Ends (now text) (now ends) ⌝ }
     ensures { λ r. ⌜ ((l : ℕ) → r ≡ missing (member (now (name .entry)) (fieldsIn l (now (text .entry)) at))) ⌝ }
 {
-    match member(text, at, name) {
+    match member(text, ends, at, name) {
         Found::Here(_) => false,
         Found::Missing => true,
     }
 }
 
 // Does 5 apply to the object at a place?
-pub fn no_event(text: &[u8], at: usize) -> bool
+pub fn no_event(text: &[u8], ends: &[u32], at: usize) -> bool
+    requires { ⌜ Ends (now text) (now ends) ⌝ }
     ensures { λ r. ⌜ ((l : ℕ) → r ≡ noEvent (fieldsIn l (now (text .entry)) at)) ⌝ }
 {
-    if !is_event(text, at) {
+    if !is_event(text, ends, at) {
         return true;
     }
-    if is_missing(text, at, b"uid") {
+    if is_missing(text, ends, at, b"uid") {
         return true;
     }
-    if is_missing(text, at, b"updated") {
+    if is_missing(text, ends, at, b"updated") {
         return true;
     }
-    is_missing(text, at, b"start")
+    is_missing(text, ends, at, b"start")
 }

@@ -3,6 +3,7 @@ ghost use Prim.Native.Nat.{ℕ};
 ghost use mathlib.Core.Bool.{true, false};
 ghost use mathlib.Core.Path.{_≡_};
 ghost use Rattle.words.specs.declared.Privacy.the-variants.{Public};
+ghost use Rattle.json_ends.specs.Ends.{Ends};
 ghost use Rattle.property.specs.From.{fromFlag, fromSetting, fieldsIn};
 ghost use Rattle.event.specs.Ascii.{ascii};
 ghost use Rattle.event.specs.Properties.{fromStatus, readBusy, readBoolean, readPrivacy};
@@ -37,10 +38,11 @@ fn status(read: FreeBusy) -> Mark
     }
 }
 
-pub fn busy(text: &[u8], at: usize) -> Mark
+pub fn busy(text: &[u8], ends: &[u32], at: usize) -> Mark
+    requires { ⌜ Ends (now text) (now ends) ⌝ }
     ensures { λ r. ⌜ ((l : ℕ) → fromMark r ≡ optional true readBusy (member (ascii "freeBusyStatus") (fieldsIn l (now (text .entry)) at))) ⌝ }
 {
-    match member(text, at, b"freeBusyStatus") {
+    match member(text, ends, at, b"freeBusyStatus") {
         Found::Here(m) => status(read_busy(text, m.value)),
         Found::Missing => Mark {
             value: true,
@@ -61,10 +63,11 @@ fn mark(read: Flag) -> Mark
     }
 }
 
-pub fn all_day(text: &[u8], at: usize) -> Mark
+pub fn all_day(text: &[u8], ends: &[u32], at: usize) -> Mark
+    requires { ⌜ Ends (now text) (now ends) ⌝ }
     ensures { λ r. ⌜ ((l : ℕ) → fromMark r ≡ optional false readBoolean (member (ascii "showWithoutTime") (fieldsIn l (now (text .entry)) at))) ⌝ }
 {
-    match member(text, at, b"showWithoutTime") {
+    match member(text, ends, at, b"showWithoutTime") {
         Found::Here(m) => mark(read_boolean(text, m.value)),
         Found::Missing => Mark {
             value: false,
@@ -85,10 +88,11 @@ fn access(read: Setting) -> Access
     }
 }
 
-pub fn privacy(text: &[u8], at: usize) -> Access
+pub fn privacy(text: &[u8], ends: &[u32], at: usize) -> Access
+    requires { ⌜ Ends (now text) (now ends) ⌝ }
     ensures { λ r. ⌜ ((l : ℕ) → fromAccess r ≡ optional Public readPrivacy (member (ascii "privacy") (fieldsIn l (now (text .entry)) at))) ⌝ }
 {
-    match member(text, at, b"privacy") {
+    match member(text, ends, at, b"privacy") {
         Found::Here(m) => access(read_privacy(text, m.value)),
         Found::Missing => Access {
             privacy: Privacy::Public,

@@ -2,6 +2,7 @@
 ghost use Prim.Native.Nat.{ℕ};
 ghost use mathlib.Core.Option.{none};
 ghost use mathlib.Core.Path.{_≡_};
+ghost use Rattle.json_ends.specs.Ends.{Ends};
 ghost use Rattle.property.specs.From.{fromZone, fromPassage, fieldsIn};
 ghost use Rattle.event.specs.Ascii.{ascii};
 ghost use Rattle.event.specs.Properties.{readZone, readText};
@@ -36,10 +37,11 @@ fn named(text: &[u8], read: Zone) -> Spot
     }
 }
 
-pub fn zone(text: &[u8], at: usize) -> Spot
+pub fn zone(text: &[u8], ends: &[u32], at: usize) -> Spot
+    requires { ⌜ Ends (now text) (now ends) ⌝ }
     ensures { λ r. ⌜ ((l : ℕ) → fromName (now (text .entry)) r ≡ optional none readZone (member (ascii "timeZone") (fieldsIn l (now (text .entry)) at))) ⌝ }
 {
-    match member(text, at, b"timeZone") {
+    match member(text, ends, at, b"timeZone") {
         Found::Here(m) => named(text, read_zone(text, m.value)),
         Found::Missing => Spot {
             place: Place::None,
@@ -64,10 +66,11 @@ fn passage(text: &[u8], read: Passage) -> Spot
 }
 
 // `title` or `description`.
-pub fn words(text: &[u8], at: usize, name: &[u8]) -> Spot
+pub fn words(text: &[u8], ends: &[u32], at: usize, name: &[u8]) -> Spot
+    requires { ⌜ Ends (now text) (now ends) ⌝ }
     ensures { λ r. ⌜ ((l : ℕ) → fromText (now (text .entry)) r ≡ optional none readText (member (now (name .entry)) (fieldsIn l (now (text .entry)) at))) ⌝ }
 {
-    match member(text, at, name) {
+    match member(text, ends, at, name) {
         Found::Here(m) => passage(text, read_text(text, m.value)),
         Found::Missing => Spot {
             place: Place::None,

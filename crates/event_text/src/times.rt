@@ -1,6 +1,7 @@
 // When the event starts and how long it lasts.
 ghost use Prim.Native.Nat.{ℕ};
 ghost use mathlib.Core.Path.{_≡_};
+ghost use Rattle.json_ends.specs.Ends.{Ends};
 ghost use Rattle.event.specs.Ascii.{ascii};
 ghost use Rattle.event.specs.Properties.{fromLocal, fromSpan, noLength, readStart, readLength};
 ghost use Rattle.event.specs.Reading.{optional};
@@ -26,10 +27,11 @@ fn moment(read: DateTime) -> Moment
     }
 }
 
-pub fn start(text: &[u8], at: usize) -> Moment
+pub fn start(text: &[u8], ends: &[u32], at: usize) -> Moment
+    requires { ⌜ Ends (now text) (now ends) ⌝ }
     ensures { λ r. ⌜ ((l : ℕ) → fromMoment r ≡ required 0 readStart (member (ascii "start") (fieldsIn l (now (text .entry)) at))) ⌝ }
 {
-    match member(text, at, b"start") {
+    match member(text, ends, at, b"start") {
         Found::Here(m) => moment(read_start(text, m.value)),
         Found::Missing => Moment { value: 0, fault: 6 },
     }
@@ -52,10 +54,11 @@ fn lasting(read: Span) -> Lasting
     }
 }
 
-pub fn length(text: &[u8], at: usize) -> Lasting
+pub fn length(text: &[u8], ends: &[u32], at: usize) -> Lasting
+    requires { ⌜ Ends (now text) (now ends) ⌝ }
     ensures { λ r. ⌜ ((l : ℕ) → fromLasting r ≡ optional noLength readLength (member (ascii "duration") (fieldsIn l (now (text .entry)) at))) ⌝ }
 {
-    match member(text, at, b"duration") {
+    match member(text, ends, at, b"duration") {
         Found::Here(m) => lasting(read_length(text, m.value)),
         Found::Missing => Lasting {
             days: 0,

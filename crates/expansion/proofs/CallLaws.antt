@@ -27,14 +27,6 @@ use Rattle.expansion.specs.Shown.{sheetOf}
 
 -- ---- 1 to 9
 
-pub event-accepted : (s : List ℕ) (f : ℕ) → f ≡ textFault s → f ≡ 0 → eventFault s ≡ 0
-unfolding textFault
-event-accepted s f e z = go (eqb (answerOf s) 0) refl (sym e ∙ z)
-  where
-    go : (c : Bool) → eqb (answerOf s) 0 ≡ c → (if c then eventFault s else answerOf s) ≡ 0 → eventFault s ≡ 0
-    go true p q = q
-    go false p q = absurd (eqb-false (answerOf s) 0 p q)
-
 module _ (zones : ZoneTable) (s : List ℕ) (from to : ℤ) (buffer : List ℕ) (f : ℕ) (e : f ≡ textFault s) where
   pub text-refused : (f ≡ 0 → ⊥) → Gives (expandText zones s from to buffer) f 0 buffer
   unfolding expandText

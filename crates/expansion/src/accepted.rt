@@ -1,17 +1,22 @@
-// The expansion of an accepted event: 10 to 12 are found before its lists are read; a secret event shows none of them.
+// The expansion of an accepted event, whose head was read: 10 to 12 are found before its lists are read; a secret event shows none of them.
 ghost use mathlib.Core.Path.{_≡_};
+ghost use Rattle.json_ends.specs.Ends.{Ends};
 ghost use Rattle.event.specs.Event.{eventFault, eventOf};
+ghost use Rattle.event_text.specs.Front.{frontOf, inner};
+ghost use Rattle.event_text.specs.Held.{fromHead};
 ghost use Rattle.table.specs.Answer.{expanded};
 ghost use Rattle.table.specs.Results.{zonesOf, Gives};
 use crate::shown::put_shown;
 use answers::calls::call_fault;
 use answers::calls::is_secret;
-use event_text::heads::head;
+use event_text::Head;
 use record::window::since_1600;
 use tables::nothing::put_trailer_alone;
 
 pub fn expand_accepted(
     text: &[u8],
+    ends: &[u32],
+    event: Head,
     name: &[u8],
     initial: i64,
     instants: &[i64],
@@ -21,10 +26,9 @@ pub fn expand_accepted(
     buffer: &mut [u8],
     length: &mut u64,
 ) -> u32
-    requires { ⌜ eventFault (now text) ≡ 0 ⌝ }
+    requires { ⌜ Ends (now text) (now ends) × ((fromHead inner (now text) event ≡ frontOf (now text)) × (eventFault (now text) ≡ 0)) ⌝ }
     ensures { λ r. ⌜ Gives (expanded (zonesOf (now (name .entry)) initial (now (instants .entry)) (now (offsets .entry))) (eventOf (now (text .entry))) from to (now (buffer .entry))) r (now (length .exit)) (now (buffer .exit)) ⌝ }
 {
-    let event = head(text);
     let privacy = event.privacy;
     let zone = event.zone;
     let refused = call_fault(
@@ -47,6 +51,7 @@ pub fn expand_accepted(
     }
     put_shown(
         text,
+        ends,
         event,
         initial,
         instants,

@@ -1,4 +1,5 @@
 // The whole call for the table of occurrences: from a text, a zone table and a window to the bytes in a lent buffer.
 pub mod accepted;
 pub mod expand;
+pub mod judged;
 pub mod shown;

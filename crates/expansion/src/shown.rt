@@ -3,6 +3,7 @@ ghost use mathlib.Core.Bool.{true};
 ghost use mathlib.Core.List.{List};
 ghost use mathlib.Core.Path.{_≡_};
 ghost use Prim.Native.Nat.{ℕ, _<_, _≤_};
+ghost use Rattle.json_ends.specs.Ends.{Ends};
 ghost use Rattle.zone.specs.Table.{validTable};
 ghost use Rattle.event.specs.Event.{eventFault, eventOf};
 ghost use Rattle.event_text.specs.Front.{frontOf, inner};
@@ -37,6 +38,7 @@ fn days_at_once(from: u64, limit: u32) -> usize
 // The flags are rows for eight rules of each list; the hits are days that are marked at once.
 pub fn put_shown(
     text: &[u8],
+    ends: &[u32],
     event: Head,
     initial: i64,
     instants: &[i64],
@@ -46,8 +48,8 @@ pub fn put_shown(
     buffer: &mut [u8],
     length: &mut u64,
 ) -> u32
-    requires { ⌜ (fromHead inner (now text) event ≡ frontOf (now text)) × ((eventFault (now text) ≡ 0)
-        × ((validTable initial (now instants) (now offsets) ≡ true) × Window (event .start) from to)) ⌝ }
+    requires { ⌜ Ends (now text) (now ends) × ((fromHead inner (now text) event ≡ frontOf (now text)) × ((eventFault (now text) ≡ 0)
+        × ((validTable initial (now instants) (now offsets) ≡ true) × Window (event .start) from to))) ⌝ }
     ensures { λ r. ⌜ ((name : List ℕ) → Gives (fitted (sheetOf (zonesOf name initial (now (instants .entry)) (now (offsets .entry))) (eventOf (now (text .entry))) from to) (now (buffer .entry))) r (now (length .exit)) (now (buffer .exit))) ⌝ }
 {
     let limit = limit_of(to);
@@ -63,13 +65,14 @@ pub fn put_shown(
     let mut places = [0usize; 256];
     let mut hits = [false; 1024];
     let days = days_at_once(from, limit);
-    let kept = load_list(text, rules, false, start, limit, &mut rulerows);
-    let left = load_list(text, excluded, true, start, limit, &mut excludedrows);
-    let n = load_overrides(text, overrides, &mut ids, &mut gone, &mut places);
+    let kept = load_list(text, ends, rules, false, start, limit, &mut rulerows);
+    let left = load_list(text, ends, excluded, true, start, limit, &mut excludedrows);
+    let n = load_overrides(text, ends, overrides, &mut ids, &mut gone, &mut places);
     put_table(
         buffer,
         length,
         text,
+        ends,
         own_of(event),
         &ids[..n],
         &gone[..n],

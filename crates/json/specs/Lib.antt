@@ -1,2 +1,3 @@
 pub mod Surrogates
 pub mod Answer
+pub mod Judged

@@ -7,46 +7,46 @@ ghost use Rattle.json_text.specs.Bytes.{spaceAt};
 ghost use Rattle.json_value.specs.Values.{levels};
 ghost use Rattle.json_names.specs.Names.{faultAt};
 use crate::faults::fault;
-use json_ends::filling::fill;
 use json_text::bytes::space;
 use json_value::whole::LEVELS;
 
-// Is a name of the text at fault? With a table of ends that says nothing yet, and room to sort names. The table is
-// filled once and lent to the walks: so each object is gone over a few times, however deep it lies.
-pub fn fault_in(text: &[u8], ends: &mut [u32], order: &mut [u64], spare: &mut [u64]) -> bool
+// Is a name in the value at a place at fault? With a table of ends, which the walks look into: so each object is gone over
+// a few times, however deep it lies; and with room to sort names.
+pub fn fault_in(text: &[u8], ends: &[u32], at: usize, order: &mut [u64], spare: &mut [u64]) -> bool
     requires { ⌜ (length (now order) ≤ 65536) × (length (now order) ≤ length (now spare)) × Ends (now text) (now ends) ⌝ }
-    ensures { λ r. ⌜ r ≡ faultAt levels (now (text .entry)) (spaceAt (now (text .entry)) 0) ⌝ }
+    ensures { λ r. ⌜ r ≡ faultAt levels (now (text .entry)) at ⌝ }
 {
-    fill(text, ends);
-    fault(text, ends, space(text, 0), LEVELS, order, spare)
+    fault(text, ends, at, LEVELS, order, spare)
 }
 
 // A text of 2,048 bytes. A member takes five bytes at least.
-pub fn short_fault(text: &[u8]) -> bool
-    ensures { λ r. ⌜ r ≡ faultAt levels (now (text .entry)) (spaceAt (now (text .entry)) 0) ⌝ }
+pub fn short_fault(text: &[u8], ends: &[u32], at: usize) -> bool
+    requires { ⌜ Ends (now text) (now ends) ⌝ }
+    ensures { λ r. ⌜ r ≡ faultAt levels (now (text .entry)) at ⌝ }
 {
-    let mut ends = [0u32; 2048];
     let mut order = [0u64; 409];
     let mut spare = [0u64; 409];
-    fault_in(text, &mut ends, &mut order, &mut spare)
+    fault_in(text, ends, at, &mut order, &mut spare)
 }
 
 // A text of 65,536 bytes. A longer one has its answer too, in more time.
-pub fn long_fault(text: &[u8]) -> bool
-    ensures { λ r. ⌜ r ≡ faultAt levels (now (text .entry)) (spaceAt (now (text .entry)) 0) ⌝ }
+pub fn long_fault(text: &[u8], ends: &[u32], at: usize) -> bool
+    requires { ⌜ Ends (now text) (now ends) ⌝ }
+    ensures { λ r. ⌜ r ≡ faultAt levels (now (text .entry)) at ⌝ }
 {
-    let mut ends = [0u32; 65536];
     let mut order = [0u64; 13107];
     let mut spare = [0u64; 13107];
-    fault_in(text, &mut ends, &mut order, &mut spare)
+    fault_in(text, ends, at, &mut order, &mut spare)
 }
 
 // Is a name of the text at fault? Most texts are short, and need not clear the room of the longest.
-pub fn text_fault(text: &[u8]) -> bool
+pub fn text_fault(text: &[u8], ends: &[u32]) -> bool
+    requires { ⌜ Ends (now text) (now ends) ⌝ }
     ensures { λ r. ⌜ r ≡ faultAt levels (now (text .entry)) (spaceAt (now (text .entry)) 0) ⌝ }
 {
+    let at = space(text, 0);
     if text.len() <= 2048 {
-        return short_fault(text);
+        return short_fault(text, ends, at);
     }
-    long_fault(text)
+    long_fault(text, ends, at)
 }

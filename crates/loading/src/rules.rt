@@ -2,6 +2,7 @@
 ghost use mathlib.Core.Path.{_≡_};
 ghost use Prim.Native.Nat.{_≤_};
 ghost use lib.ListN.{length};
+ghost use Rattle.json_ends.specs.Ends.{Ends};
 ghost use Rattle.json_tree.specs.Tree.{treeAt};
 ghost use Rattle.event.specs.Rules.{readRules};
 ghost use Rattle.loading.specs.Rules.{Season, Faultless, rulesAt, SettledRules};
@@ -14,19 +15,20 @@ use rule_text::rules::read_rule;
 // The rules at these places. The flags are room for eight rows.
 fn load_places(
     text: &[u8],
+    ends: &[u32],
     places: &[usize],
     excluded: bool,
     start: u64,
     limit: u32,
     flags: &mut [bool],
 ) -> Tracks
-    requires { ⌜ Faultless (now text) (now places) × (Season start limit × (length (now flags) ≡ 12592)) ⌝ }
+    requires { ⌜ Faultless (now text) (now places) × (Season start limit × ((length (now flags) ≡ 12592) × Ends (now text) (now ends))) ⌝ }
     ensures { λ r. ⌜ SettledRules excluded start limit (rulesAt (now (text .entry)) (now (places .entry))) r (now (flags .exit)) ⌝ }
 {
     let mut tracks = no_tracks();
     let mut i = 0;
     while i < places.len() {
-        let read = read_rule(text, places[i]);
+        let read = read_rule(text, ends, places[i]);
         let rule = read.rule;
         tracks = load(excluded, rule, start, limit, tracks, flags);
         i += 1;
@@ -37,16 +39,17 @@ fn load_places(
 // The rules of the list at a place, which was read without a fault.
 pub fn load_rules(
     text: &[u8],
+    ends: &[u32],
     at: usize,
     excluded: bool,
     start: u64,
     limit: u32,
     flags: &mut [bool],
 ) -> Tracks
-    requires { ⌜ (readRules (treeAt 15 (now text) at) .fault ≡ 0) × (Season start limit × (length (now flags) ≡ 12592)) ⌝ }
+    requires { ⌜ (readRules (treeAt 15 (now text) at) .fault ≡ 0) × (Season start limit × ((length (now flags) ≡ 12592) × Ends (now text) (now ends))) ⌝ }
     ensures { λ r. ⌜ SettledRules excluded start limit (readRules (treeAt 15 (now (text .entry)) at) .value) r (now (flags .exit)) ⌝ }
 {
     let mut places = [0usize; 8];
-    let n = rule_places(text, at, &mut places);
-    load_places(text, &places[..n], excluded, start, limit, flags)
+    let n = rule_places(text, ends, at, &mut places);
+    load_places(text, ends, &places[..n], excluded, start, limit, flags)
 }

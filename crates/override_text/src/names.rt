@@ -2,23 +2,25 @@
 ghost use mathlib.Core.Path.{_≡_};
 ghost use Rattle.json_walk.specs.Walk.{firstMemberAt, membersOf};
 ghost use Rattle.json_walk.specs.Strings.{bytesAt, rawAt};
+ghost use Rattle.json_ends.specs.Ends.{Ends};
 ghost use Rattle.event.specs.Overrides.{hasMark, nameFault};
 ghost use Rattle.override_text.specs.Names.{lowest, ofName, single};
 use fault::lower;
+use json_ends::objects::first_member;
+use json_ends::objects::next_member;
 use json_text::bytes::byte;
 use json_walk::MemberStep;
-use json_walk::objects::first_member;
-use json_walk::objects::next_member;
 use json_walk::strings::inside;
 use json_walk::strings::raw_is;
 use json_walk::strings::step;
 
 // The first member of the object at a place. There is none past the end of the text.
-pub fn first(text: &[u8], at: usize) -> MemberStep
+pub fn first(text: &[u8], ends: &[u32], at: usize) -> MemberStep
+    requires { ⌜ Ends (now text) (now ends) ⌝ }
     ensures { λ r. ⌜ r ≡ firstMemberAt (now (text .entry)) at ⌝ }
 {
     if at < text.len() {
-        return first_member(text, at);
+        return first_member(text, ends, at);
     }
     MemberStep::End
 }
@@ -63,17 +65,18 @@ pub fn name_fault(text: &[u8], name: usize, stop: usize) -> u32
 }
 
 // The lowest fault of the names of the object at a place.
-pub fn names_fault(text: &[u8], at: usize) -> u32
+pub fn names_fault(text: &[u8], ends: &[u32], at: usize) -> u32
+    requires { ⌜ Ends (now text) (now ends) ⌝ }
     ensures { λ r. ⌜ r ≡ lowest (ofName (now (text .entry))) (membersOf (now (text .entry)) at) ⌝ }
 {
     let mut found = 0;
-    let mut next = first(text, at);
+    let mut next = first(text, ends, at);
     let mut n = text.len();
     while 0 < n {
         match next {
             MemberStep::One(m) => {
                 found = lower(found, name_fault(text, m.name, m.stop));
-                next = next_member(text, m.after);
+                next = next_member(text, ends, m.after);
             }
             MemberStep::End => return found,
         }
@@ -83,14 +86,15 @@ pub fn names_fault(text: &[u8], at: usize) -> u32
 }
 
 // Has the object at a place no two members? A text that has two has two bytes.
-pub fn alone(text: &[u8], at: usize) -> bool
+pub fn alone(text: &[u8], ends: &[u32], at: usize) -> bool
+    requires { ⌜ Ends (now text) (now ends) ⌝ }
     ensures { λ r. ⌜ r ≡ single (membersOf (now (text .entry)) at) ⌝ }
 {
     if text.len() < 2 {
         return true;
     }
-    match first(text, at) {
-        MemberStep::One(m) => match next_member(text, m.after) {
+    match first(text, ends, at) {
+        MemberStep::One(m) => match next_member(text, ends, m.after) {
             MemberStep::One(_) => false,
             MemberStep::End => true,
         },

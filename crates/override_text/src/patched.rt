@@ -1,6 +1,7 @@
 // One property of the patch at a place: the event's own where the patch does not name it, the default where it is null.
 ghost use Prim.Native.Nat.{ℕ};
 ghost use mathlib.Core.Path.{_≡_};
+ghost use Rattle.json_ends.specs.Ends.{Ends};
 ghost use Rattle.property.specs.From.{textIn};
 ghost use Rattle.override_text.specs.Meaning.{span, whenIn, lastingIn, markIn, shownIn};
 ghost use Rattle.override_text.specs.Patched.{startIn, lengthIn, busyIn, flagIn, textFor};
@@ -24,10 +25,11 @@ use property::nulls::is_null;
 use property::texts::read_text;
 
 // A null is no date-time.
-pub fn start(text: &[u8], at: usize, id: u64) -> When
+pub fn start(text: &[u8], ends: &[u32], at: usize, id: u64) -> When
+    requires { ⌜ Ends (now text) (now ends) ⌝ }
     ensures { λ r. ⌜ ((l : ℕ) → whenIn r ≡ startIn l id (now (text .entry)) at) ⌝ }
 {
-    match member(text, at, b"start") {
+    match member(text, ends, at, b"start") {
         Found::Here(m) => when(read_start(text, m.value)),
         Found::Missing => When {
             value: id,
@@ -36,10 +38,11 @@ pub fn start(text: &[u8], at: usize, id: u64) -> When
     }
 }
 
-pub fn length(text: &[u8], at: usize, days: u64, seconds: u64) -> Lasting
+pub fn length(text: &[u8], ends: &[u32], at: usize, days: u64, seconds: u64) -> Lasting
+    requires { ⌜ Ends (now text) (now ends) ⌝ }
     ensures { λ r. ⌜ ((l : ℕ) → lastingIn r ≡ lengthIn l (span days seconds) (now (text .entry)) at) ⌝ }
 {
-    match member(text, at, b"duration") {
+    match member(text, ends, at, b"duration") {
         Found::Here(m) => {
             if is_null(text, m.value) {
                 return Lasting {
@@ -58,10 +61,11 @@ pub fn length(text: &[u8], at: usize, days: u64, seconds: u64) -> Lasting
     }
 }
 
-pub fn busy(text: &[u8], at: usize, own: bool) -> Mark
+pub fn busy(text: &[u8], ends: &[u32], at: usize, own: bool) -> Mark
+    requires { ⌜ Ends (now text) (now ends) ⌝ }
     ensures { λ r. ⌜ ((l : ℕ) → markIn r ≡ busyIn l own (now (text .entry)) at) ⌝ }
 {
-    match member(text, at, b"freeBusyStatus") {
+    match member(text, ends, at, b"freeBusyStatus") {
         Found::Here(m) => {
             if is_null(text, m.value) {
                 return Mark {
@@ -79,10 +83,11 @@ pub fn busy(text: &[u8], at: usize, own: bool) -> Mark
 }
 
 // A boolean that is false by default.
-pub fn flag(text: &[u8], at: usize, name: &[u8], own: bool) -> Mark
+pub fn flag(text: &[u8], ends: &[u32], at: usize, name: &[u8], own: bool) -> Mark
+    requires { ⌜ Ends (now text) (now ends) ⌝ }
     ensures { λ r. ⌜ ((l : ℕ) → markIn r ≡ flagIn l (now (name .entry)) own (now (text .entry)) at) ⌝ }
 {
-    match member(text, at, name) {
+    match member(text, ends, at, name) {
         Found::Here(m) => {
             if is_null(text, m.value) {
                 return Mark {
@@ -99,10 +104,11 @@ pub fn flag(text: &[u8], at: usize, name: &[u8], own: bool) -> Mark
     }
 }
 
-pub fn passage(text: &[u8], at: usize, name: &[u8], own: Place) -> Shown
+pub fn passage(text: &[u8], ends: &[u32], at: usize, name: &[u8], own: Place) -> Shown
+    requires { ⌜ Ends (now text) (now ends) ⌝ }
     ensures { λ r. ⌜ ((l : ℕ) → shownIn (now (text .entry)) r ≡ textFor l (now (name .entry)) (textIn (now (text .entry)) own) (now (text .entry)) at) ⌝ }
 {
-    match member(text, at, name) {
+    match member(text, ends, at, name) {
         Found::Here(m) => {
             if is_null(text, m.value) {
                 return Shown {

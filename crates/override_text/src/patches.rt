@@ -4,6 +4,7 @@ ghost use mathlib.Core.Bool.{not, _&&_};
 ghost use mathlib.Core.Path.{_≡_};
 ghost use Rattle.signed.specs.Choose.{if_then_else_};
 ghost use Rattle.fault.specs.Fault.{lower as Fault·lower};
+ghost use Rattle.json_ends.specs.Ends.{Ends};
 ghost use Rattle.event.specs.Overrides.{patchIn};
 ghost use Rattle.property.specs.From.{fieldsIn};
 ghost use Rattle.override_text.specs.Meaning.{detailsIn, overrideIn};
@@ -51,21 +52,22 @@ fn excluded_fault(excluded: bool, single: bool) -> u32
 }
 
 // The patch object at a place.
-fn patch_in(text: &[u8], at: usize, own: Own, id: u64) -> Patch
+fn patch_in(text: &[u8], ends: &[u32], at: usize, own: Own, id: u64) -> Patch
+    requires { ⌜ Ends (now text) (now ends) ⌝ }
     ensures { λ r. ⌜ ((l : ℕ) → overrideIn (now (text .entry)) id r ≡ patchIn (detailsIn (now (text .entry)) own) id (fieldsIn l (now (text .entry)) at)) ⌝ }
 {
     let shown = own.title;
     let told = own.description;
-    let when = start(text, at, id);
-    let lasting = length(text, at, own.days, own.seconds);
-    let status = busy(text, at, own.busy);
-    let allday = flag(text, at, b"showWithoutTime", own.allday);
-    let title = passage(text, at, b"title", shown);
-    let description = passage(text, at, b"description", told);
-    let excluded = flag(text, at, b"excluded", false);
+    let when = start(text, ends, at, id);
+    let lasting = length(text, ends, at, own.days, own.seconds);
+    let status = busy(text, ends, at, own.busy);
+    let allday = flag(text, ends, at, b"showWithoutTime", own.allday);
+    let title = passage(text, ends, at, b"title", shown);
+    let description = passage(text, ends, at, b"description", told);
+    let excluded = flag(text, ends, at, b"excluded", false);
     let rest = lower(
-        excluded_fault(excluded.value, alone(text, at)),
-        names_fault(text, at),
+        excluded_fault(excluded.value, alone(text, ends, at)),
+        names_fault(text, ends, at),
     );
     let fault = join(
         when.fault,
@@ -93,11 +95,12 @@ fn patch_in(text: &[u8], at: usize, own: Own, id: u64) -> Patch
 }
 
 // The occurrence id after the patch at a place. A value that is no object answers 6.
-pub fn patch(text: &[u8], at: usize, own: Own, id: u64) -> Patch
+pub fn patch(text: &[u8], ends: &[u32], at: usize, own: Own, id: u64) -> Patch
+    requires { ⌜ Ends (now text) (now ends) ⌝ }
     ensures { λ r. ⌜ ((l : ℕ) → overrideIn (now (text .entry)) id r ≡ patchAt l (detailsIn (now (text .entry)) own) id (now (text .entry)) at) ⌝ }
 {
     if byte(text, at) == 0x7B {
-        return patch_in(text, at, own, id);
+        return patch_in(text, ends, at, own, id);
     }
     let title = own.title;
     let description = own.description;

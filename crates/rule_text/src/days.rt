@@ -4,6 +4,7 @@ ghost use Prim.Native.Nat.{suc, _<_};
 ghost use lib.ListN.{length};
 ghost use Rattle.json_tree.specs.Tree.{treeAt};
 ghost use mathlib.Core.Bool.{_||_};
+ghost use Rattle.json_ends.specs.Ends.{Ends};
 ghost use Rattle.rule.specs.Read.{nthFrom};
 ghost use Rattle.event.specs.Rules.{readNDay};
 ghost use Rattle.rule_text.specs.Reads.{entriesAt};
@@ -18,15 +19,16 @@ use crate::members::type_in;
 use crate::spelled::fault_of;
 use crate::spelled::number_of;
 use fault::lower;
+use json_ends::arrays::first_element;
+use json_ends::arrays::next_element;
 use json_text::bytes::byte;
 use json_walk::ElementStep;
-use json_walk::arrays::first_element;
-use json_walk::arrays::next_element;
 use signed::negative_part;
 use signed::positive_part;
 
 // An entry of byDay.
-pub fn read_nday(text: &[u8], at: usize) -> DayRead
+pub fn read_nday(text: &[u8], ends: &[u32], at: usize) -> DayRead
+    requires { ⌜ Ends (now text) (now ends) ⌝ }
     ensures { λ r. ⌜ DayReads (λ l. readNDay (treeAt (suc l) (now (text .entry)) at)) (r .weekday) (r .nth) (r .fault) ⌝ }
 {
     if byte(text, at) != 0x7B {
@@ -36,13 +38,13 @@ pub fn read_nday(text: &[u8], at: usize) -> DayRead
             fault: 6,
         };
     }
-    let day = day_in(text, at);
-    let nth = nth_in(text, at);
+    let day = day_in(text, ends, at);
+    let nth = nth_in(text, ends, at);
     let others = lower(fault_of(day), nth.fault);
     DayRead {
         weekday: number_of(day),
         nth: nth.value,
-        fault: lower(type_in(text, at, b"NDay"), others),
+        fault: lower(type_in(text, ends, at, b"NDay"), others),
     }
 }
 
@@ -59,11 +61,17 @@ fn or_nth(any: bool, nth: i64) -> bool
     0 < negative_part(nth)
 }
 
-pub fn day_entries(text: &[u8], at: usize, weekdays: &mut [u32], nths: &mut [i64]) -> DaysListed
-    requires { ⌜ at < length (now text) ⌝ }
+pub fn day_entries(
+    text: &[u8],
+    ends: &[u32],
+    at: usize,
+    weekdays: &mut [u32],
+    nths: &mut [i64],
+) -> DaysListed
+    requires { ⌜ (at < length (now text)) × Ends (now text) (now ends) ⌝ }
     ensures { λ r. ⌜ DayEntries (λ l. entriesAt readNDay (suc l) (now (text .entry)) at) (now (weekdays .entry)) (now (weekdays .exit)) (now (nths .entry)) (now (nths .exit)) (r .count) (r .nth) (r .fault) ⌝ }
 {
-    let mut step = first_element(text, at);
+    let mut step = first_element(text, ends, at);
     let mut n = text.len();
     let mut count = 0;
     let mut nth = false;
@@ -71,12 +79,12 @@ pub fn day_entries(text: &[u8], at: usize, weekdays: &mut [u32], nths: &mut [i64
     while 0 < n {
         match step {
             ElementStep::Next(e) => {
-                let one = read_nday(text, e.value);
+                let one = read_nday(text, ends, e.value);
                 put_name(weekdays, count, one.weekday);
                 put(nths, count, one.nth);
                 nth = or_nth(nth, one.nth);
                 fault = lower(fault, one.fault);
-                step = next_element(text, e.after);
+                step = next_element(text, ends, e.after);
             }
             ElementStep::Stop => return DaysListed { count, nth, fault },
         }

@@ -1,5 +1,6 @@
 // What ends a rule: `until`, `count` or nothing.
 ghost use mathlib.Core.Path.{_≡_};
+ghost use Rattle.json_ends.specs.Ends.{Ends};
 ghost use Rattle.event.specs.Properties.{fromLocal};
 ghost use Rattle.rule_text.specs.Parts.{EndsRead};
 use crate::Ending;
@@ -30,11 +31,12 @@ fn until_fault(x: DateTime) -> u32
     }
 }
 
-pub fn read_ends(text: &[u8], at: usize) -> Ending
+pub fn read_ends(text: &[u8], ends: &[u32], at: usize) -> Ending
+    requires { ⌜ Ends (now text) (now ends) ⌝ }
     ensures { λ r. ⌜ EndsRead (now (text .entry)) at (r .end) (r .fault) ⌝ }
 {
-    let until = member(text, at, b"until");
-    match member(text, at, b"count") {
+    let until = member(text, ends, at, b"until");
+    match member(text, ends, at, b"count") {
         Found::Here(c) => {
             let n = count(text, c.value);
             match until {

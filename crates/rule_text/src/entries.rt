@@ -2,6 +2,7 @@
 ghost use mathlib.Core.Path.{_≡_};
 ghost use Prim.Native.Nat.{_<_};
 ghost use lib.ListN.{length, set};
+ghost use Rattle.json_ends.specs.Ends.{Ends};
 ghost use Rattle.event.specs.Rules.{readSigned, readMonth};
 ghost use Rattle.rule_text.specs.Reads.{entriesAt, Entries};
 use crate::Listed;
@@ -10,9 +11,9 @@ use crate::spelled::fault_of;
 use crate::spelled::number_of;
 use crate::spelled::read_month;
 use fault::lower;
+use json_ends::arrays::first_element;
+use json_ends::arrays::next_element;
 use json_walk::ElementStep;
-use json_walk::arrays::first_element;
-use json_walk::arrays::next_element;
 
 // An entry goes to its place where there is room.
 pub fn put(list: &mut [i64], at: usize, entry: i64)
@@ -33,11 +34,11 @@ pub fn put_name(list: &mut [u32], at: usize, entry: u32)
     }
 }
 
-pub fn signed_entries(text: &[u8], at: usize, most: u32, list: &mut [i64]) -> Listed
-    requires { ⌜ at < length (now text) ⌝ }
+pub fn signed_entries(text: &[u8], ends: &[u32], at: usize, most: u32, list: &mut [i64]) -> Listed
+    requires { ⌜ (at < length (now text)) × Ends (now text) (now ends) ⌝ }
     ensures { λ r. ⌜ Entries (λ l. entriesAt (readSigned most) l (now (text .entry)) at) (now (list .entry)) (now (list .exit)) (r .count) (r .fault) ⌝ }
 {
-    let mut step = first_element(text, at);
+    let mut step = first_element(text, ends, at);
     let mut n = text.len();
     let mut count = 0;
     let mut fault = 0;
@@ -47,7 +48,7 @@ pub fn signed_entries(text: &[u8], at: usize, most: u32, list: &mut [i64]) -> Li
                 let one = signed_up_to(text, e.value, most);
                 put(list, count, one.value);
                 fault = lower(fault, one.fault);
-                step = next_element(text, e.after);
+                step = next_element(text, ends, e.after);
             }
             ElementStep::Stop => return Listed { count, fault },
         }
@@ -57,11 +58,11 @@ pub fn signed_entries(text: &[u8], at: usize, most: u32, list: &mut [i64]) -> Li
     Listed { count, fault }
 }
 
-pub fn month_entries(text: &[u8], at: usize, list: &mut [u32]) -> Listed
-    requires { ⌜ at < length (now text) ⌝ }
+pub fn month_entries(text: &[u8], ends: &[u32], at: usize, list: &mut [u32]) -> Listed
+    requires { ⌜ (at < length (now text)) × Ends (now text) (now ends) ⌝ }
     ensures { λ r. ⌜ Entries (λ l. entriesAt readMonth l (now (text .entry)) at) (now (list .entry)) (now (list .exit)) (r .count) (r .fault) ⌝ }
 {
-    let mut step = first_element(text, at);
+    let mut step = first_element(text, ends, at);
     let mut n = text.len();
     let mut count = 0;
     let mut fault = 0;
@@ -71,7 +72,7 @@ pub fn month_entries(text: &[u8], at: usize, list: &mut [u32]) -> Listed
                 let one = read_month(text, e.value);
                 put_name(list, count, number_of(one));
                 fault = lower(fault, fault_of(one));
-                step = next_element(text, e.after);
+                step = next_element(text, ends, e.after);
             }
             ElementStep::Stop => return Listed { count, fault },
         }

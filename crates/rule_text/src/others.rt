@@ -1,6 +1,7 @@
 // The faults of a rule beside those of its values.
 ghost use Prim.Native.Nat.{ℕ};
 ghost use mathlib.Core.Path.{_≡_};
+ghost use Rattle.json_ends.specs.Ends.{Ends};
 ghost use Rattle.event.specs.Rules.{unsupportedLists};
 ghost use Rattle.property.specs.From.{fieldsIn};
 ghost use Rattle.rule_text.specs.Parts.{otherFault, nthFault, joined};
@@ -10,23 +11,25 @@ use crate::members::unsupported_in;
 use fault::lower;
 use rule::Frequency;
 
-fn unsupported_lists(text: &[u8], at: usize) -> u32
+fn unsupported_lists(text: &[u8], ends: &[u32], at: usize) -> u32
+    requires { ⌜ Ends (now text) (now ends) ⌝ }
     ensures { λ r. ⌜ ((l : ℕ) → r ≡ unsupportedLists (fieldsIn l (now (text .entry)) at)) ⌝ }
 {
-    let day = unsupported_in(text, at, b"byYearDay");
-    let week = unsupported_in(text, at, b"byWeekNo");
-    let hour = unsupported_in(text, at, b"byHour");
-    let minute = unsupported_in(text, at, b"byMinute");
-    let second = unsupported_in(text, at, b"bySecond");
+    let day = unsupported_in(text, ends, at, b"byYearDay");
+    let week = unsupported_in(text, ends, at, b"byWeekNo");
+    let hour = unsupported_in(text, ends, at, b"byHour");
+    let minute = unsupported_in(text, ends, at, b"byMinute");
+    let second = unsupported_in(text, ends, at, b"bySecond");
     lower(day, lower(week, lower(hour, lower(minute, second))))
 }
 
-pub fn other_fault(text: &[u8], at: usize) -> u32
+pub fn other_fault(text: &[u8], ends: &[u32], at: usize) -> u32
+    requires { ⌜ Ends (now text) (now ends) ⌝ }
     ensures { λ r. ⌜ ((l : ℕ) → r ≡ otherFault l (now (text .entry)) at) ⌝ }
 {
-    let scale = scale_in(text, at);
-    let skip = skip_in(text, at);
-    lower(scale, lower(skip, unsupported_lists(text, at)))
+    let scale = scale_in(text, ends, at);
+    let skip = skip_in(text, ends, at);
+    lower(scale, lower(skip, unsupported_lists(text, ends, at)))
 }
 
 // An nthOfPeriod under weekly or daily.

@@ -2,13 +2,14 @@
 ghost use Prim.Native.Nat.{_<_};
 ghost use mathlib.Core.Path.{_≡_};
 ghost use lib.ListN.{length, set};
+ghost use Rattle.json_ends.specs.Ends.{Ends};
 ghost use Rattle.rule_text.specs.Reads.{entriesAt, Entries};
 ghost use Rattle.rule_text.specs.Places.{readPlace, Places};
 use crate::Listed;
+use json_ends::arrays::first_element;
+use json_ends::arrays::next_element;
 use json_text::bytes::byte;
 use json_walk::ElementStep;
-use json_walk::arrays::first_element;
-use json_walk::arrays::next_element;
 
 fn put_place(list: &mut [usize], at: usize, entry: usize)
     ensures { λ r. ⌜ now (list .exit) ≡ set (now (list .entry)) at entry ⌝ }
@@ -19,18 +20,18 @@ fn put_place(list: &mut [usize], at: usize, entry: usize)
     }
 }
 
-fn place_entries(text: &[u8], at: usize, list: &mut [usize]) -> usize
-    requires { ⌜ at < length (now text) ⌝ }
+fn place_entries(text: &[u8], ends: &[u32], at: usize, list: &mut [usize]) -> usize
+    requires { ⌜ (at < length (now text)) × Ends (now text) (now ends) ⌝ }
     ensures { λ r. ⌜ Entries (λ l. entriesAt readPlace l (now (text .entry)) at) (now (list .entry)) (now (list .exit)) r 0 ⌝ }
 {
-    let mut step = first_element(text, at);
+    let mut step = first_element(text, ends, at);
     let mut n = text.len();
     let mut count = 0;
     while 0 < n {
         match step {
             ElementStep::Next(e) => {
                 put_place(list, count, e.value);
-                step = next_element(text, e.after);
+                step = next_element(text, ends, e.after);
             }
             ElementStep::Stop => return count,
         }
@@ -41,11 +42,12 @@ fn place_entries(text: &[u8], at: usize, list: &mut [usize]) -> usize
 }
 
 // The places of the rules of the array at a place, as many as there is room for, and how many there are.
-pub fn rule_places(text: &[u8], at: usize, list: &mut [usize]) -> usize
+pub fn rule_places(text: &[u8], ends: &[u32], at: usize, list: &mut [usize]) -> usize
+    requires { ⌜ Ends (now text) (now ends) ⌝ }
     ensures { λ r. ⌜ Places (now (text .entry)) at (now (list .entry)) (now (list .exit)) r ⌝ }
 {
     if byte(text, at) != 0x5B {
         return 0;
     }
-    place_entries(text, at, list)
+    place_entries(text, ends, at, list)
 }

@@ -2,6 +2,7 @@
 ghost use Prim.Native.Nat.{ℕ, suc, _<_};
 ghost use mathlib.Core.Path.{_≡_};
 ghost use lib.ListN.{length};
+ghost use Rattle.json_ends.specs.Ends.{Ends};
 ghost use Rattle.json_tree.specs.Tree.{treeAt};
 ghost use Rattle.rule.specs.Read.{written};
 ghost use Rattle.event.specs.Rules.{standIn, readRule, readRules};
@@ -19,10 +20,10 @@ use crate::others::join;
 use crate::others::nth_fault;
 use crate::others::other_fault;
 use fault::lower;
+use json_ends::arrays::first_element;
+use json_ends::arrays::next_element;
 use json_text::bytes::byte;
 use json_walk::ElementStep;
-use json_walk::arrays::first_element;
-use json_walk::arrays::next_element;
 use rule::End;
 use rule::Frequency;
 use rule::Rule;
@@ -49,25 +50,26 @@ fn stand_in() -> Rule
 }
 
 // The rule whose members are those of the object at a place.
-fn rule_in(text: &[u8], at: usize) -> Read
+fn rule_in(text: &[u8], ends: &[u32], at: usize) -> Read
+    requires { ⌜ Ends (now text) (now ends) ⌝ }
     ensures { λ r. ⌜ RuleIn (now (text .entry)) at (r .rule) (r .fault) ⌝ }
 {
-    let head = read_head(text, at);
-    let days = weekdays(text, at);
-    let dates = numbers(text, at, b"byMonthDay", 31);
-    let year = months(text, at);
-    let positions = numbers(text, at, b"bySetPosition", 366);
-    let ends = read_ends(text, at);
+    let head = read_head(text, ends, at);
+    let days = weekdays(text, ends, at);
+    let dates = numbers(text, ends, at, b"byMonthDay", 31);
+    let year = months(text, ends, at);
+    let positions = numbers(text, ends, at, b"bySetPosition", 366);
+    let ending = read_ends(text, ends, at);
     let frequency = head.frequency;
     let nth = nth_fault(frequency, days.any);
-    let other = other_fault(text, at);
+    let other = other_fault(text, ends, at);
     let fault = join(
         head.fault,
         days.fault,
         dates.fault,
         year.fault,
         positions.fault,
-        ends.fault,
+        ending.fault,
         nth,
         other,
     );
@@ -76,7 +78,7 @@ fn rule_in(text: &[u8], at: usize) -> Read
     let datelist = dates.list;
     let monthlist = year.list;
     let positionlist = positions.list;
-    let end = ends.end;
+    let end = ending.end;
     let rule = Rule {
         frequency,
         interval: head.interval,
@@ -96,7 +98,8 @@ fn rule_in(text: &[u8], at: usize) -> Read
 }
 
 // The rule at a place.
-pub fn read_rule(text: &[u8], at: usize) -> Read
+pub fn read_rule(text: &[u8], ends: &[u32], at: usize) -> Read
+    requires { ⌜ Ends (now text) (now ends) ⌝ }
     ensures { λ r. ⌜ RuleRead (now (text .entry)) at (r .rule) (r .fault) ⌝ }
 {
     if byte(text, at) != 0x7B {
@@ -105,24 +108,24 @@ pub fn read_rule(text: &[u8], at: usize) -> Read
             fault: 6,
         };
     }
-    rule_in(text, at)
+    rule_in(text, ends, at)
 }
 
 // All rules of the array at a place: how many, and the lowest fault in them.
-fn rule_entries(text: &[u8], at: usize) -> Listed
-    requires { ⌜ at < length (now text) ⌝ }
+fn rule_entries(text: &[u8], ends: &[u32], at: usize) -> Listed
+    requires { ⌜ (at < length (now text)) × Ends (now text) (now ends) ⌝ }
     ensures { λ r. ⌜ Tally (λ l. entriesAt readRule (suc (suc (suc l))) (now (text .entry)) at) (r .count) (r .fault) ⌝ }
 {
-    let mut step = first_element(text, at);
+    let mut step = first_element(text, ends, at);
     let mut n = text.len();
     let mut count = 0;
     let mut fault = 0;
     while 0 < n {
         match step {
             ElementStep::Next(e) => {
-                let one = read_rule(text, e.value);
+                let one = read_rule(text, ends, e.value);
                 fault = lower(fault, one.fault);
-                step = next_element(text, e.after);
+                step = next_element(text, ends, e.after);
             }
             ElementStep::Stop => return Listed { count, fault },
         }
@@ -142,12 +145,13 @@ fn limit(count: usize, fault: u32) -> u32
 }
 
 // The fault of a list of rules.
-pub fn rules_fault(text: &[u8], at: usize) -> u32
+pub fn rules_fault(text: &[u8], ends: &[u32], at: usize) -> u32
+    requires { ⌜ Ends (now text) (now ends) ⌝ }
     ensures { λ r. ⌜ ((l : ℕ) → r ≡ readRules (treeAt (suc (suc (suc (suc l)))) (now (text .entry)) at) .fault) ⌝ }
 {
     if byte(text, at) != 0x5B {
         return 6;
     }
-    let all = rule_entries(text, at);
+    let all = rule_entries(text, ends, at);
     limit(all.count, all.fault)
 }

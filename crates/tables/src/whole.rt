@@ -4,6 +4,7 @@ ghost use Prim.Native.Nat.{_+_, _-_, _*_, _≤_};
 ghost use lib.ListN.{length as List·length};
 ghost use lib.Seq.{sets};
 ghost use Rattle.rule.specs.Lists.{countIn};
+ghost use Rattle.json_ends.specs.Ends.{Ends};
 ghost use Rattle.override_text.specs.Meaning.{detailsIn};
 ghost use Rattle.dates.specs.Loaded.{loaded, isIn};
 ghost use Rattle.window.specs.Chunks.{Window, Ready};
@@ -21,6 +22,7 @@ use writing::whole::write_ids;
 fn put_all(
     buffer: &mut [u8],
     text: &[u8],
+    ends: &[u32],
     own: Own,
     ids: &[u64],
     gone: &[bool],
@@ -38,11 +40,11 @@ fn put_all(
     to: u64,
     count: u64,
 )
-    requires { ⌜ Ready rules (List·length (now rulerows)) excluded (List·length (now excludedrows)) (List·length (now ids)) (List·length (now gone)) (List·length (now hits))
+    requires { ⌜ Ends (now text) (now ends) × (Ready rules (List·length (now rulerows)) excluded (List·length (now excludedrows)) (List·length (now ids)) (List·length (now gone)) (List·length (now hits))
         × (Window (own .start) from to × (Overridden (List·length (now ids)) (List·length (now gone)) (List·length (now places))
         × (Timed initial (now instants) (now offsets) (detailsBy (now text) (detailsIn (now text) own) (now ids) (now places))
         × ((count ≡ countIn (isIn (loaded (own .start) rules (now rulerows) excluded (now excludedrows) (now ids) (now gone))) from (to - from))
-        × (28 * count + 12 ≤ List·length (now buffer)))))) ⌝ }
+        × (28 * count + 12 ≤ List·length (now buffer))))))) ⌝ }
     ensures { λ _. ⌜ now (buffer .exit) ≡ sets (now (buffer .entry)) 0 (sheetBy
         (rowBy floating initial (now (instants .entry)) (now (offsets .entry)) (detailsBy (now (text .entry)) (detailsIn (now (text .entry)) own) (now (ids .entry)) (now (places .entry))))
         (isIn (loaded (own .start) rules (now (rulerows .entry)) excluded (now (excludedrows .entry)) (now (ids .entry)) (now (gone .entry)))) from to) ⌝ }
@@ -53,6 +55,7 @@ fn put_all(
         0,
         stop,
         text,
+        ends,
         own,
         ids,
         gone,
@@ -77,6 +80,7 @@ pub fn put_table(
     buffer: &mut [u8],
     length: &mut u64,
     text: &[u8],
+    ends: &[u32],
     own: Own,
     ids: &[u64],
     gone: &[bool],
@@ -93,9 +97,9 @@ pub fn put_table(
     from: u64,
     to: u64,
 ) -> u32
-    requires { ⌜ Ready rules (List·length (now rulerows)) excluded (List·length (now excludedrows)) (List·length (now ids)) (List·length (now gone)) (List·length (now hits))
+    requires { ⌜ Ends (now text) (now ends) × (Ready rules (List·length (now rulerows)) excluded (List·length (now excludedrows)) (List·length (now ids)) (List·length (now gone)) (List·length (now hits))
         × (Window (own .start) from to × (Overridden (List·length (now ids)) (List·length (now gone)) (List·length (now places))
-        × Timed initial (now instants) (now offsets) (detailsBy (now text) (detailsIn (now text) own) (now ids) (now places)))) ⌝ }
+        × Timed initial (now instants) (now offsets) (detailsBy (now text) (detailsIn (now text) own) (now ids) (now places))))) ⌝ }
     ensures { λ r. ⌜ Gives (fitted (sheetBy
         (rowBy floating initial (now (instants .entry)) (now (offsets .entry)) (detailsBy (now (text .entry)) (detailsIn (now (text .entry)) own) (now (ids .entry)) (now (places .entry))))
         (isIn (loaded (own .start) rules (now (rulerows .entry)) excluded (now (excludedrows .entry)) (now (ids .entry)) (now (gone .entry)))) from to)
@@ -121,6 +125,7 @@ pub fn put_table(
     put_all(
         buffer,
         text,
+        ends,
         own,
         ids,
         gone,

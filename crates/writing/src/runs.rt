@@ -3,6 +3,7 @@ ghost use mathlib.Core.Path.{_≡_};
 ghost use Prim.Native.Nat.{_+_, _-_, _*_, _≤_};
 ghost use lib.ListN.{length};
 ghost use Rattle.rule.specs.Lists.{countIn};
+ghost use Rattle.json_ends.specs.Ends.{Ends};
 ghost use Rattle.override_text.specs.Meaning.{detailsIn};
 ghost use Rattle.window.specs.Next.{isThere, Stretch};
 ghost use Rattle.writing.specs.Details.{detailsBy, rowBy};
@@ -18,6 +19,7 @@ pub fn write_run(
     buf: &mut [u8],
     at: usize,
     text: &[u8],
+    ends: &[u32],
     own: Own,
     ids: &[u64],
     gone: &[bool],
@@ -31,9 +33,9 @@ pub fn write_run(
     from: u64,
     to: u64,
 ) -> usize
-    requires { ⌜ Stretch first (length (now hits)) from to × (Overridden (length (now ids)) (length (now gone)) (length (now places))
+    requires { ⌜ Ends (now text) (now ends) × (Stretch first (length (now hits)) from to × (Overridden (length (now ids)) (length (now gone)) (length (now places))
         × (Timed initial (now instants) (now offsets) (detailsBy (now text) (detailsIn (now text) own) (now ids) (now places))
-        × (at + 28 * countIn (isThere (now hits) first (own .start) (now ids) (now gone)) from (to - from) ≤ length (now buf)))) ⌝ }
+        × (at + 28 * countIn (isThere (now hits) first (own .start) (now ids) (now gone)) from (to - from) ≤ length (now buf))))) ⌝ }
     ensures { λ r. ⌜ Written (rowBy floating initial (now (instants .entry)) (now (offsets .entry)) (detailsBy (now (text .entry)) (detailsIn (now (text .entry)) own) (now (ids .entry)) (now (places .entry))))
         (isThere (now (hits .entry)) first (own .start) (now (ids .entry)) (now (gone .entry))) from to at (now (buf .entry)) (now (buf .exit)) r ⌝ }
 {
@@ -50,6 +52,7 @@ pub fn write_run(
             buf,
             place,
             text,
+            ends,
             own,
             ids,
             places,

@@ -5,6 +5,7 @@ ghost use Prim.Native.Nat.{_+_, _*_, _≤_, _^_};
 ghost use lib.ListN.{length};
 ghost use lib.Seq.{sets};
 ghost use Rattle.zone.specs.Table.{validTable};
+ghost use Rattle.json_ends.specs.Ends.{Ends};
 ghost use Rattle.event.specs.Types.{Length};
 ghost use Rattle.override_text.specs.Meaning.{detailsIn};
 ghost use Rattle.record.specs.Occurrences.{Small};
@@ -27,23 +28,23 @@ fn times(start: u64, days: u64, seconds: u64, busy: bool, allday: bool) -> Times
 }
 
 // The times of the occurrence `id` after the patch at a place.
-fn patched(text: &[u8], at: usize, own: Own, id: u64) -> Times
-    requires { ⌜ patchTimes (detailsIn (now text) own) (now text) at id .seconds ≤ 2 ^ 40 ⌝ }
+fn patched(text: &[u8], ends: &[u32], at: usize, own: Own, id: u64) -> Times
+    requires { ⌜ Ends (now text) (now ends) × (patchTimes (detailsIn (now text) own) (now text) at id .seconds ≤ 2 ^ 40) ⌝ }
     ensures { λ r. ⌜ r ≡ patchTimes (detailsIn (now (text .entry)) own) (now (text .entry)) at id ⌝ }
 {
-    let p = patch(text, at, own, id);
+    let p = patch(text, ends, at, own, id);
     times(p.start, p.days, p.seconds, p.busy, p.allday)
 }
 
 // The times of the occurrence x: after its patch where an override names it, else the event's own from x on.
-pub fn times_at(text: &[u8], own: Own, ids: &[u64], places: &[usize], x: u64) -> Times
-    requires { ⌜ (length (now ids) ≡ length (now places)) × Small x (timesIn (detailsBy (now text) (detailsIn (now text) own) (now ids) (now places) x)) ⌝ }
+pub fn times_at(text: &[u8], ends: &[u32], own: Own, ids: &[u64], places: &[usize], x: u64) -> Times
+    requires { ⌜ Ends (now text) (now ends) × ((length (now ids) ≡ length (now places)) × Small x (timesIn (detailsBy (now text) (detailsIn (now text) own) (now ids) (now places) x))) ⌝ }
     ensures { λ r. ⌜ r ≡ timesIn (detailsBy (now (text .entry)) (detailsIn (now (text .entry)) own) (now (ids .entry)) (now (places .entry)) x) ⌝ }
 {
     let mut i = 0;
     while i < ids.len() {
         if ids[i] == x {
-            return patched(text, places[i], own, x);
+            return patched(text, ends, places[i], own, x);
         }
         i += 1;
     }
@@ -55,6 +56,7 @@ pub fn put_at(
     buf: &mut [u8],
     at: usize,
     text: &[u8],
+    ends: &[u32],
     own: Own,
     ids: &[u64],
     places: &[usize],
@@ -64,11 +66,11 @@ pub fn put_at(
     offsets: &[i64],
     x: u64,
 )
-    requires { ⌜ (at + 28 ≤ length (now buf)) × ((length (now ids) ≡ length (now places)) × ((validTable initial (now instants) (now offsets) ≡ true)
-        × Small x (timesIn (detailsBy (now text) (detailsIn (now text) own) (now ids) (now places) x)))) ⌝ }
+    requires { ⌜ Ends (now text) (now ends) × ((at + 28 ≤ length (now buf)) × ((length (now ids) ≡ length (now places)) × ((validTable initial (now instants) (now offsets) ≡ true)
+        × Small x (timesIn (detailsBy (now text) (detailsIn (now text) own) (now ids) (now places) x))))) ⌝ }
     ensures { λ _. ⌜ now (buf .exit) ≡ sets (now (buf .entry)) at (rowBy floating initial (now (instants .entry)) (now (offsets .entry))
         (detailsBy (now (text .entry)) (detailsIn (now (text .entry)) own) (now (ids .entry)) (now (places .entry))) x) ⌝ }
 {
-    let t = times_at(text, own, ids, places, x);
+    let t = times_at(text, ends, own, ids, places, x);
     put_occurrence(buf, at, x, t, floating, initial, instants, offsets);
 }

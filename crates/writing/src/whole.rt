@@ -3,6 +3,7 @@ ghost use mathlib.Core.Path.{_≡_};
 ghost use Prim.Native.Nat.{_+_, _-_, _*_, _/_, _≤_};
 ghost use lib.ListN.{length};
 ghost use Rattle.rule.specs.Lists.{countIn};
+ghost use Rattle.json_ends.specs.Ends.{Ends};
 ghost use Rattle.override_text.specs.Meaning.{detailsIn};
 ghost use Rattle.dates.specs.Loaded.{loaded, isIn};
 ghost use Rattle.window.specs.Next.{Stretch};
@@ -20,6 +21,7 @@ fn write_chunk(
     buf: &mut [u8],
     at: usize,
     text: &[u8],
+    ends: &[u32],
     own: Own,
     ids: &[u64],
     gone: &[bool],
@@ -36,11 +38,11 @@ fn write_chunk(
     from: u64,
     to: u64,
 ) -> usize
-    requires { ⌜ Ready rules (length (now rulerows)) excluded (length (now excludedrows)) (length (now ids)) (length (now gone)) (length (now hits))
+    requires { ⌜ Ends (now text) (now ends) × (Ready rules (length (now rulerows)) excluded (length (now excludedrows)) (length (now ids)) (length (now gone)) (length (now hits))
         × ((Window (own .start) from to × Stretch (from / 86400) (length (now hits)) from to)
         × (Overridden (length (now ids)) (length (now gone)) (length (now places))
         × (Timed initial (now instants) (now offsets) (detailsBy (now text) (detailsIn (now text) own) (now ids) (now places))
-        × (at + 28 * countIn (isIn (loaded (own .start) rules (now rulerows) excluded (now excludedrows) (now ids) (now gone))) from (to - from) ≤ length (now buf))))) ⌝ }
+        × (at + 28 * countIn (isIn (loaded (own .start) rules (now rulerows) excluded (now excludedrows) (now ids) (now gone))) from (to - from) ≤ length (now buf)))))) ⌝ }
     ensures { λ r. ⌜ Written (rowBy floating initial (now (instants .entry)) (now (offsets .entry)) (detailsBy (now (text .entry)) (detailsIn (now (text .entry)) own) (now (ids .entry)) (now (places .entry))))
         (isIn (loaded (own .start) rules (now (rulerows .entry)) excluded (now (excludedrows .entry)) (now (ids .entry)) (now (gone .entry)))) from to at (now (buf .entry)) (now (buf .exit)) r ⌝ }
 {
@@ -60,6 +62,7 @@ fn write_chunk(
         buf,
         at,
         text,
+        ends,
         own,
         ids,
         gone,
@@ -82,6 +85,7 @@ pub fn write_ids(
     at: usize,
     stop: usize,
     text: &[u8],
+    ends: &[u32],
     own: Own,
     ids: &[u64],
     gone: &[bool],
@@ -98,11 +102,11 @@ pub fn write_ids(
     from: u64,
     to: u64,
 ) -> usize
-    requires { ⌜ Ready rules (length (now rulerows)) excluded (length (now excludedrows)) (length (now ids)) (length (now gone)) (length (now hits))
+    requires { ⌜ Ends (now text) (now ends) × (Ready rules (length (now rulerows)) excluded (length (now excludedrows)) (length (now ids)) (length (now gone)) (length (now hits))
         × (Window (own .start) from to × (Overridden (length (now ids)) (length (now gone)) (length (now places))
         × (Timed initial (now instants) (now offsets) (detailsBy (now text) (detailsIn (now text) own) (now ids) (now places))
         × ((stop ≡ at + 28 * countIn (isIn (loaded (own .start) rules (now rulerows) excluded (now excludedrows) (now ids) (now gone))) from (to - from))
-        × (stop ≤ length (now buf)))))) ⌝ }
+        × (stop ≤ length (now buf))))))) ⌝ }
     ensures { λ r. ⌜ Written (rowBy floating initial (now (instants .entry)) (now (offsets .entry)) (detailsBy (now (text .entry)) (detailsIn (now (text .entry)) own) (now (ids .entry)) (now (places .entry))))
         (isIn (loaded (own .start) rules (now (rulerows .entry)) excluded (now (excludedrows .entry)) (now (ids .entry)) (now (gone .entry)))) from to at (now (buf .entry)) (now (buf .exit)) r ⌝ }
 {
@@ -115,6 +119,7 @@ pub fn write_ids(
             buf,
             place,
             text,
+            ends,
             own,
             ids,
             gone,

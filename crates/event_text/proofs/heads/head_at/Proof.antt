@@ -47,7 +47,7 @@ uid-fault-requires : tie.Need-uid-fault-requires
 uid-fault-requires c κs = search needs
 
 updated-fault-requires : tie.Need-updated-fault-requires
-updated-fault-requires c κs = search needs
+updated-fault-requires c κs = c .before .before .before .before .before .before .before .before .before .before .before .before .before .before .before .before .pre
 
 lower-requires-4 : tie.Need-lower-requires-4
 lower-requires-4 c κs = search needs

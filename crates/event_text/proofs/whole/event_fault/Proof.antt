@@ -1,6 +1,7 @@
 -- `event_text::whole::event_fault` meets its contract.
 use borrow.Author.Tests.{eq-eqb, ne-eqb}
-use Rattle.event_text.proofs.Events.{fault-none, fault-some}
+use mathlib.Core.Path.{_∙_}
+use Rattle.event_text.proofs.Events.{fault-none, fault-some, front-some}
 use Rattle.event_text.proofs.Objects.{tree-object, tree-none}
 use Rattle.event_text.specs.Front.{inner}
 use borrow.Author.Needs.{needs}
@@ -22,9 +23,6 @@ no-event-requires c κs = search needs
 returns-2 : tie.Need-returns-2
 returns-2 c = rw (fault-some _ _ (tree-object _ _ _ (c .before .before .before .before .space .ensures) (c .before .before .before .byte .ensures .is) (eq-eqb _ _ (c .before .before .if1 .left))), ← (c .before .no-event .ensures inner), c .if2 .taken)
 
-head-at-requires : tie.Need-head-at-requires
-head-at-requires c κs = search needs
-
 lists-fault-requires : tie.Need-lists-fault-requires
 lists-fault-requires c κs = search needs
 
@@ -32,7 +30,16 @@ lower-requires : tie.Need-lower-requires
 lower-requires c κs = search needs
 
 returns-3 : tie.Need-returns-3
-returns-3 c = rw (fault-some _ _ (tree-object _ _ _ (c .before .before .before .before .before .before .before .space .ensures) (c .before .before .before .before .before .before .byte .ensures .is) (eq-eqb _ _ (c .before .before .before .before .before .if1 .left))), ← (c .before .before .before .before .no-event .ensures inner), c .before .before .before .if2 .left, ← (c .before .before .head-at .ensures inner), ← (c .before .lists-fault .ensures)) (c .lower .ensures)
+returns-3 c =
+    let object = tree-object _ _ _ (c .before .before .before .before .before .before .space .ensures) (c .before .before .before .before .before .byte .ensures .is) (eq-eqb _ _ (c .before .before .before .before .if1 .left)) in
+    rw (
+      fault-some _ _ object,
+      ← (c .before .before .before .no-event .ensures inner),
+      c .before .before .if2 .left,
+      ← (c .before .before .before .before .before .before .before .before .before .pre .1 ∙ front-some _ _ object),
+      ← (c .before .lists-fault .ensures),
+    )
+    (c .lower .ensures)
 
 pub event-fault-spec : {M : Type 1} → statement M
-event-fault-spec = tie.close (tie.spec space-requires byte-requires returns no-event-requires returns-2 head-at-requires lists-fault-requires lower-requires returns-3)
+event-fault-spec = tie.close (tie.spec space-requires byte-requires returns no-event-requires returns-2 lists-fault-requires lower-requires returns-3)

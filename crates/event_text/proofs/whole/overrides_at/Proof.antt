@@ -22,7 +22,7 @@ returns c = rw (c .enum-told .given .1)
 
 returns-2 : tie.Need-returns-2
 unfolding optional
-returns-2 c = rw (← (c .before .before .before .before .own-of .ensures (c .before .before .before .before .before .before .args .text .now)), c .before .before .overrides .given .1) (c .overrides-fault .ensures 13)
+returns-2 c = rw (← (c .before .before .before .before .own-of .ensures (c .before .before .before .before .before .before .before .args .text .now)), c .before .before .overrides .given .1) (c .overrides-fault .ensures 13)
 
 pub overrides-at-spec : {M : Type 1} → statement M
 overrides-at-spec = tie.close (tie.spec own-of-requires enum-told enum-known-overrides overrides-fault-requires returns returns-2)

@@ -16,13 +16,13 @@ slice-aggregate-load-list : tie.Need-slice-aggregate-load-list
 slice-aggregate-load-list c = search needs
 
 load-list-requires : tie.Need-load-list-requires
-load-list-requires c κs = let n = rules-need _ (c .before .before .before .before .before .args .event) (c .before .before .before .before .before .pre .0) (c .before .before .before .before .before .pre .1 .0) _ _ (c .before .before .limit-of .ensures) in (n .0, (n .1, refl))
+load-list-requires c κs = let n = rules-need _ (c .before .before .before .before .before .before .args .event) (c .before .before .before .before .before .before .pre .1 .0) (c .before .before .before .before .before .before .pre .1 .1 .0) _ _ (c .before .before .limit-of .ensures) in (n .0, (n .1, (refl, c .before .before .before .before .before .before .pre .0)))
 
 slice-aggregate-load-list-2 : tie.Need-slice-aggregate-load-list-2
 slice-aggregate-load-list-2 c = search needs
 
 load-list-requires-2 : tie.Need-load-list-requires-2
-load-list-requires-2 c κs = let n = excluded-need _ (c .before .before .before .before .before .before .before .before .args .event) (c .before .before .before .before .before .before .before .before .pre .0) (c .before .before .before .before .before .before .before .before .pre .1 .0) _ _ (c .before .before .before .before .before .limit-of .ensures) in (n .0, (n .1, refl))
+load-list-requires-2 c κs = let n = excluded-need _ (c .before .before .before .before .before .before .before .before .before .args .event) (c .before .before .before .before .before .before .before .before .before .pre .1 .0) (c .before .before .before .before .before .before .before .before .before .pre .1 .1 .0) _ _ (c .before .before .before .before .before .limit-of .ensures) in (n .0, (n .1, (refl, c .before .before .before .before .before .before .before .before .before .pre .0)))
 
 slice-aggregate-load-overrides : tie.Need-slice-aggregate-load-overrides
 slice-aggregate-load-overrides c = search needs
@@ -40,22 +40,22 @@ own-of-requires : tie.Need-own-of-requires
 own-of-requires c κs = search needs
 
 array-share-prefix-ids : tie.Need-array-share-prefix-ids
-array-share-prefix-ids c = ids-room _ (c .before .before .before .before .before .before .before .before .before .before .before .before .before .before .before .before .before .before .before .before .args .event) (c .before .before .before .before .before .before .before .before .before .before .before .before .before .before .before .before .before .before .before .before .pre .0) (c .before .before .before .before .before .before .before .before .before .before .before .before .before .before .before .before .before .before .before .before .pre .1 .0) _ _ (c .before .before .before .before .before .before .before .before .before .before .before .before .before .before .before .before .before .limit-of .ensures) (c .own-of .result) (c .own-of .ensures) _ _ _ _ _ _ _ (omega arith, (omega arith, omega arith)) (c .before .before .before .before .before .before .load-overrides .ensures)
+array-share-prefix-ids c = ids-room _ (c .before .before .before .before .before .before .before .before .before .before .before .before .before .before .before .before .before .before .before .before .before .args .event) (c .before .before .before .before .before .before .before .before .before .before .before .before .before .before .before .before .before .before .before .before .before .pre .1 .0) (c .before .before .before .before .before .before .before .before .before .before .before .before .before .before .before .before .before .before .before .before .before .pre .1 .1 .0) _ _ (c .before .before .before .before .before .before .before .before .before .before .before .before .before .before .before .before .before .limit-of .ensures) (c .own-of .result) (c .own-of .ensures) _ _ _ _ _ _ _ (omega arith, (omega arith, omega arith)) (c .before .before .before .before .before .before .load-overrides .ensures)
 
 slice-aggregate-put-table : tie.Need-slice-aggregate-put-table
-slice-aggregate-put-table c = ids-taken _ (c .before .before .before .before .before .before .before .before .before .before .before .before .before .before .before .before .before .before .before .before .before .args .event) (c .before .before .before .before .before .before .before .before .before .before .before .before .before .before .before .before .before .before .before .before .before .pre .0) (c .before .before .before .before .before .before .before .before .before .before .before .before .before .before .before .before .before .before .before .before .before .pre .1 .0) _ _ (c .before .before .before .before .before .before .before .before .before .before .before .before .before .before .before .before .before .before .limit-of .ensures) (c .before .own-of .result) (c .before .own-of .ensures) _ _ _ _ _ _ _ (omega arith, (omega arith, omega arith)) (c .before .before .before .before .before .before .before .load-overrides .ensures)
+slice-aggregate-put-table c = ids-taken _ (c .before .before .before .before .before .before .before .before .before .before .before .before .before .before .before .before .before .before .before .before .before .before .args .event) (c .before .before .before .before .before .before .before .before .before .before .before .before .before .before .before .before .before .before .before .before .before .before .pre .1 .0) (c .before .before .before .before .before .before .before .before .before .before .before .before .before .before .before .before .before .before .before .before .before .before .pre .1 .1 .0) _ _ (c .before .before .before .before .before .before .before .before .before .before .before .before .before .before .before .before .before .before .limit-of .ensures) (c .before .own-of .result) (c .before .own-of .ensures) _ _ _ _ _ _ _ (omega arith, (omega arith, omega arith)) (c .before .before .before .before .before .before .before .load-overrides .ensures)
 
 array-share-prefix-gone : tie.Need-array-share-prefix-gone
-array-share-prefix-gone c = gone-room _ (c .before .before .before .before .before .before .before .before .before .before .before .before .before .before .before .before .before .before .before .before .before .args .event) (c .before .before .before .before .before .before .before .before .before .before .before .before .before .before .before .before .before .before .before .before .before .pre .0) (c .before .before .before .before .before .before .before .before .before .before .before .before .before .before .before .before .before .before .before .before .before .pre .1 .0) _ _ (c .before .before .before .before .before .before .before .before .before .before .before .before .before .before .before .before .before .before .limit-of .ensures) (c .before .own-of .result) (c .before .own-of .ensures) _ _ _ _ _ _ _ (omega arith, (omega arith, omega arith)) (c .before .before .before .before .before .before .before .load-overrides .ensures)
+array-share-prefix-gone c = gone-room _ (c .before .before .before .before .before .before .before .before .before .before .before .before .before .before .before .before .before .before .before .before .before .before .args .event) (c .before .before .before .before .before .before .before .before .before .before .before .before .before .before .before .before .before .before .before .before .before .before .pre .1 .0) (c .before .before .before .before .before .before .before .before .before .before .before .before .before .before .before .before .before .before .before .before .before .before .pre .1 .1 .0) _ _ (c .before .before .before .before .before .before .before .before .before .before .before .before .before .before .before .before .before .before .limit-of .ensures) (c .before .own-of .result) (c .before .own-of .ensures) _ _ _ _ _ _ _ (omega arith, (omega arith, omega arith)) (c .before .before .before .before .before .before .before .load-overrides .ensures)
 
 slice-aggregate-put-table-2 : tie.Need-slice-aggregate-put-table-2
-slice-aggregate-put-table-2 c = gone-taken _ (c .before .before .before .before .before .before .before .before .before .before .before .before .before .before .before .before .before .before .before .before .before .before .args .event) (c .before .before .before .before .before .before .before .before .before .before .before .before .before .before .before .before .before .before .before .before .before .before .pre .0) (c .before .before .before .before .before .before .before .before .before .before .before .before .before .before .before .before .before .before .before .before .before .before .pre .1 .0) _ _ (c .before .before .before .before .before .before .before .before .before .before .before .before .before .before .before .before .before .before .before .limit-of .ensures) (c .before .before .own-of .result) (c .before .before .own-of .ensures) _ _ _ _ _ _ _ (omega arith, (omega arith, omega arith)) (c .before .before .before .before .before .before .before .before .load-overrides .ensures)
+slice-aggregate-put-table-2 c = gone-taken _ (c .before .before .before .before .before .before .before .before .before .before .before .before .before .before .before .before .before .before .before .before .before .before .before .args .event) (c .before .before .before .before .before .before .before .before .before .before .before .before .before .before .before .before .before .before .before .before .before .before .before .pre .1 .0) (c .before .before .before .before .before .before .before .before .before .before .before .before .before .before .before .before .before .before .before .before .before .before .before .pre .1 .1 .0) _ _ (c .before .before .before .before .before .before .before .before .before .before .before .before .before .before .before .before .before .before .before .limit-of .ensures) (c .before .before .own-of .result) (c .before .before .own-of .ensures) _ _ _ _ _ _ _ (omega arith, (omega arith, omega arith)) (c .before .before .before .before .before .before .before .before .load-overrides .ensures)
 
 array-share-prefix-places : tie.Need-array-share-prefix-places
-array-share-prefix-places c = places-room _ (c .before .before .before .before .before .before .before .before .before .before .before .before .before .before .before .before .before .before .before .before .before .before .args .event) (c .before .before .before .before .before .before .before .before .before .before .before .before .before .before .before .before .before .before .before .before .before .before .pre .0) (c .before .before .before .before .before .before .before .before .before .before .before .before .before .before .before .before .before .before .before .before .before .before .pre .1 .0) _ _ (c .before .before .before .before .before .before .before .before .before .before .before .before .before .before .before .before .before .before .before .limit-of .ensures) (c .before .before .own-of .result) (c .before .before .own-of .ensures) _ _ _ _ _ _ _ (omega arith, (omega arith, omega arith)) (c .before .before .before .before .before .before .before .before .load-overrides .ensures)
+array-share-prefix-places c = places-room _ (c .before .before .before .before .before .before .before .before .before .before .before .before .before .before .before .before .before .before .before .before .before .before .before .args .event) (c .before .before .before .before .before .before .before .before .before .before .before .before .before .before .before .before .before .before .before .before .before .before .before .pre .1 .0) (c .before .before .before .before .before .before .before .before .before .before .before .before .before .before .before .before .before .before .before .before .before .before .before .pre .1 .1 .0) _ _ (c .before .before .before .before .before .before .before .before .before .before .before .before .before .before .before .before .before .before .before .limit-of .ensures) (c .before .before .own-of .result) (c .before .before .own-of .ensures) _ _ _ _ _ _ _ (omega arith, (omega arith, omega arith)) (c .before .before .before .before .before .before .before .before .load-overrides .ensures)
 
 slice-aggregate-put-table-3 : tie.Need-slice-aggregate-put-table-3
-slice-aggregate-put-table-3 c = places-taken _ (c .before .before .before .before .before .before .before .before .before .before .before .before .before .before .before .before .before .before .before .before .before .before .before .args .event) (c .before .before .before .before .before .before .before .before .before .before .before .before .before .before .before .before .before .before .before .before .before .before .before .pre .0) (c .before .before .before .before .before .before .before .before .before .before .before .before .before .before .before .before .before .before .before .before .before .before .before .pre .1 .0) _ _ (c .before .before .before .before .before .before .before .before .before .before .before .before .before .before .before .before .before .before .before .before .limit-of .ensures) (c .before .before .before .own-of .result) (c .before .before .before .own-of .ensures) _ _ _ _ _ _ _ (omega arith, (omega arith, omega arith)) (c .before .before .before .before .before .before .before .before .before .load-overrides .ensures)
+slice-aggregate-put-table-3 c = places-taken _ (c .before .before .before .before .before .before .before .before .before .before .before .before .before .before .before .before .before .before .before .before .before .before .before .before .args .event) (c .before .before .before .before .before .before .before .before .before .before .before .before .before .before .before .before .before .before .before .before .before .before .before .before .pre .1 .0) (c .before .before .before .before .before .before .before .before .before .before .before .before .before .before .before .before .before .before .before .before .before .before .before .before .pre .1 .1 .0) _ _ (c .before .before .before .before .before .before .before .before .before .before .before .before .before .before .before .before .before .before .before .before .limit-of .ensures) (c .before .before .before .own-of .result) (c .before .before .before .own-of .ensures) _ _ _ _ _ _ _ (omega arith, (omega arith, omega arith)) (c .before .before .before .before .before .before .before .before .before .load-overrides .ensures)
 
 is-floating-requires : tie.Need-is-floating-requires
 is-floating-requires c κs = search needs
@@ -73,13 +73,13 @@ slice-aggregate-put-table-6 : tie.Need-slice-aggregate-put-table-6
 slice-aggregate-put-table-6 c = taken _ _ (c .before .before .before .before .before .before .before .before .before .before .before .before .before .before .before .before .before .before .before .before .before .before .before .days-at-once .ensures .1)
 
 put-table-requires : tie.Need-put-table-requires
-put-table-requires c κs = table-needs _ (c .before .before .before .before .before .before .before .before .before .before .before .before .before .before .before .before .before .before .before .before .before .before .before .before .before .before .before .args .event) (c .before .before .before .before .before .before .before .before .before .before .before .before .before .before .before .before .before .before .before .before .before .before .before .before .before .before .before .pre .0) (c .before .before .before .before .before .before .before .before .before .before .before .before .before .before .before .before .before .before .before .before .before .before .before .before .before .before .before .pre .1 .0) _ _ (c .before .before .before .before .before .before .before .before .before .before .before .before .before .before .before .before .before .before .before .before .before .before .before .before .limit-of .ensures) (c .before .before .before .before .before .before .before .own-of .result) (c .before .before .before .before .before .before .before .own-of .ensures) _ _ _ _ _ _ _ (omega arith, (omega arith, omega arith)) (c .before .before .before .before .before .before .before .before .before .before .before .before .before .load-overrides .ensures) _ _ _ _ (c .before .before .before .before .before .before .before .before .before .before .before .before .before .before .before .before .before .before .before .before .before .load-list .ensures) (c .before .before .before .before .before .before .before .before .before .before .before .before .before .before .before .before .before .before .load-list2 .ensures) _ (c .before .before .before .before .before .before .before .before .before .before .before .before .before .before .before .before .before .before .before .before .before .before .before .before .before .before .before .pre .1 .1 .1) _ _ _ (c .before .before .before .before .before .before .before .before .before .before .before .before .before .before .before .before .before .before .before .before .before .before .before .before .before .before .before .fits .initial) (c .before .before .before .before .before .before .before .before .before .before .before .before .before .before .before .before .before .before .before .before .before .before .before .before .before .before .before .pre .1 .1 .0) _ (some-taken _ _ (c .before .before .before .before .before .before .before .before .before .before .before .before .before .before .before .before .before .before .before .before .before .before .before .days-at-once .ensures .0) (c .before .before .before .before .before .before .before .before .before .before .before .before .before .before .before .before .before .before .before .before .before .before .before .days-at-once .ensures .1))
+put-table-requires c κs = (c .before .before .before .before .before .before .before .before .before .before .before .before .before .before .before .before .before .before .before .before .before .before .before .before .before .before .before .before .pre .0, table-needs _ (c .before .before .before .before .before .before .before .before .before .before .before .before .before .before .before .before .before .before .before .before .before .before .before .before .before .before .before .before .args .event) (c .before .before .before .before .before .before .before .before .before .before .before .before .before .before .before .before .before .before .before .before .before .before .before .before .before .before .before .before .pre .1 .0) (c .before .before .before .before .before .before .before .before .before .before .before .before .before .before .before .before .before .before .before .before .before .before .before .before .before .before .before .before .pre .1 .1 .0) _ _ (c .before .before .before .before .before .before .before .before .before .before .before .before .before .before .before .before .before .before .before .before .before .before .before .before .limit-of .ensures) (c .before .before .before .before .before .before .before .own-of .result) (c .before .before .before .before .before .before .before .own-of .ensures) _ _ _ _ _ _ _ (omega arith, (omega arith, omega arith)) (c .before .before .before .before .before .before .before .before .before .before .before .before .before .load-overrides .ensures) _ _ _ _ (c .before .before .before .before .before .before .before .before .before .before .before .before .before .before .before .before .before .before .before .before .before .load-list .ensures) (c .before .before .before .before .before .before .before .before .before .before .before .before .before .before .before .before .before .before .load-list2 .ensures) _ (c .before .before .before .before .before .before .before .before .before .before .before .before .before .before .before .before .before .before .before .before .before .before .before .before .before .before .before .before .pre .1 .1 .1 .1) _ _ _ (c .before .before .before .before .before .before .before .before .before .before .before .before .before .before .before .before .before .before .before .before .before .before .before .before .before .before .before .before .fits .initial) (c .before .before .before .before .before .before .before .before .before .before .before .before .before .before .before .before .before .before .before .before .before .before .before .before .before .before .before .before .pre .1 .1 .1 .0) _ (some-taken _ _ (c .before .before .before .before .before .before .before .before .before .before .before .before .before .before .before .before .before .before .before .before .before .before .before .days-at-once .ensures .0) (c .before .before .before .before .before .before .before .before .before .before .before .before .before .before .before .before .before .before .before .before .before .before .before .days-at-once .ensures .1)))
 
 same-length : tie.Need-same-length
 same-length c = search needs
 
 returns : tie.Need-returns
-returns c = table-given _ (c .before .before .before .before .before .before .before .before .before .before .before .before .before .before .before .before .before .before .before .before .before .before .before .before .before .before .before .before .before .before .before .args .event) (c .before .before .before .before .before .before .before .before .before .before .before .before .before .before .before .before .before .before .before .before .before .before .before .before .before .before .before .before .before .before .before .pre .0) (c .before .before .before .before .before .before .before .before .before .before .before .before .before .before .before .before .before .before .before .before .before .before .before .before .before .before .before .before .before .before .before .pre .1 .0) _ _ (c .before .before .before .before .before .before .before .before .before .before .before .before .before .before .before .before .before .before .before .before .before .before .before .before .before .before .before .before .limit-of .ensures) (c .before .before .before .before .before .before .before .before .before .before .before .own-of .result) (c .before .before .before .before .before .before .before .before .before .before .before .own-of .ensures) _ _ _ _ _ _ _ (omega arith, (omega arith, omega arith)) (c .before .before .before .before .before .before .before .before .before .before .before .before .before .before .before .before .before .load-overrides .ensures) _ _ _ _ (c .before .before .before .before .before .before .before .before .before .before .before .before .before .before .before .before .before .before .before .before .before .before .before .before .before .load-list .ensures) (c .before .before .before .before .before .before .before .before .before .before .before .before .before .before .before .before .before .before .before .before .before .before .load-list2 .ensures) _ (c .before .before .before .before .before .before .before .before .before .before .before .before .before .before .before .before .before .before .before .before .before .before .before .before .before .before .before .before .before .before .before .pre .1 .1 .1) _ _ _ (c .before .before .before .before .before .before .before .before .before .before .before .before .before .before .before .before .before .before .before .before .before .before .before .before .before .before .before .before .before .before .before .fits .initial) _ (c .before .before .before .before .before .before .before .is-floating .ensures) _ _ _ _ (c .before .before .before .put-table .ensures)
+returns c = table-given _ (c .before .before .before .before .before .before .before .before .before .before .before .before .before .before .before .before .before .before .before .before .before .before .before .before .before .before .before .before .before .before .before .before .args .event) (c .before .before .before .before .before .before .before .before .before .before .before .before .before .before .before .before .before .before .before .before .before .before .before .before .before .before .before .before .before .before .before .before .pre .1 .0) (c .before .before .before .before .before .before .before .before .before .before .before .before .before .before .before .before .before .before .before .before .before .before .before .before .before .before .before .before .before .before .before .before .pre .1 .1 .0) _ _ (c .before .before .before .before .before .before .before .before .before .before .before .before .before .before .before .before .before .before .before .before .before .before .before .before .before .before .before .before .limit-of .ensures) (c .before .before .before .before .before .before .before .before .before .before .before .own-of .result) (c .before .before .before .before .before .before .before .before .before .before .before .own-of .ensures) _ _ _ _ _ _ _ (omega arith, (omega arith, omega arith)) (c .before .before .before .before .before .before .before .before .before .before .before .before .before .before .before .before .before .load-overrides .ensures) _ _ _ _ (c .before .before .before .before .before .before .before .before .before .before .before .before .before .before .before .before .before .before .before .before .before .before .before .before .before .load-list .ensures) (c .before .before .before .before .before .before .before .before .before .before .before .before .before .before .before .before .before .before .before .before .before .before .load-list2 .ensures) _ (c .before .before .before .before .before .before .before .before .before .before .before .before .before .before .before .before .before .before .before .before .before .before .before .before .before .before .before .before .before .before .before .before .pre .1 .1 .1 .1) _ _ _ (c .before .before .before .before .before .before .before .before .before .before .before .before .before .before .before .before .before .before .before .before .before .before .before .before .before .before .before .before .before .before .before .before .fits .initial) _ (c .before .before .before .before .before .before .before .is-floating .ensures) _ _ _ _ (c .before .before .before .put-table .ensures)
 
 pub put-shown-spec : {M : Type 1} → statement M
 put-shown-spec =

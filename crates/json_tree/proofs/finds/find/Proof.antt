@@ -8,10 +8,10 @@ use Rattle.json_tree.proofs.finds.find.Statement.{statement}
 use Rattle.json_tree.proofs.finds.find.Tie as tie
 
 abbrev Inv-loop : tie.InvT-loop
-Inv-loop text at word step₀ n₀ step n = findIn text word (membersFrom n text step) ≡ findIn text word (membersOf text at)
+Inv-loop text ends at word step₀ n₀ step n = findIn text word (membersFrom n text step) ≡ findIn text word (membersOf text at)
 
 abbrev μ-loop : tie.MeasureT-loop
-μ-loop text at word step₀ n₀ step n = n
+μ-loop text ends at word step₀ n₀ step n = n
 
 first-member-requires : tie.Need-first-member-requires Inv-loop μ-loop
 first-member-requires c κs = search needs

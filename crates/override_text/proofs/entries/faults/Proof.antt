@@ -6,10 +6,10 @@ use Rattle.override_text.proofs.entries.faults.Statement.{statement}
 use Rattle.override_text.proofs.entries.faults.Tie as tie
 
 abbrev Inv-loop : tie.InvT-loop
-Inv-loop text at own found₀ next₀ n₀ found next n = Walk (detailsIn text own) text at found next n
+Inv-loop text ends at own found₀ next₀ n₀ found next n = Walk (detailsIn text own) text at found next n
 
 abbrev μ-loop : tie.MeasureT-loop
-μ-loop text at own found₀ next₀ n₀ found next n = n
+μ-loop text ends at own found₀ next₀ n₀ found next n = n
 
 first-requires : tie.Need-first-requires Inv-loop μ-loop
 first-requires c κs = search needs

@@ -6,10 +6,10 @@ use Rattle.override_text.proofs.lists.fill.Statement.{statement}
 use Rattle.override_text.proofs.lists.fill.Tie as tie
 
 abbrev Inv-loop : tie.InvT-loop
-Inv-loop text at ids₀ gone₀ places₀ next₀ n₀ k₀ ids gone places next n k = Filling text at ids₀ gone₀ places₀ ids gone places next n k
+Inv-loop text ends at ids₀ gone₀ places₀ next₀ n₀ k₀ ids gone places next n k = Filling text at ids₀ gone₀ places₀ ids gone places next n k
 
 abbrev μ-loop : tie.MeasureT-loop
-μ-loop text at ids₀ gone₀ places₀ next₀ n₀ k₀ ids gone places next n k = n
+μ-loop text ends at ids₀ gone₀ places₀ next₀ n₀ k₀ ids gone places next n k = n
 
 first-requires : tie.Need-first-requires Inv-loop μ-loop
 first-requires c κs = search needs
@@ -41,7 +41,7 @@ mul-ids c = omega (arith, c .before .before .before .before .before .before .loo
 slice-write-ids : tie.Need-slice-write-ids Inv-loop μ-loop
 slice-write-ids c =
     omega
-    (arith, c .before .before .before .before .before .before .loop .inv .low, c .before .before .before .before .before .before .loop .inv .ids-long, c .before .before .before .before .before .before .before .before .before .before .before .before .pre .0, c .before .before .before .before .if1 .left)
+    (arith, c .before .before .before .before .before .before .loop .inv .low, c .before .before .before .before .before .before .loop .inv .ids-long, c .before .before .before .before .before .before .before .before .before .before .before .before .before .pre .1 .0, c .before .before .before .before .if1 .left)
 
 is-excluded-requires : tie.Need-is-excluded-requires Inv-loop μ-loop
 is-excluded-requires c κs = search needs
@@ -49,7 +49,7 @@ is-excluded-requires c κs = search needs
 slice-write-gone : tie.Need-slice-write-gone Inv-loop μ-loop
 slice-write-gone c =
     omega
-    (arith, c .before .before .before .before .before .before .before .loop .inv .low, c .before .before .before .before .before .before .before .loop .inv .gone-long, c .before .before .before .before .before .before .before .before .before .before .before .before .before .pre .1 .0, c .before .before .before .before .before .if1 .left)
+    (arith, c .before .before .before .before .before .before .before .loop .inv .low, c .before .before .before .before .before .before .before .loop .inv .gone-long, c .before .before .before .before .before .before .before .before .before .before .before .before .before .before .pre .1 .1 .0, c .before .before .before .before .before .if1 .left)
 
 mul-places : tie.Need-mul-places Inv-loop μ-loop
 mul-places c = omega (arith, c .before .before .before .before .before .before .before .loop .inv .low)
@@ -57,7 +57,7 @@ mul-places c = omega (arith, c .before .before .before .before .before .before .
 slice-write-places : tie.Need-slice-write-places Inv-loop μ-loop
 slice-write-places c =
     omega
-    (arith, c .before .before .before .before .before .before .before .loop .inv .low, c .before .before .before .before .before .before .before .loop .inv .places-long, c .before .before .before .before .before .before .before .before .before .before .before .before .before .pre .1 .1, c .before .before .before .before .before .if1 .left)
+    (arith, c .before .before .before .before .before .before .before .loop .inv .low, c .before .before .before .before .before .before .before .loop .inv .places-long, c .before .before .before .before .before .before .before .before .before .before .before .before .before .before .pre .1 .1 .1, c .before .before .before .before .before .if1 .left)
 
 next-member-requires : tie.Need-next-member-requires Inv-loop μ-loop
 next-member-requires c κs = search needs

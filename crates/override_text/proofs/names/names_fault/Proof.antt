@@ -9,10 +9,10 @@ use Rattle.override_text.proofs.names.names_fault.Statement.{statement}
 use Rattle.override_text.proofs.names.names_fault.Tie as tie
 
 abbrev Inv-loop : tie.InvT-loop
-Inv-loop text at found₀ next₀ n₀ found next n = Left (ofName text) text at found next n
+Inv-loop text ends at found₀ next₀ n₀ found next n = Left (ofName text) text at found next n
 
 abbrev μ-loop : tie.MeasureT-loop
-μ-loop text at found₀ next₀ n₀ found next n = n
+μ-loop text ends at found₀ next₀ n₀ found next n = n
 
 first-requires : tie.Need-first-requires Inv-loop μ-loop
 first-requires c κs = search needs

@@ -40,13 +40,13 @@ flag-requires-2 : tie.Need-flag-requires-2
 flag-requires-2 c κs = search needs
 
 alone-requires : tie.Need-alone-requires
-alone-requires c κs = search needs
+alone-requires c κs = c .before .before .before .before .before .before .before .before .before .before .before .before .before .pre
 
 excluded-fault-requires : tie.Need-excluded-fault-requires
 excluded-fault-requires c κs = search needs
 
 names-fault-requires : tie.Need-names-fault-requires
-names-fault-requires c κs = search needs
+names-fault-requires c κs = c .before .before .before .before .before .before .before .before .before .before .before .before .before .before .before .pre
 
 lower-requires : tie.Need-lower-requires
 lower-requires c κs = search needs

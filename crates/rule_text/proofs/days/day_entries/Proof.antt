@@ -17,14 +17,14 @@ use Rattle.rule_text.proofs.days.day_entries.Statement.{statement}
 use Rattle.rule_text.proofs.days.day_entries.Tie as tie
 
 abbrev Inv-loop : tie.InvT-loop
-Inv-loop text at weekdays₀ nths₀ step₀ n₀ count₀ nth₀ fault₀ weekdays nths step n count nth fault =
+Inv-loop text ends at weekdays₀ nths₀ step₀ n₀ count₀ nth₀ fault₀ weekdays nths step n count nth fault =
     Counting readNDay (λ l v. treeAt (suc l) text v) text (λ l. entriesAt readNDay (suc l) text at) step n count fault
     × (Storing dayOf readNDay (λ l v. treeAt (suc l) text v) text (λ l. entriesAt readNDay (suc l) text at) weekdays₀ weekdays step n count
     × (Storing nthOf readNDay (λ l v. treeAt (suc l) text v) text (λ l. entriesAt readNDay (suc l) text at) nths₀ nths step n count
     × Flagging (λ l v. treeAt (suc l) text v) text (λ l. entriesAt readNDay (suc l) text at) step n nth))
 
 abbrev μ-loop : tie.MeasureT-loop
-μ-loop text at weekdays₀ nths₀ step₀ n₀ count₀ nth₀ fault₀ weekdays nths step n count nth fault = n
+μ-loop text ends at weekdays₀ nths₀ step₀ n₀ count₀ nth₀ fault₀ weekdays nths step n count nth fault = n
 
 first-element-requires : tie.Need-first-element-requires Inv-loop μ-loop
 first-element-requires c κs = search needs
@@ -53,7 +53,8 @@ lower-requires : tie.Need-lower-requires Inv-loop μ-loop
 lower-requires c κs = search needs
 
 next-element-requires : tie.Need-next-element-requires Inv-loop μ-loop
-next-element-requires c κs = search needs
+next-element-requires c κs =
+    c .before .before .before .before .before .before .before .before .before .before .before .before .before .before .before .before .before .before .before .before .before .pre .1
 
 enum-told : tie.Need-enum-told Inv-loop μ-loop
 enum-told c = search needs
@@ -72,7 +73,7 @@ returns c =
 
 add-count : tie.Need-add-count Inv-loop μ-loop
 add-count c =
-    omega (arith, c .before .before .before .before .before .before .before .before .before .before .before .before .before .before .before .before .before .loop .inv .0 .room, c .before .before .before .before .before .before .before .before .before .before .before .before .before .before .before .before .loop-test .taken, c .before .before .before .before .before .before .before .before .before .before .before .before .before .before .before .before .before .before .before .before .before .good)
+    omega (arith, c .before .before .before .before .before .before .before .before .before .before .before .before .before .before .before .before .before .loop .inv .0 .room, c .before .before .before .before .before .before .before .before .before .before .before .before .before .before .before .before .loop-test .taken, c .before .before .before .before .before .before .before .before .before .before .before .before .before .before .before .before .before .before .before .before .before .before .good)
 
 sub-n : tie.Need-sub-n Inv-loop μ-loop
 sub-n c = search needs

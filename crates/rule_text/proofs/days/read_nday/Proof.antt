@@ -18,7 +18,7 @@ byte-requires c κs = search needs
 
 returns : tie.Need-returns
 returns c =
-    record { day = λ l. rw (nday-not (c .before .before .before .args .text .now) (c .before .before .before .args .at) (rw (← (c .before .byte .ensures .is)) (ne-eqb _ _ (c .if1 .taken))) l); nth = λ l. rw (nday-not (c .before .before .before .args .text .now) (c .before .before .before .args .at) (rw (← (c .before .byte .ensures .is)) (ne-eqb _ _ (c .if1 .taken))) l); fault = λ l. rw (nday-not (c .before .before .before .args .text .now) (c .before .before .before .args .at) (rw (← (c .before .byte .ensures .is)) (ne-eqb _ _ (c .if1 .taken))) l) }
+    record { day = λ l. rw (nday-not (c .before .before .before .before .args .text .now) (c .before .before .before .before .args .at) (rw (← (c .before .byte .ensures .is)) (ne-eqb _ _ (c .if1 .taken))) l); nth = λ l. rw (nday-not (c .before .before .before .before .args .text .now) (c .before .before .before .before .args .at) (rw (← (c .before .byte .ensures .is)) (ne-eqb _ _ (c .if1 .taken))) l); fault = λ l. rw (nday-not (c .before .before .before .before .args .text .now) (c .before .before .before .before .args .at) (rw (← (c .before .byte .ensures .is)) (ne-eqb _ _ (c .if1 .taken))) l) }
 
 day-in-requires : tie.Need-day-in-requires
 day-in-requires c κs = search needs
@@ -48,9 +48,9 @@ returns-2 : tie.Need-returns-2
 unfolding ndayIn
 returns-2 c =
     record {
-      day = λ l. rw (nday-is (c .before .before .before .before .before .before .before .before .before .before .before .before .args .text .now) (c .before .before .before .before .before .before .before .before .before .before .before .before .args .at) (rw (← (c .before .before .before .before .before .before .before .before .before .before .byte .ensures .is)) (eq-eqb _ _ (c .before .before .before .before .before .before .before .before .before .if1 .left))) l) (c .before .before .before .before .number-of .ensures ∙ ap (λ (r : Reading ℕ). r .value) (c .before .before .before .before .before .before .before .before .day-in .ensures l));
-      nth = λ l. rw (nday-is (c .before .before .before .before .before .before .before .before .before .before .before .before .args .text .now) (c .before .before .before .before .before .before .before .before .before .before .before .before .args .at) (rw (← (c .before .before .before .before .before .before .before .before .before .before .byte .ensures .is)) (eq-eqb _ _ (c .before .before .before .before .before .before .before .before .before .if1 .left))) l, back (c .before .before .before .before .before .before .before .nth-in .result .value) (c .struct-told .given .0 .1)) (sym (number-from _) ∙ ap nthNumber (c .before .before .before .before .before .before .before .nth-in .ensures .value l));
-      fault = λ l. rw (nday-is (c .before .before .before .before .before .before .before .before .before .before .before .before .args .text .now) (c .before .before .before .before .before .before .before .before .before .before .before .before .args .at) (rw (← (c .before .before .before .before .before .before .before .before .before .before .byte .ensures .is)) (eq-eqb _ _ (c .before .before .before .before .before .before .before .before .before .if1 .left))) l) (c .before .lower2 .ensures ∙ ap₂ lower (c .before .before .type-in .ensures l) (c .before .before .before .before .before .lower .ensures ∙ ap₂ lower (c .before .before .before .before .before .before .fault-of .ensures ∙ ap (λ (r : Reading ℕ). r .fault) (c .before .before .before .before .before .before .before .before .day-in .ensures l)) (c .before .before .before .before .before .before .before .nth-in .ensures .fault l)));
+      day = λ l. rw (nday-is (c .before .before .before .before .before .before .before .before .before .before .before .before .before .args .text .now) (c .before .before .before .before .before .before .before .before .before .before .before .before .before .args .at) (rw (← (c .before .before .before .before .before .before .before .before .before .before .byte .ensures .is)) (eq-eqb _ _ (c .before .before .before .before .before .before .before .before .before .if1 .left))) l) (c .before .before .before .before .number-of .ensures ∙ ap (λ (r : Reading ℕ). r .value) (c .before .before .before .before .before .before .before .before .day-in .ensures l));
+      nth = λ l. rw (nday-is (c .before .before .before .before .before .before .before .before .before .before .before .before .before .args .text .now) (c .before .before .before .before .before .before .before .before .before .before .before .before .before .args .at) (rw (← (c .before .before .before .before .before .before .before .before .before .before .byte .ensures .is)) (eq-eqb _ _ (c .before .before .before .before .before .before .before .before .before .if1 .left))) l, back (c .before .before .before .before .before .before .before .nth-in .result .value) (c .struct-told .given .0 .1)) (sym (number-from _) ∙ ap nthNumber (c .before .before .before .before .before .before .before .nth-in .ensures .value l));
+      fault = λ l. rw (nday-is (c .before .before .before .before .before .before .before .before .before .before .before .before .before .args .text .now) (c .before .before .before .before .before .before .before .before .before .before .before .before .before .args .at) (rw (← (c .before .before .before .before .before .before .before .before .before .before .byte .ensures .is)) (eq-eqb _ _ (c .before .before .before .before .before .before .before .before .before .if1 .left))) l) (c .before .lower2 .ensures ∙ ap₂ lower (c .before .before .type-in .ensures l) (c .before .before .before .before .before .lower .ensures ∙ ap₂ lower (c .before .before .before .before .before .before .fault-of .ensures ∙ ap (λ (r : Reading ℕ). r .fault) (c .before .before .before .before .before .before .before .before .day-in .ensures l)) (c .before .before .before .before .before .before .before .nth-in .ensures .fault l)));
     }
 
 pub read-nday-spec : {M : Type 1} → statement M

@@ -17,7 +17,7 @@ enum-known-i c = search needs
 
 day-entries-requires : tie.Need-day-entries-requires
 day-entries-requires c κs =
-    at-within (c .before .before .before .i .given .1) (c .before .before .before .before .before .list-in .ensures .within)
+    (at-within (c .before .before .before .i .given .1) (c .before .before .before .before .before .list-in .ensures .within), c .before .before .before .before .before .before .before .before .before .before .pre)
 
 list-fault-requires : tie.Need-list-fault-requires
 list-fault-requires c κs = search needs

@@ -16,7 +16,7 @@ enum-known-i c = search needs
 
 month-entries-requires : tie.Need-month-entries-requires
 month-entries-requires c κs =
-    at-within (c .before .before .i .given .1) (c .before .before .before .before .list-in .ensures .within)
+    (at-within (c .before .before .i .given .1) (c .before .before .before .before .list-in .ensures .within), c .before .before .before .before .before .before .before .before .before .pre)
 
 list-fault-requires : tie.Need-list-fault-requires
 list-fault-requires c κs = search needs

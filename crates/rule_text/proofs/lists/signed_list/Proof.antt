@@ -13,7 +13,7 @@ enum-known-i c = search needs
 
 signed-entries-requires : tie.Need-signed-entries-requires
 signed-entries-requires c κs =
-    at-within (c .before .before .i .given .1) (c .before .before .before .before .list-in .ensures .within)
+    (at-within (c .before .before .i .given .1) (c .before .before .before .before .list-in .ensures .within), c .before .before .before .before .before .before .before .before .pre)
 
 list-fault-requires : tie.Need-list-fault-requires
 list-fault-requires c κs = search needs

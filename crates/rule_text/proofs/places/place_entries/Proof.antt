@@ -13,12 +13,12 @@ use Rattle.rule_text.proofs.places.place_entries.Statement.{statement}
 use Rattle.rule_text.proofs.places.place_entries.Tie as tie
 
 abbrev Inv-loop : tie.InvT-loop
-Inv-loop text at list₀ step₀ n₀ count₀ list step n count =
+Inv-loop text ends at list₀ step₀ n₀ count₀ list step n count =
     Counting readPlace (λ l v. treeAt l text v) text (λ l. entriesAt readPlace l text at) step n count 0
     × Storing (λ m. m) readPlace (λ l v. treeAt l text v) text (λ l. entriesAt readPlace l text at) list₀ list step n count
 
 abbrev μ-loop : tie.MeasureT-loop
-μ-loop text at list₀ step₀ n₀ count₀ list step n count = n
+μ-loop text ends at list₀ step₀ n₀ count₀ list step n count = n
 
 first-element-requires : tie.Need-first-element-requires Inv-loop μ-loop
 first-element-requires c κs = search needs

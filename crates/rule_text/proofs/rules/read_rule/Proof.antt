@@ -14,14 +14,14 @@ stand-in-requires c κs = search needs
 
 returns : tie.Need-returns
 returns c =
-    rule-absent (c .before .before .before .before .args .text .now) (c .before .before .before .before .args .at) (rw (← (c .before .before .byte .ensures .is)) (ne-eqb _ _ (c .before .if1 .taken))) (c .stand-in .ensures)
+    rule-absent (c .before .before .before .before .before .args .text .now) (c .before .before .before .before .before .args .at) (rw (← (c .before .before .byte .ensures .is)) (ne-eqb _ _ (c .before .if1 .taken))) (c .stand-in .ensures)
 
 rule-in-requires : tie.Need-rule-in-requires
 rule-in-requires c κs = search needs
 
 returns-2 : tie.Need-returns-2
 returns-2 c =
-    rule-read (c .before .before .before .before .args .text .now) (c .before .before .before .before .args .at) (rw (← (c .before .before .byte .ensures .is)) (eq-eqb _ _ (c .before .if1 .left))) (c .rule-in .ensures)
+    rule-read (c .before .before .before .before .before .args .text .now) (c .before .before .before .before .before .args .at) (rw (← (c .before .before .byte .ensures .is)) (eq-eqb _ _ (c .before .if1 .left))) (c .rule-in .ensures)
 
 pub read-rule-spec : {M : Type 1} → statement M
 read-rule-spec = tie.close (tie.spec byte-requires stand-in-requires returns rule-in-requires returns-2)

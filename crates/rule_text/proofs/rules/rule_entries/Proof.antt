@@ -11,11 +11,11 @@ use Rattle.rule_text.proofs.rules.rule_entries.Statement.{statement}
 use Rattle.rule_text.proofs.rules.rule_entries.Tie as tie
 
 abbrev Inv-loop : tie.InvT-loop
-Inv-loop text at step₀ n₀ count₀ fault₀ step n count fault =
+Inv-loop text ends at step₀ n₀ count₀ fault₀ step n count fault =
     Counting readRule (λ l v. treeAt (suc (suc (suc l))) text v) text (λ l. entriesAt readRule (suc (suc (suc l))) text at) step n count fault
 
 abbrev μ-loop : tie.MeasureT-loop
-μ-loop text at step₀ n₀ count₀ fault₀ step n count fault = n
+μ-loop text ends at step₀ n₀ count₀ fault₀ step n count fault = n
 
 first-element-requires : tie.Need-first-element-requires Inv-loop μ-loop
 first-element-requires c κs = search needs

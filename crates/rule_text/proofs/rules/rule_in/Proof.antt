@@ -33,7 +33,8 @@ nth-fault-requires : tie.Need-nth-fault-requires
 nth-fault-requires c κs = search needs
 
 other-fault-requires : tie.Need-other-fault-requires
-other-fault-requires c κs = search needs
+other-fault-requires c κs =
+    c .before .before .before .before .before .before .before .before .before .before .before .pre
 
 join-requires : tie.Need-join-requires
 join-requires c κs = search needs

@@ -9,7 +9,7 @@ patch-requires : tie.Need-patch-requires
 patch-requires c κs = search needs
 
 times-requires : tie.Need-times-requires
-times-requires c κs = patch-small _ _ _ _ (c .patch .result) (c .patch .ensures 13) (c .before .before .pre)
+times-requires c κs = patch-small _ _ _ _ (c .patch .result) (c .patch .ensures 13) (c .before .before .before .pre .1)
 
 returns : tie.Need-returns
 returns c = c .times .ensures ∙ patch-times _ _ _ _ (c .before .patch .result) (c .before .patch .ensures 13)

@@ -12,10 +12,10 @@ use Rattle.writing.proofs.times.times_at.Statement.{statement}
 use Rattle.writing.proofs.times.times_at.Tie as tie
 
 abbrev Inv-loop : tie.InvT-loop
-Inv-loop text own ids places x i₀ i = Seen text (detailsIn text own) ids places x i
+Inv-loop text ends own ids places x i₀ i = Seen text (detailsIn text own) ids places x i
 
 abbrev μ-loop : tie.MeasureT-loop
-μ-loop text own ids places x i₀ i = length ids - i
+μ-loop text ends own ids places x i₀ i = length ids - i
 
 loop-holds : tie.Need-loop-holds Inv-loop μ-loop
 loop-holds c = (omega arith, refl)
@@ -34,14 +34,14 @@ shared-slice-read-patched c = search needs
 
 patched-requires : tie.Need-patched-requires Inv-loop μ-loop
 patched-requires c κs =
-    let q = c .before .before .before .before .before .before .before .before in
-    let found = seen-here (q .args .text .now) _ (q .args .ids .now) (q .args .places .now) (q .pre .0) _ (c .before .before .before .before .loop .i) (c .before .before .before .loop-test .taken) (c .before .before .before .before .loop .inv) (c .before .if1 .taken) in
-    subst (λ (t : Times). t .seconds ≤ 2 ^ 40) (sym found) (q .pre .1 .length-small)
+    let q = c .before .before .before .before .before .before .before .before .before in
+    let found = seen-here (q .args .text .now) _ (q .args .ids .now) (q .args .places .now) (q .pre .1 .0) _ (c .before .before .before .before .loop .i) (c .before .before .before .loop-test .taken) (c .before .before .before .before .loop .inv) (c .before .if1 .taken) in
+    (q .pre .0, subst (λ (t : Times). t .seconds ≤ 2 ^ 40) (sym found) (q .pre .1 .1 .length-small))
 
 returns : tie.Need-returns Inv-loop μ-loop
 returns c =
-    let q = c .before .before .before .before .before .before .before .before .before in
-    c .patched .ensures ∙ seen-here (q .args .text .now) _ (q .args .ids .now) (q .args .places .now) (q .pre .0) _ (c .before .before .before .before .before .loop .i) (c .before .before .before .before .loop-test .taken) (c .before .before .before .before .before .loop .inv) (c .before .before .if1 .taken)
+    let q = c .before .before .before .before .before .before .before .before .before .before in
+    c .patched .ensures ∙ seen-here (q .args .text .now) _ (q .args .ids .now) (q .args .places .now) (q .pre .1 .0) _ (c .before .before .before .before .before .loop .i) (c .before .before .before .before .loop-test .taken) (c .before .before .before .before .before .loop .inv) (c .before .before .if1 .taken)
 
 add-i : tie.Need-add-i Inv-loop μ-loop
 add-i c = search needs
@@ -51,20 +51,20 @@ loop-less c = search needs
 
 loop-again : tie.Need-loop-again Inv-loop μ-loop
 loop-again c =
-    let q = c .before .before .before .before .before .before .before in
-    seen-next (q .args .text .now) _ (q .args .ids .now) (q .args .places .now) (q .pre .0) _ (c .before .before .before .loop .i) (c .before .before .loop-test .taken) (c .before .before .before .loop .inv) (c .if1 .left)
+    let q = c .before .before .before .before .before .before .before .before in
+    seen-next (q .args .text .now) _ (q .args .ids .now) (q .args .places .now) (q .pre .1 .0) _ (c .before .before .before .loop .i) (c .before .before .loop-test .taken) (c .before .before .before .loop .inv) (c .if1 .left)
 
 times-requires : tie.Need-times-requires Inv-loop μ-loop
 unfolding timesFrom
 times-requires c κs =
-    let q = c .before .before .before .before .before in
-    let none = seen-none (q .args .text .now) _ (q .args .ids .now) (q .args .places .now) (q .pre .0) _ (c .before .loop .i) (c .loop-test .left) (c .before .loop .inv) in
-    subst (λ (t : Times). t .seconds ≤ 2 ^ 40) (sym none) (q .pre .1 .length-small)
+    let q = c .before .before .before .before .before .before in
+    let none = seen-none (q .args .text .now) _ (q .args .ids .now) (q .args .places .now) (q .pre .1 .0) _ (c .before .loop .i) (c .loop-test .left) (c .before .loop .inv) in
+    subst (λ (t : Times). t .seconds ≤ 2 ^ 40) (sym none) (q .pre .1 .1 .length-small)
 
 returns-2 : tie.Need-returns-2 Inv-loop μ-loop
 returns-2 c =
-    let q = c .before .before .before .before .before .before in
-    c .times .ensures ∙ seen-none (q .args .text .now) _ (q .args .ids .now) (q .args .places .now) (q .pre .0) _ (c .before .before .loop .i) (c .before .loop-test .left) (c .before .before .loop .inv)
+    let q = c .before .before .before .before .before .before .before in
+    c .times .ensures ∙ seen-none (q .args .text .now) _ (q .args .ids .now) (q .args .places .now) (q .pre .1 .0) _ (c .before .before .loop .i) (c .before .loop-test .left) (c .before .before .loop .inv)
 
 pub times-at-spec : {M : Type 1} → statement M
 times-at-spec =

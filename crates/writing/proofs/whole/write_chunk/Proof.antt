@@ -17,15 +17,18 @@ fill-requires c κs = search needs
 
 write-run-requires : tie.Need-write-run-requires
 write-run-requires c κs =
-    let q = c .before .before .before .before .before .before .before .before .before .before .before .before .before .before in
+    let q = c .before .before .before .before .before .before .before .before .before .before .before .before .before .before .before in
     let f = c .before .before .before .before .fill in
-    let p = q .pre .1 in (
-      subst (λ (k : ℕ). Stretch (q .args .from / 86400) k (q .args .from) (q .args .to)) (sym (f .kept .1 .1 .1 .1 .1 .1 .1 .0)) (p .0 .1),
+    let p = q .pre .1 .1 in (
+      q .pre .0,
       (
-        p .1 .0,
+        subst (λ (k : ℕ). Stretch (q .args .from / 86400) k (q .args .from) (q .args .to)) (sym (f .kept .1 .1 .1 .1 .1 .1 .1 .0)) (p .0 .1),
         (
-          rw (toZ-ofZ (q .fits .initial)) (p .1 .1 .0),
-          chunk-room (loaded (q .args .own .start) (q .args .rules) (q .args .rulerows .now) (q .args .excluded) (q .args .excludedrows .now) (q .args .ids .now) (q .args .gone .now)) _ _ _ (f .ensures) _ _ (p .0 .1) _ _ (p .1 .1 .1),
+          p .1 .0,
+          (
+            rw (toZ-ofZ (q .fits .initial)) (p .1 .1 .0),
+            chunk-room (loaded (q .args .own .start) (q .args .rules) (q .args .rulerows .now) (q .args .excluded) (q .args .excludedrows .now) (q .args .ids .now) (q .args .gone .now)) _ _ _ (f .ensures) _ _ (p .0 .1) _ _ (p .1 .1 .1),
+          ),
         ),
       ),
     )
@@ -38,9 +41,9 @@ same-length-2 c = search needs
 
 returns : tie.Need-returns
 returns c =
-    let q = c .before .before .before .before .before .before .before .before .before .before .before .before .before .before .before .before .before in
+    let q = c .before .before .before .before .before .before .before .before .before .before .before .before .before .before .before .before .before .before in
     let f = c .before .before .before .before .before .before .before .fill in
-    chunk-written (loaded (q .args .own .start) (q .args .rules) (q .args .rulerows .now) (q .args .excluded) (q .args .excludedrows .now) (q .args .ids .now) (q .args .gone .now)) _ _ _ (f .ensures) _ _ (q .pre .1 .0 .1) _ _ _ _ _
+    chunk-written (loaded (q .args .own .start) (q .args .rules) (q .args .rulerows .now) (q .args .excluded) (q .args .excludedrows .now) (q .args .ids .now) (q .args .gone .now)) _ _ _ (f .ensures) _ _ (q .pre .1 .1 .0 .1) _ _ _ _ _
     (rw (toZ-ofZ (q .fits .initial)) at (c .before .before .write-run .ensures))
 
 pub write-chunk-spec : {M : Type 1} → statement M

@@ -1,0 +1,122 @@
+use Rattle.json.specs.Answer.{answerOf, pairedAnswer, readAnswer}
+use borrow.Author.Tests.{le-ltb, lt-ltb}
+use borrow.Author.Needs.{needs}
+use Rattle.json.proofs.answer.judge.Statement.{statement}
+use Rattle.json.proofs.answer.judge.Tie as tie
+
+returns : tie.Need-returns
+unfolding answerOf readAnswer pairedAnswer
+returns c =
+    record { is = rw (lt-ltb _ _ (c .if1 .taken)); ends = search needs }
+
+whole-requires : tie.Need-whole-requires
+whole-requires c κs = search needs
+
+enum-told : tie.Need-enum-told
+enum-told c = search needs
+
+pairs-requires : tie.Need-pairs-requires
+pairs-requires c κs = search needs
+
+enum-told-2 : tie.Need-enum-told-2
+enum-told-2 c = search needs
+
+fill-requires : tie.Need-fill-requires
+fill-requires c κs = search needs
+
+text-fault-requires : tie.Need-text-fault-requires
+text-fault-requires c κs = search needs
+
+same-length : tie.Need-same-length
+same-length c = search needs
+
+returns-2 : tie.Need-returns-2
+unfolding answerOf readAnswer pairedAnswer
+returns-2 c =
+    record {
+      is = rw (
+        le-ltb _ _ (c .before .before .before .before .before .before .before .before .before .before .before .before .before .if1 .left),
+        ← (c .before .before .before .before .before .before .before .before .before .before .before .before .whole .ensures),
+        c .before .before .before .before .before .before .before .before .before .before .enum-told .given .1,
+        ← (c .before .before .before .before .before .before .before .before .before .pairs .ensures),
+        c .before .before .before .before .before .before .before .enum-told2 .given .1,
+        ← (c .before .text-fault .ensures),
+        c .if2 .taken,
+      );
+      ends = search needs;
+    }
+
+enum-told-3 : tie.Need-enum-told-3
+enum-told-3 c = search needs
+
+enum-told-4 : tie.Need-enum-told-4
+enum-told-4 c = search needs
+
+enum-told-5 : tie.Need-enum-told-5
+enum-told-5 c = search needs
+
+enum-told-6 : tie.Need-enum-told-6
+enum-told-6 c = search needs
+
+same-length-2 : tie.Need-same-length-2
+same-length-2 c = search needs
+
+returns-3 : tie.Need-returns-3
+unfolding answerOf readAnswer pairedAnswer
+returns-3 c =
+    record {
+      is = rw (
+        le-ltb _ _ (c .before .before .before .before .before .before .before .before .before .before .before .before .before .if1 .left),
+        ← (c .before .before .before .before .before .before .before .before .before .before .before .before .whole .ensures),
+        c .before .before .before .before .before .before .before .before .before .before .enum-told .given .1,
+        ← (c .before .before .before .before .before .before .before .before .before .pairs .ensures),
+        c .before .before .before .before .before .before .before .enum-told2 .given .1,
+        ← (c .before .text-fault .ensures),
+        c .if2 .left,
+      );
+      ends = search needs;
+    }
+
+returns-4 : tie.Need-returns-4
+unfolding answerOf readAnswer pairedAnswer
+returns-4 c =
+    record { is = rw (le-ltb _ _ (c .before .before .before .before .before .before .if1 .left), ← (c .before .before .before .before .before .whole .ensures), c .before .before .before .enum-told .given .1, ← (c .before .before .pairs .ensures), c .enum-told3 .given .1); ends = search needs }
+
+returns-5 : tie.Need-returns-5
+unfolding answerOf readAnswer pairedAnswer
+returns-5 c =
+    record { is = rw (le-ltb _ _ (c .before .before .before .before .before .before .if1 .left), ← (c .before .before .before .before .before .whole .ensures), c .before .before .before .enum-told .given .1, ← (c .before .before .pairs .ensures), c .enum-told4 .given .1); ends = search needs }
+
+returns-6 : tie.Need-returns-6
+unfolding answerOf readAnswer pairedAnswer
+returns-6 c =
+    record { is = rw (le-ltb _ _ (c .before .before .before .if1 .left), ← (c .before .before .whole .ensures), c .enum-told5 .given .1); ends = search needs }
+
+returns-7 : tie.Need-returns-7
+unfolding answerOf readAnswer pairedAnswer
+returns-7 c =
+    record { is = rw (le-ltb _ _ (c .before .before .before .if1 .left), ← (c .before .before .whole .ensures), c .enum-told6 .given .1); ends = search needs }
+
+pub judge-spec : {M : Type 1} → statement M
+judge-spec =
+    tie.close
+    (tie.spec
+    returns
+    whole-requires
+    enum-told
+    pairs-requires
+    enum-told-2
+    fill-requires
+    text-fault-requires
+    same-length
+    returns-2
+    enum-told-3
+    enum-told-4
+    enum-told-5
+    enum-told-6
+    same-length-2
+    returns-3
+    returns-4
+    returns-5
+    returns-6
+    returns-7)
