@@ -43,6 +43,7 @@ pub fn write_run(
     let mut place = at;
     let mut second = from;
     let mut pending = next_kept(ids, gone, from, to);
+    let mut hint = 0;
     while second < to {
         let x = next_in(hits, first, start, pending, second, to);
         if to <= x {
@@ -60,6 +61,7 @@ pub fn write_run(
             initial,
             instants,
             offsets,
+            &mut hint,
             x,
         );
         place += 28;

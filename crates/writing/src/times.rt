@@ -64,6 +64,7 @@ pub fn put_at(
     initial: i64,
     instants: &[i64],
     offsets: &[i64],
+    hint: &mut usize,
     x: u64,
 )
     requires { ⌜ Ends (now text) (now ends) × ((at + 28 ≤ length (now buf)) × ((length (now ids) ≡ length (now places)) × ((validTable initial (now instants) (now offsets) ≡ true)
@@ -72,5 +73,5 @@ pub fn put_at(
         (detailsBy (now (text .entry)) (detailsIn (now (text .entry)) own) (now (ids .entry)) (now (places .entry))) x) ⌝ }
 {
     let t = times_at(text, ends, own, ids, places, x);
-    put_occurrence(buf, at, x, t, floating, initial, instants, offsets);
+    put_occurrence(buf, at, x, t, floating, initial, instants, offsets, hint);
 }

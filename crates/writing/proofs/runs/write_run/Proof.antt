@@ -16,12 +16,12 @@ use Rattle.writing.proofs.runs.write_run.Statement.{statement}
 use Rattle.writing.proofs.runs.write_run.Tie as tie
 
 abbrev Inv-loop : tie.InvT-loop
-Inv-loop buf₀ at text ends own ids gone places floating initial instants offsets hits first from to start place₀ second₀ pending₀ buf place second pending =
+Inv-loop buf₀ at text ends own ids gone places floating initial instants offsets hits first from to start place₀ second₀ pending₀ hint₀ buf place second pending hint =
     WriteAt (rowBy floating (toZ w64 initial) instants offsets (detailsBy text (detailsIn text own) ids places)) (isThere hits first (own .start) ids gone) from to at buf₀ second place buf
     × (pending ≡ nextOf (isKept ids gone) second to)
 
 abbrev μ-loop : tie.MeasureT-loop
-μ-loop buf₀ at text ends own ids gone places floating initial instants offsets hits first from to start place₀ second₀ pending₀ buf place second pending = to - second
+μ-loop buf₀ at text ends own ids gone places floating initial instants offsets hits first from to start place₀ second₀ pending₀ hint₀ buf place second pending hint = to - second
 
 next-kept-requires : tie.Need-next-kept-requires Inv-loop μ-loop
 next-kept-requires c κs = let q = c .before .before .before .before .before .before .before in (q .pre .1 .1 .0 .marks, q .pre .1 .0 .order)
@@ -53,22 +53,22 @@ returns c =
 
 put-at-requires : tie.Need-put-at-requires Inv-loop μ-loop
 put-at-requires c κs =
-    let i = c .before .before .before .before .loop in
-    let q = c .before .before .before .before .before .before .before .before .before .before .before .before .before in
-    let x = (there-is (q .args .hits .now) _ _ (q .args .ids .now) (q .args .gone .now) _ _ _ _ (i .inv .0 .order) (i .inv .1) (c .before .before .next-in .ensures)) in
-    let small = q .pre .1 .1 .1 .0 .small (c .before .before .next-in .result) (omega (arith, c .before .if1 .left, q .pre .1 .0 .high, q .pre .1 .0 .days)) in (
+    let i = c .before .before .before .before .before .loop in
+    let q = c .before .before .before .before .before .before .before .before .before .before .before .before .before .before in
+    let x = (there-is (q .args .hits .now) _ _ (q .args .ids .now) (q .args .gone .now) _ _ _ _ (i .inv .0 .order) (i .inv .1) (c .before .before .before .next-in .ensures)) in
+    let small = q .pre .1 .1 .1 .0 .small (c .before .before .before .next-in .result) (omega (arith, c .before .before .if1 .left, q .pre .1 .0 .high, q .pre .1 .0 .days)) in (
       q .pre .0,
       (
         write-room (rowBy (q .args .floating) _ (q .args .instants .now) (q .args .offsets .now) (detailsBy (q .args .text .now) (detailsIn (q .args .text .now) (q .args .own)) (q .args .ids .now) (q .args .places .now))) (by-length (q .args .floating) _ (q .args .instants .now) (q .args .offsets .now) (detailsBy (q .args .text .now) (detailsIn (q .args .text .now) (q .args .own)) (q .args .ids .now) (q .args .places .now)))
-            (isThere (q .args .hits .now) _ (q .args .own .start) (q .args .ids .now) (q .args .gone .now)) _ _ _ _ _ _ _ (i .inv .0) _ x (c .before .if1 .left) (q .pre .1 .1 .1 .1),
+            (isThere (q .args .hits .now) _ (q .args .own .start) (q .args .ids .now) (q .args .gone .now)) _ _ _ _ _ _ _ (i .inv .0) _ x (c .before .before .if1 .left) (q .pre .1 .1 .1 .1),
         (q .pre .1 .1 .0 .patches, (rw (toZ-ofZ (q .fits .initial)) (q .pre .1 .1 .1 .0 .valid), small)),
       ),
     )
 
 add-place : tie.Need-add-place Inv-loop μ-loop
 add-place c =
-    let i = c .before .before .before .before .before .before .before .loop in
-    omega (arith, i .inv .0 .room, i .inv .0 .same, c .before .before .before .before .before .before .before .before .before .before .before .before .before .before .before .before .pre .1 .1 .1 .1)
+    let i = c .before .before .before .before .before .before .before .before .loop in
+    omega (arith, i .inv .0 .room, i .inv .0 .same, c .before .before .before .before .before .before .before .before .before .before .before .before .before .before .before .before .before .pre .1 .1 .1 .1)
 
 add-second : tie.Need-add-second Inv-loop μ-loop
 add-second c = search needs
@@ -77,23 +77,23 @@ add-renew : tie.Need-add-renew Inv-loop μ-loop
 add-renew c = search needs
 
 renew-requires : tie.Need-renew-requires Inv-loop μ-loop
-renew-requires c κs = (c .before .before .before .before .before .before .before .before .before .before .before .before .before .before .before .before .pre .1 .1 .0 .marks, omega (arith, c .before .before .before .before .if1 .left))
+renew-requires c κs = (c .before .before .before .before .before .before .before .before .before .before .before .before .before .before .before .before .before .pre .1 .1 .0 .marks, omega (arith, c .before .before .before .before .before .if1 .left))
 
 loop-less : tie.Need-loop-less Inv-loop μ-loop
 loop-less c =
-    let i = c .before .before .before .before .before .before .before .before .loop in
-    let q = c .before .before .before .before .before .before .before .before .before .before .before .before .before .before .before .before .before in
-    let x = (there-is (q .args .hits .now) _ _ (q .args .ids .now) (q .args .gone .now) _ _ _ _ (i .inv .0 .order) (i .inv .1) (c .before .before .before .before .before .before .next-in .ensures)) in
-    omega (arith, x .low, c .before .before .before .before .before .if1 .left)
+    let i = c .before .before .before .before .before .before .before .before .before .loop in
+    let q = c .before .before .before .before .before .before .before .before .before .before .before .before .before .before .before .before .before .before in
+    let x = (there-is (q .args .hits .now) _ _ (q .args .ids .now) (q .args .gone .now) _ _ _ _ (i .inv .0 .order) (i .inv .1) (c .before .before .before .before .before .before .before .next-in .ensures)) in
+    omega (arith, x .low, c .before .before .before .before .before .before .if1 .left)
 
 loop-again : tie.Need-loop-again Inv-loop μ-loop
 loop-again c =
-    let i = c .before .before .before .before .before .before .before .before .loop in
-    let q = c .before .before .before .before .before .before .before .before .before .before .before .before .before .before .before .before .before in
-    let x = (there-is (q .args .hits .now) _ _ (q .args .ids .now) (q .args .gone .now) _ _ _ _ (i .inv .0 .order) (i .inv .1) (c .before .before .before .before .before .before .next-in .ensures)) in (
+    let i = c .before .before .before .before .before .before .before .before .before .loop in
+    let q = c .before .before .before .before .before .before .before .before .before .before .before .before .before .before .before .before .before .before in
+    let x = (there-is (q .args .hits .now) _ _ (q .args .ids .now) (q .args .gone .now) _ _ _ _ (i .inv .0 .order) (i .inv .1) (c .before .before .before .before .before .before .before .next-in .ensures)) in (
       write-one (rowBy (q .args .floating) _ (q .args .instants .now) (q .args .offsets .now) (detailsBy (q .args .text .now) (detailsIn (q .args .text .now) (q .args .own)) (q .args .ids .now) (q .args .places .now))) (by-length (q .args .floating) _ (q .args .instants .now) (q .args .offsets .now) (detailsBy (q .args .text .now) (detailsIn (q .args .text .now) (q .args .own)) (q .args .ids .now) (q .args .places .now)))
-          (isThere (q .args .hits .now) _ (q .args .own .start) (q .args .ids .now) (q .args .gone .now)) _ _ _ _ _ _ _ (i .inv .0) _ x (c .before .before .before .before .before .if1 .left) _ (c .before .before .before .put-at .ensures),
-      c .renew .ensures ∙ renewed-is (q .args .ids .now) (q .args .gone .now) _ _ _ _ (omega (arith, x .low)) (omega (arith, c .before .before .before .before .before .if1 .left)) (i .inv .1),
+          (isThere (q .args .hits .now) _ (q .args .own .start) (q .args .ids .now) (q .args .gone .now)) _ _ _ _ _ _ _ (i .inv .0) _ x (c .before .before .before .before .before .before .if1 .left) _ (c .before .before .before .put-at .ensures),
+      c .renew .ensures ∙ renewed-is (q .args .ids .now) (q .args .gone .now) _ _ _ _ (omega (arith, x .low)) (omega (arith, c .before .before .before .before .before .before .if1 .left)) (i .inv .1),
     )
 
 same-length-2 : tie.Need-same-length-2 Inv-loop μ-loop

@@ -14,8 +14,8 @@ times-at-requires c κs = search needs
 
 put-occurrence-requires : tie.Need-put-occurrence-requires
 put-occurrence-requires c κs =
-    let t = c .before .times-at in
-    let p = c .before .before .before .before .before .before .before in
+    let t = c .before .before .times-at in
+    let p = c .before .before .before .before .before .before .before .before in
     (p .pre .1 .0, (rw (toZ-ofZ (p .fits .initial)) (p .pre .1 .1 .1 .0), subst (Small _) (sym (t .ensures)) (p .pre .1 .1 .1 .1)))
 
 same-length : tie.Need-same-length
@@ -24,8 +24,8 @@ same-length c = search needs
 returns : tie.Need-returns
 unfolding rowBy
 returns c =
-    let t = c .before .before .before .before .times-at in
-    let p = c .before .before .before .before .before .before .before .before .before .before in
+    let t = c .before .before .before .before .before .times-at in
+    let p = c .before .before .before .before .before .before .before .before .before .before .before in
     put-row (p .args .floating) _ (p .args .instants .now) (p .args .offsets .now) (p .fits .initial) _
     (detailsBy (p .args .text .now) (detailsIn (p .args .text .now) (p .args .own)) (p .args .ids .now) (p .args .places .now)) _ (t .ensures) _ _ _ (c .before .before .put-occurrence .ensures)
 
