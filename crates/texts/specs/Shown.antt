@@ -10,6 +10,7 @@ use Rattle.signed.specs.Choose.{if_then_else_}
 use Rattle.event.specs.Types.{Text, Details}
 use Rattle.table.specs.Call.{Shown, noPlace}
 use Rattle.texts.specs.declared.Part.{Part}
+use Rattle.texts.specs.declared.Told.{Told}
 use Rattle.texts.specs.declared.Lookup.{Lookup}
 use Rattle.texts.specs.declared.Lookup.the-variants.{Found, Missing}
 
@@ -20,6 +21,9 @@ partShown p = record { answer = 0; start = p .start; length = p .length }
 abbrev pub lookupShown : Lookup → Shown
 lookupShown (Found p) = partShown p
 lookupShown Missing = noPlace 14
+
+abbrev pub toldShown : Told → Shown
+toldShown t = record { answer = t .answer; start = t .start; length = t .length }
 
 -- n bytes from a place on. "the part has no bytes": both are 0.
 unfoldable pub spanned : ℕ → ℕ → Shown

@@ -3,43 +3,26 @@
 ghost use Rattle.table.specs.Call.{textOf, titleOf, descriptionOf};
 ghost use Rattle.table.specs.Results.{Shows};
 ghost use Rattle.texts.specs.Shown.{chosen, Tells};
-use crate::Lookup;
-use crate::events::look_up;
-use answers::texts::text_fault;
+use crate::answered::told;
 
 // The place of the title or of the description in the text.
 fn place_of(text: &[u8], title: bool, date: i64, start: &mut u64, length: &mut u64) -> u32
     ensures { λ r. ⌜ Shows (textOf (chosen title) (now (text .entry)) date) r (now (start .exit)) (now (length .exit)) ⌝ }
 {
-    *start = 0;
-    *length = 0;
-    let fault = text_fault(text);
-    if fault != 0 {
-        return fault;
-    }
-    let Lookup::Found(part) = look_up(text, title, date) else {
-        return 14;
-    };
-    *start = part.start as u64;
-    *length = part.length as u64;
-    0
+    let found = told(text, title, date);
+    *start = found.start as u64;
+    *length = found.length as u64;
+    found.answer
 }
 
 // The title or the description as a part of the text; the number through `answer`.
 fn text_of<'a>(text: &'a [u8], title: bool, date: i64, answer: &mut u32) -> &'a [u8]
     ensures { λ r. ⌜ Tells (textOf (chosen title) (now (text .entry)) date) (now (text .entry)) (now (answer .exit)) (now r) ⌝ }
 {
-    let fault = text_fault(text);
-    *answer = fault;
-    if fault != 0 {
-        return &text[0..0];
-    }
-    let Lookup::Found(part) = look_up(text, title, date) else {
-        *answer = 14;
-        return &text[0..0];
-    };
-    let start = part.start;
-    let end = start + part.length;
+    let found = told(text, title, date);
+    *answer = found.answer;
+    let start = found.start;
+    let end = start + found.length;
     &text[start..end]
 }
 

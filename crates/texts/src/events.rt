@@ -1,8 +1,9 @@
-// The look-up of a text in an accepted event.
+// The look-up of a text in an accepted event, whose head was read.
 ghost use mathlib.Core.Option.{some};
 ghost use mathlib.Core.Path.{_≡_};
 ghost use Prim.Native.Nat.{_*_, _≤_, _<_};
 ghost use lib.ListN.{length};
+ghost use Rattle.json_ends.specs.Ends.{Ends};
 ghost use Rattle.rule.specs.Gives.{endDay};
 ghost use Rattle.event.specs.Event.{eventFault, eventOf};
 ghost use Rattle.event_text.specs.Front.{inner, frontOf};
@@ -18,7 +19,6 @@ use answers::calls::is_secret;
 use event_loading::lists::load_list;
 use event_loading::lists::load_overrides;
 use event_text::Head;
-use event_text::heads::head;
 use event_text::heads::own_of;
 use record::window::since_1600;
 
@@ -29,8 +29,8 @@ const FIRST: u64 = 31622400;
 const END: u64 = 265046860800;
 
 // Days behind that of the date are not asked for.
-fn look_up_event(text: &[u8], title: bool, public: bool, head: Head, x: u64) -> Lookup
-    requires { ⌜ ((fromHead inner (now text) head ≡ frontOf (now text)) × (eventFault (now text) ≡ 0)) × ((366 * 86400 ≤ x) × (x < 86400 * endDay)) ⌝ }
+fn look_up_event(text: &[u8], ends: &[u32], title: bool, public: bool, head: Head, x: u64) -> Lookup
+    requires { ⌜ Ends (now text) (now ends) × (((fromHead inner (now text) head ≡ frontOf (now text)) × (eventFault (now text) ≡ 0)) × ((366 * 86400 ≤ x) × (x < 86400 * endDay))) ⌝ }
     ensures { λ r. ⌜ Placed (length (now (text .entry))) (shownBy public (isOccurrence (eventOf (now (text .entry))) x) (placeOf (chosen title (detailsAt (eventOf (now (text .entry))) x)))) (lookupShown r) ⌝ }
 {
     let own = own_of(head);
@@ -40,14 +40,23 @@ fn look_up_event(text: &[u8], title: bool, public: bool, head: Head, x: u64) -> 
     let overridden = head.overrides;
     let mut rulerows = [false; 12592];
     let mut excludedrows = [false; 12592];
-    let rules = load_list(text, ruled, false, head.start, limit, &mut rulerows);
-    let excluded = load_list(text, barred, true, head.start, limit, &mut excludedrows);
+    let rules = load_list(text, ends, ruled, false, head.start, limit, &mut rulerows);
+    let excluded = load_list(
+        text,
+        ends,
+        barred,
+        true,
+        head.start,
+        limit,
+        &mut excludedrows,
+    );
     let mut ids = [0; 256];
     let mut gone = [false; 256];
     let mut places = [0; 256];
-    let n = load_overrides(text, overridden, &mut ids, &mut gone, &mut places);
+    let n = load_overrides(text, ends, overridden, &mut ids, &mut gone, &mut places);
     look_up_kept(
         text,
+        ends,
         title,
         public,
         own,
@@ -63,8 +72,8 @@ fn look_up_event(text: &[u8], title: bool, public: bool, head: Head, x: u64) -> 
 }
 
 // A secret event tells of no occurrence.
-fn look_up_at(text: &[u8], title: bool, head: Head, x: u64) -> Lookup
-    requires { ⌜ ((fromHead inner (now text) head ≡ frontOf (now text)) × (eventFault (now text) ≡ 0)) × ((366 * 86400 ≤ x) × (x < 86400 * endDay)) ⌝ }
+fn look_up_at(text: &[u8], ends: &[u32], title: bool, head: Head, x: u64) -> Lookup
+    requires { ⌜ Ends (now text) (now ends) × (((fromHead inner (now text) head ≡ frontOf (now text)) × (eventFault (now text) ≡ 0)) × ((366 * 86400 ≤ x) × (x < 86400 * endDay))) ⌝ }
     ensures { λ r. ⌜ Placed (length (now (text .entry))) (shownAt (chosen title) (eventOf (now (text .entry))) (some x)) (lookupShown r) ⌝ }
 {
     let privacy = head.privacy;
@@ -72,15 +81,14 @@ fn look_up_at(text: &[u8], title: bool, head: Head, x: u64) -> Lookup
         return Lookup::Missing;
     }
     let public = is_public(privacy);
-    look_up_event(text, title, public, head, x)
+    look_up_event(text, ends, title, public, head, x)
 }
 
 // No occurrence of an accepted event lies outside the years 1601 to 9998.
-pub fn look_up(text: &[u8], title: bool, date: i64) -> Lookup
-    requires { ⌜ eventFault (now text) ≡ 0 ⌝ }
+pub fn look_up(text: &[u8], ends: &[u32], head: Head, title: bool, date: i64) -> Lookup
+    requires { ⌜ Ends (now text) (now ends) × ((fromHead inner (now text) head ≡ frontOf (now text)) × (eventFault (now text) ≡ 0)) ⌝ }
     ensures { λ r. ⌜ Placed (length (now (text .entry))) (shownAt (chosen title) (eventOf (now (text .entry))) (dateTimeOf date)) (lookupShown r) ⌝ }
 {
-    let head = head(text);
     let x = since_1600(date);
     if x < FIRST {
         return Lookup::Missing;
@@ -88,5 +96,5 @@ pub fn look_up(text: &[u8], title: bool, date: i64) -> Lookup
     if END <= x {
         return Lookup::Missing;
     }
-    look_up_at(text, title, head, x)
+    look_up_at(text, ends, title, head, x)
 }

@@ -2,6 +2,7 @@
 ghost use mathlib.Core.Path.{_≡_};
 ghost use Prim.Native.Nat.{_+_};
 ghost use lib.ListN.{length};
+ghost use Rattle.json_ends.specs.Ends.{Ends};
 ghost use Rattle.signed.specs.Choose.{if_then_else_};
 ghost use Rattle.override_text.specs.Meaning.{detailsIn};
 ghost use Rattle.dates.specs.Loaded.{loaded, isIn};
@@ -34,6 +35,7 @@ fn visible(public: bool, part: Part) -> Part
 // The text of the occurrence x of an event that is not secret.
 pub fn look_up_kept(
     text: &[u8],
+    ends: &[u32],
     title: bool,
     public: bool,
     own: Own,
@@ -46,8 +48,8 @@ pub fn look_up_kept(
     excludedrows: &[bool],
     x: u64,
 ) -> Lookup
-    requires { ⌜ Ready rules (length (now rulerows)) excluded (length (now excludedrows)) (length (now ids)) (length (now gone)) 1
-        × (Window (own .start) x (x + 1) × Overridden (length (now ids)) (length (now gone)) (length (now places))) ⌝ }
+    requires { ⌜ Ends (now text) (now ends) × (Ready rules (length (now rulerows)) excluded (length (now excludedrows)) (length (now ids)) (length (now gone)) 1
+        × (Window (own .start) x (x + 1) × Overridden (length (now ids)) (length (now gone)) (length (now places)))) ⌝ }
     ensures { λ r. ⌜ Placed (length (now (text .entry))) (shownBy public (isIn (loaded (own .start) rules (now (rulerows .entry)) excluded (now (excludedrows .entry)) (now (ids .entry)) (now (gone .entry))) x)
         (placeOf (chosen title (detailsBy (now (text .entry)) (detailsIn (now (text .entry)) own) (now (ids .entry)) (now (places .entry)) x)))) (lookupShown r) ⌝ }
 {
@@ -64,7 +66,7 @@ pub fn look_up_kept(
     if !there {
         return Lookup::Missing;
     }
-    let place = text_by(text, title, own, ids, places, x);
+    let place = text_by(text, ends, title, own, ids, places, x);
     let part = visible(public, part_at(text, place));
     Lookup::Found(part)
 }

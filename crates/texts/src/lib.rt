@@ -1,4 +1,5 @@
 // The texts of one occurrence, its title and its description, as parts of the event's text.
+mod answered;
 pub mod calls;
 mod events;
 mod kept;
@@ -15,4 +16,11 @@ pub struct Part {
 pub enum Lookup {
     Found(Part),
     Missing,
+}
+
+// What a call answers: the number, and the part that is shown; both 0 where it has no bytes.
+pub struct Told {
+    pub answer: u32,
+    pub start: usize,
+    pub length: usize,
 }

@@ -1,6 +1,7 @@
 // The title or the description of one occurrence, by the place of its opening quote.
 ghost use mathlib.Core.Path.{_≡_};
 ghost use lib.ListN.{length};
+ghost use Rattle.json_ends.specs.Ends.{Ends};
 ghost use Rattle.signed.specs.Choose.{if_then_else_};
 ghost use Rattle.property.specs.From.{textIn};
 ghost use Rattle.override_text.specs.Meaning.{detailsIn};
@@ -20,24 +21,33 @@ fn choose(title: bool, first: Place, second: Place) -> Place
 }
 
 // The text of the occurrence `id` after the patch at a place.
-fn text_patched(text: &[u8], title: bool, at: usize, own: Own, id: u64) -> Place
+fn text_patched(text: &[u8], ends: &[u32], title: bool, at: usize, own: Own, id: u64) -> Place
+    requires { ⌜ Ends (now text) (now ends) ⌝ }
     ensures { λ r. ⌜ textIn (now (text .entry)) r ≡ chosen title (patchDetails (detailsIn (now (text .entry)) own) (now (text .entry)) at id) ⌝ }
 {
-    let p = patch(text, at, own, id);
+    let p = patch(text, ends, at, own, id);
     let first = p.title;
     let second = p.description;
     choose(title, first, second)
 }
 
 // The text of the occurrence x: after its patch where an override names it, else the event's own.
-pub fn text_by(text: &[u8], title: bool, own: Own, ids: &[u64], places: &[usize], x: u64) -> Place
-    requires { ⌜ length (now ids) ≡ length (now places) ⌝ }
+pub fn text_by(
+    text: &[u8],
+    ends: &[u32],
+    title: bool,
+    own: Own,
+    ids: &[u64],
+    places: &[usize],
+    x: u64,
+) -> Place
+    requires { ⌜ Ends (now text) (now ends) × (length (now ids) ≡ length (now places)) ⌝ }
     ensures { λ r. ⌜ textIn (now (text .entry)) r ≡ chosen title (detailsBy (now (text .entry)) (detailsIn (now (text .entry)) own) (now (ids .entry)) (now (places .entry)) x) ⌝ }
 {
     let mut i = 0;
     while i < ids.len() {
         if ids[i] == x {
-            return text_patched(text, title, places[i], own, x);
+            return text_patched(text, ends, title, places[i], own, x);
         }
         i += 1;
     }

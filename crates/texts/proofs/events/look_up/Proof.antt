@@ -5,33 +5,30 @@ use borrow.Author.Needs.{needs}
 use Rattle.texts.proofs.events.look_up.Statement.{statement}
 use Rattle.texts.proofs.events.look_up.Tie as tie
 
-head-requires : tie.Need-head-requires
-head-requires c κs = search needs
-
 since-1600-requires : tie.Need-since-1600-requires
 since-1600-requires c κs = search needs
 
 returns : tie.Need-returns
 returns c =
     let q = c .before .before .before .before in
-    early-shown _ (c .before .before .head .result) (c .before .before .head .ensures, q .pre) (q .args .title) _ (q .fits .date) _ (c .before .since-1600 .ensures) (c .if1 .taken)
+    early-shown _ (q .args .head) (q .pre .1) (q .args .title) _ (q .fits .date) _ (c .before .since-1600 .ensures) (c .if1 .taken)
 
 returns-2 : tie.Need-returns-2
 returns-2 c =
     let q = c .before .before .before .before .before in
-    late-shown _ (c .before .before .before .head .result) (c .before .before .before .head .ensures, q .pre) (q .args .title) _ (q .fits .date) _ (c .before .before .since-1600 .ensures) (c .if2 .taken)
+    late-shown _ (q .args .head) (q .pre .1) (q .args .title) _ (q .fits .date) _ (c .before .before .since-1600 .ensures) (c .if2 .taken)
 
 look-up-at-requires : tie.Need-look-up-at-requires
 look-up-at-requires c κs =
     let q = c .before .before .before .before .before in
-    ((c .before .before .before .head .ensures, q .pre), (omega (arith, c .before .if1 .left), omega (arith, c .if2 .left)))
+    (q .pre .0, (q .pre .1, (omega (arith, c .before .if1 .left), omega (arith, c .if2 .left))))
 
 returns-3 : tie.Need-returns-3
 returns-3 c =
     let q = c .before .before .before .before .before .before in
-    date-shown _ (c .before .before .before .before .head .result) (c .before .before .before .before .head .ensures, q .pre) (q .args .title) _ (q .fits .date) _ (c .before .before .before .since-1600 .ensures) (c .before .before .if1 .left) _ (c .look-up-at .ensures)
+    date-shown _ (q .args .head) (q .pre .1) (q .args .title) _ (q .fits .date) _ (c .before .before .before .since-1600 .ensures) (c .before .before .if1 .left) _ (c .look-up-at .ensures)
 
 pub look-up-spec : {M : Type 1} → statement M
 look-up-spec =
     tie.close
-    (tie.spec head-requires since-1600-requires returns returns-2 look-up-at-requires returns-3)
+    (tie.spec since-1600-requires returns returns-2 look-up-at-requires returns-3)

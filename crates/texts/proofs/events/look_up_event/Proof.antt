@@ -19,13 +19,13 @@ slice-aggregate-load-list : tie.Need-slice-aggregate-load-list
 slice-aggregate-load-list c = search needs
 
 load-list-requires : tie.Need-load-list-requires
-load-list-requires c κs = let q = c .before .before .before in rules-ready _ (q .args .head) (q .pre .0) (q .args .x) (q .pre .1) _ refl
+load-list-requires c κs = let q = c .before .before .before .before in let n = rules-ready _ (q .args .head) (q .pre .1 .0) (q .args .x) (q .pre .1 .1) _ refl in (n .0, (n .1 .0, (n .1 .1, q .pre .0)))
 
 slice-aggregate-load-list-2 : tie.Need-slice-aggregate-load-list-2
 slice-aggregate-load-list-2 c = search needs
 
 load-list-requires-2 : tie.Need-load-list-requires-2
-load-list-requires-2 c κs = let q = c .before .before .before .before .before .before in excluded-ready _ (q .args .head) (q .pre .0) (q .args .x) (q .pre .1) _ refl
+load-list-requires-2 c κs = let q = c .before .before .before .before .before .before .before in let n = excluded-ready _ (q .args .head) (q .pre .1 .0) (q .args .x) (q .pre .1 .1) _ refl in (n .0, (n .1 .0, (n .1 .1, q .pre .0)))
 
 slice-aggregate-load-overrides : tie.Need-slice-aggregate-load-overrides
 slice-aggregate-load-overrides c = search needs
@@ -40,22 +40,22 @@ load-overrides-requires : tie.Need-load-overrides-requires
 load-overrides-requires c κs = search needs
 
 array-share-prefix-ids : tie.Need-array-share-prefix-ids
-array-share-prefix-ids c = front-fits _ _ _ _ _ _ _ _ _ (c .before .before .before .load-overrides .ensures noDetails) (c .before .before .before .load-overrides .last .1 .1 .0) (c .before .before .before .load-overrides .kept .1 .1 .0)
+array-share-prefix-ids c = front-fits _ _ _ _ _ _ _ _ _ (c .before .before .before .load-overrides .ensures noDetails) (c .before .before .before .load-overrides .last .1 .1 .1 .0) (c .before .before .before .load-overrides .kept .1 .1 .1 .0)
 
 slice-aggregate-look-up-kept : tie.Need-slice-aggregate-look-up-kept
-slice-aggregate-look-up-kept c = front-size _ _ _ _ _ _ _ _ _ (c .before .before .before .before .load-overrides .ensures noDetails) _ (c .before .before .before .before .load-overrides .kept .1 .1 .0)
+slice-aggregate-look-up-kept c = front-size _ _ _ _ _ _ _ _ _ (c .before .before .before .before .load-overrides .ensures noDetails) _ (c .before .before .before .before .load-overrides .kept .1 .1 .1 .0)
 
 array-share-prefix-gone : tie.Need-array-share-prefix-gone
-array-share-prefix-gone c = front-fits _ _ _ _ _ _ _ _ _ (c .before .before .before .before .load-overrides .ensures noDetails) (c .before .before .before .before .load-overrides .last .1 .1 .1 .0) (c .before .before .before .before .load-overrides .kept .1 .1 .1 .0)
+array-share-prefix-gone c = front-fits _ _ _ _ _ _ _ _ _ (c .before .before .before .before .load-overrides .ensures noDetails) (c .before .before .before .before .load-overrides .last .1 .1 .1 .1 .0) (c .before .before .before .before .load-overrides .kept .1 .1 .1 .1 .0)
 
 slice-aggregate-look-up-kept-2 : tie.Need-slice-aggregate-look-up-kept-2
-slice-aggregate-look-up-kept-2 c = front-size _ _ _ _ _ _ _ _ _ (c .before .before .before .before .before .load-overrides .ensures noDetails) _ (c .before .before .before .before .before .load-overrides .kept .1 .1 .1 .0)
+slice-aggregate-look-up-kept-2 c = front-size _ _ _ _ _ _ _ _ _ (c .before .before .before .before .before .load-overrides .ensures noDetails) _ (c .before .before .before .before .before .load-overrides .kept .1 .1 .1 .1 .0)
 
 array-share-prefix-places : tie.Need-array-share-prefix-places
-array-share-prefix-places c = front-fits _ _ _ _ _ _ _ _ _ (c .before .before .before .before .before .load-overrides .ensures noDetails) (c .before .before .before .before .before .load-overrides .last .1 .1 .1 .1 .0) (c .before .before .before .before .before .load-overrides .kept .1 .1 .1 .1 .0)
+array-share-prefix-places c = front-fits _ _ _ _ _ _ _ _ _ (c .before .before .before .before .before .load-overrides .ensures noDetails) (c .before .before .before .before .before .load-overrides .last .1 .1 .1 .1 .1 .0) (c .before .before .before .before .before .load-overrides .kept .1 .1 .1 .1 .1 .0)
 
 slice-aggregate-look-up-kept-3 : tie.Need-slice-aggregate-look-up-kept-3
-slice-aggregate-look-up-kept-3 c = front-size _ _ _ _ _ _ _ _ _ (c .before .before .before .before .before .before .load-overrides .ensures noDetails) _ (c .before .before .before .before .before .before .load-overrides .kept .1 .1 .1 .1 .0)
+slice-aggregate-look-up-kept-3 c = front-size _ _ _ _ _ _ _ _ _ (c .before .before .before .before .before .before .load-overrides .ensures noDetails) _ (c .before .before .before .before .before .before .load-overrides .kept .1 .1 .1 .1 .1 .0)
 
 slice-aggregate-look-up-kept-4 : tie.Need-slice-aggregate-look-up-kept-4
 slice-aggregate-look-up-kept-4 c = search needs
@@ -65,13 +65,13 @@ slice-aggregate-look-up-kept-5 c = search needs
 
 look-up-kept-requires : tie.Need-look-up-kept-requires
 look-up-kept-requires c κs =
-    let q = c .before .before .before .before .before .before .before .before .before .before .before .before .before .before .before .before .before .before .before .before in
-    kept-ready _ (q .args .head) (q .pre .0) (q .args .x) (q .pre .1) (c .before .before .before .before .before .before .before .before .before .before .before .before .before .before .before .before .before .before .own-of .result) (c .before .before .before .before .before .before .before .before .before .before .before .before .before .before .before .before .before .before .own-of .ensures) _ _ _ _ _ _ _ (omega arith, (omega arith, omega arith)) (c .before .before .before .before .before .before .before .before .load-overrides .ensures) _ _ _ _ (c .before .before .before .before .before .before .before .before .before .before .before .before .before .before .before .before .load-list .ensures) (c .before .before .before .before .before .before .before .before .before .before .before .before .before .load-list2 .ensures)
+    let q = c .before .before .before .before .before .before .before .before .before .before .before .before .before .before .before .before .before .before .before .before .before in
+    (q .pre .0, kept-ready _ (q .args .head) (q .pre .1 .0) (q .args .x) (q .pre .1 .1) (c .before .before .before .before .before .before .before .before .before .before .before .before .before .before .before .before .before .before .own-of .result) (c .before .before .before .before .before .before .before .before .before .before .before .before .before .before .before .before .before .before .own-of .ensures) _ _ _ _ _ _ _ (omega arith, (omega arith, omega arith)) (c .before .before .before .before .before .before .before .before .load-overrides .ensures) _ _ _ _ (c .before .before .before .before .before .before .before .before .before .before .before .before .before .before .before .before .load-list .ensures) (c .before .before .before .before .before .before .before .before .before .before .before .before .before .load-list2 .ensures))
 
 returns : tie.Need-returns
 returns c =
-    let q = c .before .before .before .before .before .before .before .before .before .before .before .before .before .before .before .before .before .before .before .before .before in
-    kept-shown _ (q .args .head) (q .pre .0) (q .args .x) (q .pre .1) (c .before .before .before .before .before .before .before .before .before .before .before .before .before .before .before .before .before .before .before .own-of .result) (c .before .before .before .before .before .before .before .before .before .before .before .before .before .before .before .before .before .before .before .own-of .ensures) _ _ _ _ _ _ _ (omega arith, (omega arith, omega arith)) (c .before .before .before .before .before .before .before .before .before .load-overrides .ensures) _ _ _ _ (c .before .before .before .before .before .before .before .before .before .before .before .before .before .before .before .before .before .load-list .ensures) (c .before .before .before .before .before .before .before .before .before .before .before .before .before .before .load-list2 .ensures) (q .args .title) _ _ (c .look-up-kept .ensures)
+    let q = c .before .before .before .before .before .before .before .before .before .before .before .before .before .before .before .before .before .before .before .before .before .before in
+    kept-shown _ (q .args .head) (q .pre .1 .0) (q .args .x) (q .pre .1 .1) (c .before .before .before .before .before .before .before .before .before .before .before .before .before .before .before .before .before .before .before .own-of .result) (c .before .before .before .before .before .before .before .before .before .before .before .before .before .before .before .before .before .before .before .own-of .ensures) _ _ _ _ _ _ _ (omega arith, (omega arith, omega arith)) (c .before .before .before .before .before .before .before .before .before .load-overrides .ensures) _ _ _ _ (c .before .before .before .before .before .before .before .before .before .before .before .before .before .before .before .before .before .load-list .ensures) (c .before .before .before .before .before .before .before .before .before .before .before .before .before .before .load-list2 .ensures) (q .args .title) _ _ (c .look-up-kept .ensures)
 
 pub look-up-event-spec : {M : Type 1} → statement M
 look-up-event-spec =

@@ -32,7 +32,7 @@ returns-2 c =
       ← (c .before .before .before .before .is-id .ensures),
       not-false (c .before .before .before .before .is-id .result) (c .before .before .before .if1 .left),
     )
-    (visible-placed _ _ _ (placed-same _ _ _ (ap placeOf (c .before .before .text-by .ensures)) _ (c .before .part-at .ensures)) (c .before .before .before .before .before .before .before .before .before .before .before .args .public) _ (c .visible .ensures))
+    (visible-placed _ _ _ (placed-same _ _ _ (ap placeOf (c .before .before .text-by .ensures)) _ (c .before .part-at .ensures)) (c .before .before .before .before .before .before .before .before .before .before .before .before .args .public) _ (c .visible .ensures))
 
 pub look-up-kept-spec : {M : Type 1} → statement M
 look-up-kept-spec =

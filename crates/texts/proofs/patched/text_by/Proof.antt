@@ -12,10 +12,10 @@ use Rattle.texts.proofs.patched.text_by.Statement.{statement}
 use Rattle.texts.proofs.patched.text_by.Tie as tie
 
 abbrev Inv-loop : tie.InvT-loop
-Inv-loop text title own ids places x i₀ i = Seen text (detailsIn text own) ids places x i
+Inv-loop text ends title own ids places x i₀ i = Seen text (detailsIn text own) ids places x i
 
 abbrev μ-loop : tie.MeasureT-loop
-μ-loop text title own ids places x i₀ i = length ids - i
+μ-loop text ends title own ids places x i₀ i = length ids - i
 
 loop-holds : tie.Need-loop-holds Inv-loop μ-loop
 loop-holds c = (omega arith, refl)
@@ -37,8 +37,8 @@ text-patched-requires c κs = search needs
 
 returns : tie.Need-returns Inv-loop μ-loop
 returns c =
-    let q = c .before .before .before .before .before .before .before .before .before in
-    c .text-patched .ensures ∙ ap (chosen (q .args .title)) (seen-patch (q .args .text .now) _ (q .args .ids .now) (q .args .places .now) (q .pre) _ (c .before .before .before .before .before .loop .i) (c .before .before .before .before .loop-test .taken) (c .before .before .before .before .before .loop .inv) (c .before .before .if1 .taken))
+    let q = c .before .before .before .before .before .before .before .before .before .before in
+    c .text-patched .ensures ∙ ap (chosen (q .args .title)) (seen-patch (q .args .text .now) _ (q .args .ids .now) (q .args .places .now) (q .pre .1) _ (c .before .before .before .before .before .loop .i) (c .before .before .before .before .loop-test .taken) (c .before .before .before .before .before .loop .inv) (c .before .before .if1 .taken))
 
 add-i : tie.Need-add-i Inv-loop μ-loop
 add-i c = search needs
@@ -48,16 +48,16 @@ loop-less c = search needs
 
 loop-again : tie.Need-loop-again Inv-loop μ-loop
 loop-again c =
-    let q = c .before .before .before .before .before .before .before in
-    seen-next (q .args .text .now) _ (q .args .ids .now) (q .args .places .now) (q .pre) _ (c .before .before .before .loop .i) (c .before .before .loop-test .taken) (c .before .before .before .loop .inv) (c .if1 .left)
+    let q = c .before .before .before .before .before .before .before .before in
+    seen-next (q .args .text .now) _ (q .args .ids .now) (q .args .places .now) (q .pre .1) _ (c .before .before .before .loop .i) (c .before .before .loop-test .taken) (c .before .before .before .loop .inv) (c .if1 .left)
 
 choose-requires : tie.Need-choose-requires Inv-loop μ-loop
 choose-requires c κs = search needs
 
 returns-2 : tie.Need-returns-2 Inv-loop μ-loop
 returns-2 c =
-    let q = c .before .before .before .before .before .before in
-    own-text _ (q .args .title) (q .args .own) _ _ (seen-own (q .args .text .now) _ (q .args .ids .now) (q .args .places .now) (q .pre) _ (c .before .before .loop .i) (c .before .loop-test .left) (c .before .before .loop .inv)) _ (c .choose .ensures)
+    let q = c .before .before .before .before .before .before .before in
+    own-text _ (q .args .title) (q .args .own) _ _ (seen-own (q .args .text .now) _ (q .args .ids .now) (q .args .places .now) (q .pre .1) _ (c .before .before .loop .i) (c .before .loop-test .left) (c .before .before .loop .inv)) _ (c .choose .ensures)
 
 pub text-by-spec : {M : Type 1} → statement M
 text-by-spec =

@@ -11,7 +11,7 @@ choose-requires : tie.Need-choose-requires
 choose-requires c κs = search needs
 
 returns : tie.Need-returns
-returns c = patch-text _ (c .before .before .before .args .title) _ _ _ (c .before .patch .result) (c .before .patch .ensures 13) _ (c .choose .ensures)
+returns c = patch-text _ (c .before .before .before .before .args .title) _ _ _ (c .before .patch .result) (c .before .patch .ensures 13) _ (c .choose .ensures)
 
 pub text-patched-spec : {M : Type 1} → statement M
 text-patched-spec = tie.close (tie.spec patch-requires choose-requires returns)
