@@ -1,3 +1,4 @@
 pub mod Surrogates
 pub mod Answer
 pub mod Judged
+pub mod Slashes

@@ -3,17 +3,16 @@ ghost use mathlib.Core.Path.{_≡_};
 ghost use Rattle.json_ends.specs.Ends.{Ends};
 ghost use Rattle.json.specs.Answer.{answerOf};
 ghost use Rattle.json.specs.Judged.{Judged};
-use crate::surrogates::pairs;
-use json_ends::filling::fill;
+use crate::slashes::paired;
+use json_ends::whole::whole;
 use json_names::whole::text_fault;
 use json_text::Read;
-use json_value::whole::whole;
 
 // A text longer than this many bytes answers 1.
 pub const LIMIT: usize = 65536;
 
-// The answer, with a table of ends that is filled on the way: where the answer is 0 it spares later walks the reading of
-// what they pass over.
+// The answer, with a table of ends that is filled on the way: it spares the walks, and those that follow, the reading of what
+// they pass over.
 pub fn judge(text: &[u8], ends: &mut [u32]) -> u32
     requires { ⌜ Ends (now text) (now ends) ⌝ }
     ensures { λ r. ⌜ Judged (now (text .entry)) (now (ends .exit)) r ⌝ }
@@ -21,10 +20,9 @@ pub fn judge(text: &[u8], ends: &mut [u32]) -> u32
     if LIMIT < text.len() {
         return 1;
     }
-    match whole(text) {
-        Read::To(_) => match pairs(text) {
+    match whole(text, ends) {
+        Read::To(_) => match paired(text) {
             Read::To(_) => {
-                fill(text, ends);
                 if text_fault(text, ends) {
                     return 4;
                 }

@@ -1,8 +1,9 @@
-// Where the arrays and objects of a text end, in a table that is filled once and lent to the walks: they pass over a
-// value by one look. What the table says of a place is true or nothing, so it costs no answer: a value that it does
-// not know is read.
+// Where the values and names of a text end, in a table that is filled while the text is read and lent to the walks: they
+// pass over a name or a value by one look. What the table says of a place is true or nothing, so it costs no answer: a
+// value that it does not know is read.
 pub mod arrays;
-pub mod filling;
-pub mod marks;
+pub mod keeping;
 pub mod objects;
+pub mod reading;
 pub mod table;
+pub mod whole;

@@ -2,9 +2,12 @@
 ghost use mathlib.Core.Path.{_≡_};
 ghost use Prim.Native.Nat.{_/_, _%_};
 ghost use lib.ListN.{getD};
+ghost use Rattle.json_text.specs.Strings.{stringAt};
 ghost use Rattle.json_value.specs.Values.{valueAt};
 ghost use Rattle.json_ends.specs.Ends.{Ends};
 use json_text::Read;
+use json_text::bytes::byte;
+use json_text::strings::string;
 use json_value::values::value;
 
 // An entry is an end times this, and the levels that the value was read with.
@@ -46,4 +49,19 @@ pub fn past(text: &[u8], ends: &[u32], at: usize, left: usize) -> Read
         return value(text, at, left);
     }
     Read::To(end_of(e))
+}
+
+// The string at a place, as `string` reads it; by one look where the table knows it: a string is a value, of no level.
+pub fn string_past(text: &[u8], ends: &[u32], at: usize) -> Read
+    requires { ⌜ Ends (now text) (now ends) ⌝ }
+    ensures { λ r. ⌜ r ≡ stringAt (now (text .entry)) at ⌝ }
+{
+    if byte(text, at) != 0x22 {
+        return Read::Bad;
+    }
+    let known = entry(ends, at);
+    if known < STEP {
+        return string(text, at);
+    }
+    Read::To(end_of(known))
 }

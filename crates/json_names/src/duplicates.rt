@@ -1,6 +1,6 @@
 // Equal names in an object of any size: up to 3 names are compared each with each, more are sorted, in room that is
-// lent. A comparison of two names reads at most the bytes of the shorter, so sorting reads each byte of a name at most
-// once a pass, 14 passes at most.
+// lent: many by their keys first, and by the names where the keys do not tell them apart. A comparison of two names reads
+// at most the bytes of the shorter, so sorting reads each byte of a name at most once a pass, 14 passes at most.
 ghost use mathlib.Core.Path.{_≡_};
 ghost use Prim.Native.Nat.{_≤_, _<_};
 ghost use Rattle.json_ends.specs.Ends.{Ends};
@@ -9,8 +9,10 @@ ghost use Rattle.json_walk.specs.Walk.{membersOf};
 ghost use Rattle.json_names.specs.Names.{repeats, badNames};
 use crate::names::repeated;
 use crate::names::slash_named;
+use crate::radix::by_keys;
 use crate::sort::collect;
-use crate::sort::sort;
+use crate::sort::tidy;
+use crate::sorted::index;
 use crate::sorted::judge;
 use json_ends::objects::first_member;
 use json_ends::objects::next_member;
@@ -44,8 +46,10 @@ pub fn repeated_in(
     ensures { λ r. ⌜ r ≡ repeats (now (text .entry)) (membersOf (now (text .entry)) at) ⌝ }
 {
     let k = collect(text, ends, at, order);
-    sort(text, order, spare, k);
-    judge(text, ends, at, order, k)
+    by_keys(order, spare, k);
+    tidy(text, order, spare, k);
+    index(order, spare, k);
+    judge(text, ends, at, order, spare, k)
 }
 
 // Have two members equal names?

@@ -2,8 +2,10 @@
 // be JSON.
 pub mod duplicates;
 pub mod faults;
+pub mod keys;
 pub mod names;
 pub mod order;
+pub mod radix;
 pub mod sort;
 pub mod sorted;
 pub mod whole;

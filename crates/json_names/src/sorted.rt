@@ -12,8 +12,8 @@ use crate::names::among;
 use crate::names::repeated;
 use crate::order::entry_before;
 use crate::order::name_of;
-use crate::order::raw_before;
 use crate::order::stop_of;
+use crate::radix::put;
 use json_ends::objects::first_member;
 use json_ends::objects::next_member;
 use json_walk::MemberStep;
@@ -55,29 +55,32 @@ pub fn rising(text: &[u8], order: &[u64], k: usize) -> usize
     i
 }
 
-// Where a name belongs among the first k entries, by halving.
-pub fn locate(text: &[u8], order: &[u64], k: usize, a: usize, d: usize) -> usize {
-    let mut low = 0;
-    let mut high = k;
-    let mut n: usize = 64;
-    while 0 < n {
-        if high <= low {
-            return low;
-        }
-        n -= 1;
-        let middle = low + (high - low) / 2;
-        let e = entry(order, middle);
-        if raw_before(text, name_of(e), stop_of(e), a, d) {
-            low = middle + 1;
-        } else {
-            high = middle;
-        }
+// Writes, for each of the first k entries, its index where `locate` looks for it. A member takes five bytes at least, so
+// no two names fall together.
+pub fn index(order: &[u64], places: &mut [u64], k: usize)
+    ensures { λ r. ⌜ length (now (places .exit)) ≡ length (now (places .entry)) ⌝ }
+{
+    let mut i = 0;
+    while i < k {
+        put(places, name_of(entry(order, i)) / 5, i as u64);
+        i += 1;
     }
-    low
+}
+
+// Which entry is that of the name at a place, if `index` wrote it.
+pub fn locate(places: &[u64], name: usize) -> usize {
+    entry(places, name / 5) as usize
 }
 
 // Are all names of the object at a place among the first k entries?
-pub fn covered(text: &[u8], ends: &[u32], at: usize, order: &[u64], k: usize) -> bool
+pub fn covered(
+    text: &[u8],
+    ends: &[u32],
+    at: usize,
+    order: &[u64],
+    places: &[u64],
+    k: usize,
+) -> bool
     requires { ⌜ (at < length (now text)) × Ends (now text) (now ends) ⌝ }
     ensures { λ r. ⌜ (r ≡ true → Covered (now (order .entry)) k at (membersOf (now (text .entry)) at)) ⌝ }
 {
@@ -87,7 +90,7 @@ pub fn covered(text: &[u8], ends: &[u32], at: usize, order: &[u64], k: usize) ->
     while 0 < n {
         match step {
             MemberStep::One(m) => {
-                let t = locate(text, order, k, m.name, m.stop);
+                let t = locate(places, m.name);
                 let e = entry(order, t);
                 if m.name <= last {
                     return false;
@@ -134,7 +137,7 @@ pub fn again(text: &[u8], ends: &[u32], at: usize, name: usize) -> bool
 }
 
 // Have two members equal names? By k entries that should be all names, sorted.
-pub fn judge(text: &[u8], ends: &[u32], at: usize, order: &[u64], k: usize) -> bool
+pub fn judge(text: &[u8], ends: &[u32], at: usize, order: &[u64], places: &[u64], k: usize) -> bool
     requires { ⌜ (at < length (now text)) × Ends (now text) (now ends) ⌝ }
     ensures { λ r. ⌜ r ≡ repeats (now (text .entry)) (membersOf (now (text .entry)) at) ⌝ }
 {
@@ -148,7 +151,7 @@ pub fn judge(text: &[u8], ends: &[u32], at: usize, order: &[u64], k: usize) -> b
         }
         return repeated(text, ends, at);
     }
-    if covered(text, ends, at, order, k) {
+    if covered(text, ends, at, order, places, k) {
         return false;
     }
     repeated(text, ends, at)

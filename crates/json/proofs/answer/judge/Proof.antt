@@ -15,14 +15,11 @@ whole-requires c κs = search needs
 enum-told : tie.Need-enum-told
 enum-told c = search needs
 
-pairs-requires : tie.Need-pairs-requires
-pairs-requires c κs = search needs
+paired-requires : tie.Need-paired-requires
+paired-requires c κs = search needs
 
 enum-told-2 : tie.Need-enum-told-2
 enum-told-2 c = search needs
-
-fill-requires : tie.Need-fill-requires
-fill-requires c κs = search needs
 
 text-fault-requires : tie.Need-text-fault-requires
 text-fault-requires c κs = search needs
@@ -33,18 +30,7 @@ same-length c = search needs
 returns-2 : tie.Need-returns-2
 unfolding answerOf readAnswer pairedAnswer
 returns-2 c =
-    record {
-      is = rw (
-        le-ltb _ _ (c .before .before .before .before .before .before .before .before .before .before .before .before .before .if1 .left),
-        ← (c .before .before .before .before .before .before .before .before .before .before .before .before .whole .ensures),
-        c .before .before .before .before .before .before .before .before .before .before .enum-told .given .1,
-        ← (c .before .before .before .before .before .before .before .before .before .pairs .ensures),
-        c .before .before .before .before .before .before .before .enum-told2 .given .1,
-        ← (c .before .text-fault .ensures),
-        c .if2 .taken,
-      );
-      ends = search needs;
-    }
+    record { is = rw (le-ltb _ _ (c .before .before .before .before .before .before .before .before .before .before .before .before .if1 .left), ← (c .before .before .before .before .before .before .before .before .before .before .whole .ensures .is), c .before .before .before .before .before .before .enum-told .given .1, ← (c .before .before .before .before .before .paired .ensures), c .before .before .before .enum-told2 .given .1, ← (c .before .text-fault .ensures), c .if2 .taken); ends = search needs }
 
 enum-told-3 : tie.Need-enum-told-3
 enum-told-3 c = search needs
@@ -64,59 +50,39 @@ same-length-2 c = search needs
 returns-3 : tie.Need-returns-3
 unfolding answerOf readAnswer pairedAnswer
 returns-3 c =
-    record {
-      is = rw (
-        le-ltb _ _ (c .before .before .before .before .before .before .before .before .before .before .before .before .before .if1 .left),
-        ← (c .before .before .before .before .before .before .before .before .before .before .before .before .whole .ensures),
-        c .before .before .before .before .before .before .before .before .before .before .enum-told .given .1,
-        ← (c .before .before .before .before .before .before .before .before .before .pairs .ensures),
-        c .before .before .before .before .before .before .before .enum-told2 .given .1,
-        ← (c .before .text-fault .ensures),
-        c .if2 .left,
-      );
-      ends = search needs;
-    }
+    record { is = rw (le-ltb _ _ (c .before .before .before .before .before .before .before .before .before .before .before .before .if1 .left), ← (c .before .before .before .before .before .before .before .before .before .before .whole .ensures .is), c .before .before .before .before .before .before .enum-told .given .1, ← (c .before .before .before .before .before .paired .ensures), c .before .before .before .enum-told2 .given .1, ← (c .before .text-fault .ensures), c .if2 .left); ends = search needs }
+
+same-length-3 : tie.Need-same-length-3
+same-length-3 c = search needs
 
 returns-4 : tie.Need-returns-4
 unfolding answerOf readAnswer pairedAnswer
 returns-4 c =
-    record { is = rw (le-ltb _ _ (c .before .before .before .before .before .before .if1 .left), ← (c .before .before .before .before .before .whole .ensures), c .before .before .before .enum-told .given .1, ← (c .before .before .pairs .ensures), c .enum-told3 .given .1); ends = search needs }
+    record { is = rw (le-ltb _ _ (c .before .before .before .before .before .before .before .before .before .if1 .left), ← (c .before .before .before .before .before .before .before .whole .ensures .is), c .before .before .before .enum-told .given .1, ← (c .before .before .paired .ensures), c .enum-told3 .given .1); ends = search needs }
+
+same-length-4 : tie.Need-same-length-4
+same-length-4 c = search needs
 
 returns-5 : tie.Need-returns-5
 unfolding answerOf readAnswer pairedAnswer
 returns-5 c =
-    record { is = rw (le-ltb _ _ (c .before .before .before .before .before .before .if1 .left), ← (c .before .before .before .before .before .whole .ensures), c .before .before .before .enum-told .given .1, ← (c .before .before .pairs .ensures), c .enum-told4 .given .1); ends = search needs }
+    record { is = rw (le-ltb _ _ (c .before .before .before .before .before .before .before .before .before .if1 .left), ← (c .before .before .before .before .before .before .before .whole .ensures .is), c .before .before .before .enum-told .given .1, ← (c .before .before .paired .ensures), c .enum-told4 .given .1); ends = search needs }
+
+same-length-5 : tie.Need-same-length-5
+same-length-5 c = search needs
 
 returns-6 : tie.Need-returns-6
 unfolding answerOf readAnswer pairedAnswer
 returns-6 c =
-    record { is = rw (le-ltb _ _ (c .before .before .before .if1 .left), ← (c .before .before .whole .ensures), c .enum-told5 .given .1); ends = search needs }
+    record { is = rw (le-ltb _ _ (c .before .before .before .before .before .before .if1 .left), ← (c .before .before .before .before .whole .ensures .is), c .enum-told5 .given .1); ends = search needs }
+
+same-length-6 : tie.Need-same-length-6
+same-length-6 c = search needs
 
 returns-7 : tie.Need-returns-7
 unfolding answerOf readAnswer pairedAnswer
 returns-7 c =
-    record { is = rw (le-ltb _ _ (c .before .before .before .if1 .left), ← (c .before .before .whole .ensures), c .enum-told6 .given .1); ends = search needs }
+    record { is = rw (le-ltb _ _ (c .before .before .before .before .before .before .if1 .left), ← (c .before .before .before .before .whole .ensures .is), c .enum-told6 .given .1); ends = search needs }
 
 pub judge-spec : {M : Type 1} → statement M
-judge-spec =
-    tie.close
-    (tie.spec
-    returns
-    whole-requires
-    enum-told
-    pairs-requires
-    enum-told-2
-    fill-requires
-    text-fault-requires
-    same-length
-    returns-2
-    enum-told-3
-    enum-told-4
-    enum-told-5
-    enum-told-6
-    same-length-2
-    returns-3
-    returns-4
-    returns-5
-    returns-6
-    returns-7)
+judge-spec = tie.close (tie.spec returns whole-requires enum-told paired-requires enum-told-2 text-fault-requires same-length returns-2 enum-told-3 enum-told-4 enum-told-5 enum-told-6 same-length-2 returns-3 same-length-3 returns-4 same-length-4 returns-5 same-length-5 returns-6 same-length-6 returns-7)

@@ -3,8 +3,8 @@ use borrow.Author.Needs.{needs}
 use Rattle.json_ends.proofs.objects.member.Statement.{statement}
 use Rattle.json_ends.proofs.objects.member.Tie as tie
 
-string-requires : tie.Need-string-requires
-string-requires c κs = search needs
+string-past-requires : tie.Need-string-past-requires
+string-past-requires c κs = search needs
 
 enum-known-j : tie.Need-enum-known-j
 enum-known-j c = search needs
@@ -43,7 +43,7 @@ returns : tie.Need-returns
 unfolding memberAt
 returns c =
     rw (
-      ← (c .before .before .before .before .before .before .before .before .before .before .before .string .ensures),
+      ← (c .before .before .before .before .before .before .before .before .before .before .before .string-past .ensures),
       c .before .before .before .before .before .before .before .before .before .j .given .1,
       ← (c .before .before .before .before .before .before .before .colon .ensures),
       c .before .before .before .before .before .v .given .1,
@@ -55,7 +55,7 @@ returns-2 : tie.Need-returns-2
 unfolding memberAt
 returns-2 c =
     rw (
-      ← (c .before .before .before .before .before .before .before .before .before .before .string .ensures),
+      ← (c .before .before .before .before .before .before .before .before .before .before .string-past .ensures),
       c .before .before .before .before .before .before .before .before .j .given .1,
       ← (c .before .before .before .before .before .before .colon .ensures),
       c .before .before .before .before .v .given .1,
@@ -67,7 +67,7 @@ returns-3 : tie.Need-returns-3
 unfolding memberAt
 returns-3 c =
     rw (
-      ← (c .before .before .before .before .before .before .before .before .before .before .string .ensures),
+      ← (c .before .before .before .before .before .before .before .before .before .before .string-past .ensures),
       c .before .before .before .before .before .before .before .before .j .given .1,
       ← (c .before .before .before .before .before .before .colon .ensures),
       c .before .before .before .before .v .given .1,
@@ -79,7 +79,7 @@ returns-4 : tie.Need-returns-4
 unfolding memberAt
 returns-4 c =
     rw (
-      ← (c .before .before .before .before .before .before .string .ensures),
+      ← (c .before .before .before .before .before .before .string-past .ensures),
       c .before .before .before .before .j .given .1,
       ← (c .before .before .colon .ensures),
       c .enum-told3 .given .1,
@@ -89,7 +89,7 @@ returns-5 : tie.Need-returns-5
 unfolding memberAt
 returns-5 c =
     rw (
-      ← (c .before .before .before .before .before .before .string .ensures),
+      ← (c .before .before .before .before .before .before .string-past .ensures),
       c .before .before .before .before .j .given .1,
       ← (c .before .before .colon .ensures),
       c .enum-told4 .given .1,
@@ -99,7 +99,7 @@ returns-6 : tie.Need-returns-6
 unfolding memberAt
 returns-6 c =
     rw (
-      ← (c .before .before .string .ensures),
+      ← (c .before .before .string-past .ensures),
       c .enum-told5 .given .1,
     )
 
@@ -107,9 +107,9 @@ returns-7 : tie.Need-returns-7
 unfolding memberAt
 returns-7 c =
     rw (
-      ← (c .before .before .string .ensures),
+      ← (c .before .before .string-past .ensures),
       c .enum-told6 .given .1,
     )
 
 pub member-spec : {M : Type 1} → statement M
-member-spec = tie.close (tie.spec string-requires enum-known-j colon-requires enum-known-v past-requires enum-known-e enum-told enum-told-2 enum-told-3 enum-told-4 enum-told-5 enum-told-6 returns returns-2 returns-3 returns-4 returns-5 returns-6 returns-7)
+member-spec = tie.close (tie.spec string-past-requires enum-known-j colon-requires enum-known-v past-requires enum-known-e enum-told enum-told-2 enum-told-3 enum-told-4 enum-told-5 enum-told-6 returns returns-2 returns-3 returns-4 returns-5 returns-6 returns-7)

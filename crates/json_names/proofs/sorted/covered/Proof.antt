@@ -8,10 +8,10 @@ use Rattle.json_names.proofs.sorted.covered.Statement.{statement}
 use Rattle.json_names.proofs.sorted.covered.Tie as tie
 
 abbrev Inv-loop : tie.InvT-loop
-Inv-loop text ends at order k step₀ last₀ n₀ step last n = Covered order k last (membersFrom n text step) → Covered order k at (membersOf text at)
+Inv-loop text ends at order places k step₀ last₀ n₀ step last n = Covered order k last (membersFrom n text step) → Covered order k at (membersOf text at)
 
 abbrev μ-loop : tie.MeasureT-loop
-μ-loop text ends at order k step₀ last₀ n₀ step last n = n
+μ-loop text ends at order places k step₀ last₀ n₀ step last n = n
 
 first-member-requires : tie.Need-first-member-requires Inv-loop μ-loop
 first-member-requires c κs = search needs

@@ -50,8 +50,8 @@ covered-requires c κs = search needs
 
 returns-4 : tie.Need-returns-4
 returns-4 c =
-    let q : c .before .before .before .before .before .before .before .before .args .k ≤ c .before .before .before .before .rising .result + 1 = omega arith in
-    sym (distinct _ _ (c .before .before .before .before .rising .result) (c .before .before .before .before .before .before .before .before .args .k) (c .before .before .before .before .rising .ensures) q _ _ (c .before .covered .ensures (c .if4 .taken)))
+    let q : c .before .before .before .before .before .before .before .before .before .args .k ≤ c .before .before .before .before .rising .result + 1 = omega arith in
+    sym (distinct _ _ (c .before .before .before .before .rising .result) (c .before .before .before .before .before .before .before .before .before .args .k) (c .before .before .before .before .rising .ensures) q _ _ (c .before .covered .ensures (c .if4 .taken)))
 
 repeated-requires-2 : tie.Need-repeated-requires-2
 repeated-requires-2 c κs = search needs
