@@ -5,6 +5,7 @@ use rule::Day;
 pub mod last;
 pub mod leaps;
 pub mod places;
+mod plain;
 pub mod runs;
 pub mod settle;
 pub mod skips;
