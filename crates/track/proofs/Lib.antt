@@ -6,3 +6,4 @@ pub mod SkipLaws
 pub mod SpanLaws
 pub mod PlaceLaws
 pub mod PlainLaws
+pub mod AheadLaws

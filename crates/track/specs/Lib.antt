@@ -5,3 +5,4 @@ pub mod Settle
 pub mod Skips
 pub mod Places
 pub mod Plain
+pub mod Ahead

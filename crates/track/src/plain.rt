@@ -5,11 +5,22 @@ ghost use Prim.Native.Nat.{_<_, _≤_};
 ghost use lib.ListN.{length};
 ghost use Rattle.rule.specs.Day.{dayAt};
 ghost use Rattle.rule.specs.Gives.{endDay};
-ghost use Rattle.matcher.specs.Walk.{Asked};
+ghost use Rattle.matcher.specs.Walk.{Asked, picksOnBy};
 ghost use Rattle.track.specs.Runs.{hasDay, marked, Marking};
 ghost use Rattle.track.specs.Plain.{InMonth, Part};
 use super::Track;
+use matcher::Terms;
 use rule::Day;
+
+pub fn picks_plain(terms: Terms, flags: &[bool], x: Day) -> bool
+    requires { ⌜ (terms .placed ≡ false) × Asked terms (length (now flags)) x ⌝ }
+    ensures { λ r. ⌜ r ≡ picksOnBy terms (now (flags .entry)) (x .number) ⌝ }
+{
+    if !matcher::flags::stays(flags, terms.inyear, x) {
+        return false;
+    }
+    matcher::walk::in_step(terms, x)
+}
 
 fn has_plain(track: Track, flags: &[bool], begin: u32, x: Day) -> bool
     requires { ⌜ (track .terms .placed ≡ false) × Asked (track .terms) (length (now flags)) x ⌝ }
@@ -23,11 +34,7 @@ fn has_plain(track: Track, flags: &[bool], begin: u32, x: Day) -> bool
     if last <= day {
         return false;
     }
-    let terms = track.terms;
-    if !matcher::flags::stays(flags, terms.inyear, x) {
-        return false;
-    }
-    matcher::walk::in_step(terms, x)
+    picks_plain(track.terms, flags, x)
 }
 
 // The days of one month from x on, as many as there are hits.
@@ -47,7 +54,7 @@ fn mark_month(track: Track, flags: &[bool], hits: &mut [bool], x: Day, begin: u3
 }
 
 // How many of the days that are left lie in the month of x.
-fn month_part(x: Day, left: usize) -> usize
+pub fn month_part(x: Day, left: usize) -> usize
     requires { ⌜ (x ≡ dayAt (x .number)) × ((x .number < endDay) × (1 ≤ left)) ⌝ }
     ensures { λ r. ⌜ Part x left r ⌝ }
 {
