@@ -86,38 +86,26 @@ fn pass_months(
     let mut left = limit - first;
     let mut more = count;
     while 0 < left {
-        let here = x;
+        let d = x;
         if more == 0 {
-            return Rest {
-                day: here,
-                left,
-                more,
-            };
+            return Rest { day: d, left, more };
         }
-        let out = out_after(terms, flags, first, here);
+        let out = out_after(terms, flags, first, d);
         if 0 < out {
             if left <= out {
-                return Rest {
-                    day: here,
-                    left,
-                    more,
-                };
+                return Rest { day: d, left, more };
             }
             left -= out;
-            x = super::leaps::days_later(here, out);
+            x = super::leaps::days_later(d, out);
         } else {
-            let n = super::plain::month_part(here, left as usize) as u32;
-            let found = count_month(excluded, end, terms, flags, start, here, n);
+            let n = super::plain::month_part(d, left as usize) as u32;
+            let found = count_month(excluded, end, terms, flags, start, d, n);
             if more <= found as u64 {
-                return Rest {
-                    day: here,
-                    left,
-                    more,
-                };
+                return Rest { day: d, left, more };
             }
             more -= found as u64;
             left -= n;
-            x = super::leaps::days_later(here, n);
+            x = super::leaps::days_later(d, n);
         }
     }
     Rest { day: x, left, more }
