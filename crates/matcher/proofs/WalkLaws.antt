@@ -7,7 +7,7 @@ use native.Mathlib.Omega.{arith}
 use native.Mathlib.Nat.{zero-mod, mod-zero}
 use native.Mathlib.Numerals.{add-one, sub-one}
 use lib.Dec.{eqb}
-use borrow.Author.Tests.{ne-eqb}
+use borrow.Author.Tests.{eq-eqb, ne-eqb}
 use Rattle.signed.specs.Choose.{if_then_else_}
 use Rattle.gregorian.specs.Days.{dayCount}
 use Rattle.rule.specs.declared.Day.{Day}
@@ -23,6 +23,12 @@ use Rattle.matcher.specs.Flags.{Places, named, staysBy}
 use Rattle.matcher.specs.Walk.{Asked, staysOnBy, stepBy, placedBy, picksBy, picksOnBy}
 
 -- ---- the interval
+
+pub step-each : (t : Terms) (x : Day) → t .interval ≡ 1 → true ≡ stepBy t x
+unfolding stepBy
+step-each t x e =
+    let none : (periodOf (t .frequency) (t .first) x - t .period) % 1 ≡ 0 = omega arith in
+    rw e (sym (eq-eqb _ 0 none))
 
 module _ (t : Terms) (x : Day) (period : ℕ) (is : period ≡ periodOf (t .frequency) (t .first) x) where
   pub step-first : period ≤ t .period → true ≡ stepBy t x

@@ -16,6 +16,11 @@ pub fn in_step(terms: Terms, x: Day) -> bool
     requires { ⌜ (terms .first < 7) × (InCalendar x × (x .number < dayCount)) ⌝ }
     ensures { λ r. ⌜ r ≡ stepBy terms x ⌝ }
 {
+    let interval = terms.interval;
+    // Most rules: no division for each day.
+    if interval == 1 {
+        return true;
+    }
     let frequency = terms.frequency;
     let period = super::periods::period_of(frequency, terms.first, x);
     let start = terms.period;
@@ -23,7 +28,6 @@ pub fn in_step(terms: Terms, x: Day) -> bool
         return true;
     }
     let later = period - start;
-    let interval = terms.interval;
     if interval == 0 {
         return false;
     }

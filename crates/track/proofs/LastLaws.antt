@@ -20,6 +20,7 @@ use Rattle.matcher.specs.declared.Terms.{Terms}
 use Rattle.matcher.specs.Walk.{picksBy, picksOnBy}
 use Rattle.matcher.specs.Member.{isFirst, fallsBy, fallsOnBy}
 use Rattle.track.specs.Last.{untilDay, endOf}
+use Rattle.track.specs.Ahead.{EndAt}
 use Rattle.track.specs.Skips.{Between}
 
 -- ---- one turn
@@ -63,11 +64,6 @@ end-skips p k d n some-left (suc g) h out =
     ∙ end-no p (k - g) (d + g) n (omega arith) some-left (out (d + g) (omega arith) (omega arith)))
 
 -- ---- the walk: from here on it ends where it ends from the start on
-
-pub record EndAt (p : ℕ → Bool) (first limit count d left more : ℕ) : Type 0 where
-  pub low : first ≤ d
-  pub ends : d + left ≡ limit
-  pub same : endOf p left d more ≡ endOf p (limit - first) first count
 
 module _ (p : ℕ → Bool) (first limit count : ℕ) where
   pub end-starts : (d : ℕ) → d ≡ first → first < limit → EndAt p first limit count d (limit - first) count

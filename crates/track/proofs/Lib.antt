@@ -5,3 +5,5 @@ pub mod SettleLaws
 pub mod SkipLaws
 pub mod SpanLaws
 pub mod PlaceLaws
+pub mod PlainLaws
+pub mod AheadLaws

@@ -4,3 +4,5 @@ pub mod Last
 pub mod Settle
 pub mod Skips
 pub mod Places
+pub mod Plain
+pub mod Ahead

@@ -27,7 +27,7 @@ fn until_day(start: u64, until: u64) -> u32
 }
 
 // The start's own day, which a rule has even unmatched and an excluded rule has not.
-fn is_first(excluded: bool, first: u32, day: u32) -> bool
+pub fn is_first(excluded: bool, first: u32, day: u32) -> bool
     ensures { λ r. ⌜ r ≡ isFirst excluded first day ⌝ }
 {
     if excluded {
@@ -36,7 +36,7 @@ fn is_first(excluded: bool, first: u32, day: u32) -> bool
     day == first
 }
 
-fn not_after(end: End, at: u64) -> bool
+pub fn not_after(end: End, at: u64) -> bool
     ensures { λ r. ⌜ r ≡ notAfter at (untilFrom end) ⌝ }
 {
     match end {
@@ -81,9 +81,11 @@ fn count_day(
         return first;
     }
     let need = super::places::least_days(terms, flags);
-    let mut c = super::steps::cursor_at(terms, flags, first);
-    let mut left = limit - first;
-    let mut more = count;
+    let from = super::ahead::count_from(excluded, end, terms, flags, start, limit, count);
+    let x = from.day;
+    let mut c = super::steps::cursor_on(terms, flags, x);
+    let mut left = from.left;
+    let mut more = from.more;
     while 0 < left {
         if more == 0 {
             return limit - left;

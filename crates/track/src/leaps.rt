@@ -28,7 +28,7 @@ pub fn in_month(x: Day, k: u32) -> Day
 }
 
 // Most leaps end behind their month: then nothing is looked up.
-fn days_later(x: Day, k: u32) -> Day
+pub fn days_later(x: Day, k: u32) -> Day
     requires { ⌜ (x ≡ dayAt (x .number)) × ((1 ≤ k) × (x .number + k < dayCount)) ⌝ }
     ensures { λ r. ⌜ r ≡ dayAt (x .number + k) ⌝ }
 {

@@ -2,9 +2,11 @@
 use matcher::Terms;
 use rule::Day;
 
+mod ahead;
 pub mod last;
 pub mod leaps;
 pub mod places;
+mod plain;
 pub mod runs;
 pub mod settle;
 pub mod skips;
@@ -22,4 +24,11 @@ pub struct Cursor {
     pub day: Day,
     pub seen: u32,
     pub total: u32,
+}
+
+// A day on the way of a count: the days that are left from it on, and what is left of the count.
+pub struct Rest {
+    pub day: Day,
+    pub left: u32,
+    pub more: u64,
 }

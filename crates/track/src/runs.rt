@@ -23,15 +23,8 @@ fn has_day(track: Track, flags: &[bool], begin: u32, c: Cursor) -> bool
     false
 }
 
-// Hit i of the run stands for day first + i: where the rule has that day, it gets the value.
-pub fn mark_run(
-    track: Track,
-    flags: &[bool],
-    hits: &mut [bool],
-    first: u32,
-    begin: u32,
-    value: bool,
-)
+// From day to day, with what set positions ask for.
+fn mark_placed(track: Track, flags: &[bool], hits: &mut [bool], first: u32, begin: u32, value: bool)
     requires { ⌜ Marking track (length (now flags)) first (length (now hits)) ⌝ }
     ensures { λ r. ⌜ now (hits .exit) ≡ marked (hasDay track (now (flags .entry)) begin) value first (now (hits .entry)) ⌝ }
 {
@@ -58,4 +51,25 @@ pub fn mark_run(
             c = super::leaps::leap(terms, flags, held, gap);
         }
     }
+}
+
+// Hit i of the run stands for day first + i: where the rule has that day, it gets the value.
+pub fn mark_run(
+    track: Track,
+    flags: &[bool],
+    hits: &mut [bool],
+    first: u32,
+    begin: u32,
+    value: bool,
+)
+    requires { ⌜ Marking track (length (now flags)) first (length (now hits)) ⌝ }
+    ensures { λ r. ⌜ now (hits .exit) ≡ marked (hasDay track (now (flags .entry)) begin) value first (now (hits .entry)) ⌝ }
+{
+    let terms = track.terms;
+    let placed = terms.placed;
+    if placed {
+        mark_placed(track, flags, hits, first, begin, value);
+        return;
+    }
+    super::plain::mark_plain(track, flags, hits, first, begin, value);
 }

@@ -37,7 +37,7 @@ fn periods_out(terms: Terms, period: u32) -> u32
     left as u32
 }
 
-fn to_month_end(x: Day) -> u32
+pub fn to_month_end(x: Day) -> u32
     requires { ⌜ (x ≡ dayAt (x .number)) × (x .number < endDay) ⌝ }
     ensures { λ r. ⌜ r ≡ toMonthEnd x ⌝ }
 {
@@ -105,7 +105,7 @@ fn is_carried(frequency: Frequency, placed: bool) -> bool
 }
 
 // Days from this one on that surely are none of the rule's: 0 where nothing is known.
-fn skip(terms: Terms, flags: &[bool], x: Day) -> u32
+pub fn skip(terms: Terms, flags: &[bool], x: Day) -> u32
     requires { ⌜ Asked terms (length (now flags)) x ⌝ }
     ensures { λ r. ⌜ Without (picksOnBy terms (now (flags .entry))) (x .number) r ⌝ }
 {

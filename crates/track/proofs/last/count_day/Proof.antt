@@ -1,8 +1,10 @@
 -- `track::last::count_day` meets its contract. The invariant: from here on the walk ends where it ends from the start on.
-use Rattle.track.proofs.LastLaws.{EndAt, end-none, end-starts, end-found, end-over, end-goes-on, end-leaps, end-nowhere, falls-between}
-use Rattle.track.proofs.StepLaws.{at-number, at-again, held-here}
+use Rattle.track.proofs.LastLaws.{end-none, end-found, end-over, end-goes-on, end-leaps, end-nowhere, falls-between}
+use Rattle.track.proofs.StepLaws.{cursor-at-day, at-number, at-again, held-here}
+use Rattle.track.proofs.AheadLaws.{end-moves}
 use Rattle.track.proofs.SkipLaws.{between-all}
 use Rattle.track.specs.Steps.{cursorAt}
+use Rattle.track.specs.Ahead.{EndAt}
 use Rattle.matcher.specs.Member.{fallsOnBy}
 use Prim.Native.Nat.{_/_, _-_}
 use native.Mathlib.Omega.{arith}
@@ -28,17 +30,20 @@ returns c =
 least-days-requires : tie.Need-least-days-requires Inv-loop μ-loop
 least-days-requires c κs = c .before .before .pre .row-length
 
-cursor-at-requires : tie.Need-cursor-at-requires Inv-loop μ-loop
-cursor-at-requires c κs =
-    let a = c .before .before .before .pre in
-    record { row-length = a .row-length; week = a .week; low = a .low; high = omega (arith, a .high) }
+count-from-requires : tie.Need-count-from-requires Inv-loop μ-loop
+count-from-requires c κs = (c .before .before .before .pre, c .before .if1 .left)
 
-sub-left : tie.Need-sub-left Inv-loop μ-loop
-sub-left c = search needs
+cursor-on-requires : tie.Need-cursor-on-requires Inv-loop μ-loop
+cursor-on-requires c κs =
+    let r = c .before .count-from .ensures in
+    let a = c .before .before .before .before .before .pre in
+    (r .day, record { row-length = a .row-length; week = a .week; low = omega (arith, r .walk .low, a .low); high = omega (arith, r .walk .ends, a .within) })
 
 loop-holds : tie.Need-loop-holds Inv-loop μ-loop
 loop-holds c =
-    (at-again _ _ _ _ (c .cursor-at .ensures), end-starts _ _ _ _ _ (at-number _ _ _ _ (c .cursor-at .ensures)) (c .before .before .if1 .left))
+    let r = c .before .before .count-from .ensures in
+    let e = c .cursor-on .ensures ∙ cursor-at-day _ _ _ _ (r .day) in
+    (at-again _ _ _ _ e, end-moves _ _ _ _ _ _ _ _ (r .walk) (at-number _ _ _ _ e))
 
 sub-result : tie.Need-sub-result Inv-loop μ-loop
 sub-result c = omega (arith, c .before .before .loop .inv .1 .ends)
@@ -51,20 +56,20 @@ returns-2 c =
 falls-requires : tie.Need-falls-requires Inv-loop μ-loop
 falls-requires c κs =
     let w = c .before .before .loop .inv in
-    let a = c .before .before .before .before .before .before .before .pre in
+    let a = c .before .before .before .before .before .before .before .before .before .pre in
     let held = held-here _ _ _ _ (a .row-length) (a .week) (omega (arith, w .1 .low, a .low)) (omega (arith, w .1 .ends, a .within, c .before .loop-test .taken)) (w .0) in
     (held, a .high)
 
 sub-more : tie.Need-sub-more Inv-loop μ-loop
 sub-more c = search needs
 
-sub-left-2 : tie.Need-sub-left-2 Inv-loop μ-loop
-sub-left-2 c = search needs
+sub-left : tie.Need-sub-left Inv-loop μ-loop
+sub-left c = search needs
 
 advance-requires : tie.Need-advance-requires Inv-loop μ-loop
 advance-requires c κs =
     let w = c .before .before .before .before .loop .inv in
-    let a = c .before .before .before .before .before .before .before .before .before .pre in
+    let a = c .before .before .before .before .before .before .before .before .before .before .before .pre in
     let held = held-here _ _ _ _ (a .row-length) (a .week) (omega (arith, w .1 .low, a .low)) (omega (arith, w .1 .ends, a .within, c .before .before .before .loop-test .taken)) (w .0) in
     held
 
@@ -80,9 +85,9 @@ loop-again c =
 gap-requires : tie.Need-gap-requires Inv-loop μ-loop
 gap-requires c κs =
     let w = c .before .before .before .before .loop .inv in
-    let a = c .before .before .before .before .before .before .before .before .before .pre in
+    let a = c .before .before .before .before .before .before .before .before .before .before .before .pre in
     let held = held-here _ _ _ _ (a .row-length) (a .week) (omega (arith, w .1 .low, a .low)) (omega (arith, w .1 .ends, a .within, c .before .before .before .loop-test .taken)) (w .0) in
-    (held, c .before .before .before .before .before .before .least-days .ensures)
+    (held, c .before .before .before .before .before .before .before .before .least-days .ensures)
 
 returns-3 : tie.Need-returns-3 Inv-loop μ-loop
 returns-3 c =
@@ -90,13 +95,13 @@ returns-3 c =
     end-nowhere _ _ _ _ _ _ _ (w .1) _ (c .before .before .before .before .if2 .left)
     (between-all _ _ _ (falls-between _ _ _ _ _ _ _ (w .1 .low) (c .before .gap .ensures)) (sym (c .before .before .before .falls .ensures) ∙ c .before .before .if3 .left)) (c .if4 .taken)
 
-sub-left-3 : tie.Need-sub-left-3 Inv-loop μ-loop
-sub-left-3 c = search needs
+sub-left-2 : tie.Need-sub-left-2 Inv-loop μ-loop
+sub-left-2 c = search needs
 
 leap-requires : tie.Need-leap-requires Inv-loop μ-loop
 leap-requires c κs =
     let w = c .before .before .before .before .before .before .loop .inv in
-    let a = c .before .before .before .before .before .before .before .before .before .before .before .pre in
+    let a = c .before .before .before .before .before .before .before .before .before .before .before .before .before .pre in
     let held = held-here _ _ _ _ (a .row-length) (a .week) (omega (arith, w .1 .low, a .low)) (omega (arith, w .1 .ends, a .within, c .before .before .before .before .before .loop-test .taken)) (w .0) in
     (held, (c .before .gap .ensures .more, omega (arith, w .1 .ends, a .within, c .if4 .left)))
 
@@ -124,20 +129,20 @@ count-day-spec =
     cast-first
     returns
     least-days-requires
-    cursor-at-requires
-    sub-left
+    count-from-requires
+    cursor-on-requires
     loop-holds
     sub-result
     returns-2
     falls-requires
     sub-more
-    sub-left-2
+    sub-left
     advance-requires
     loop-less
     loop-again
     gap-requires
     returns-3
-    sub-left-3
+    sub-left-2
     leap-requires
     loop-less-2
     loop-again-2

@@ -1,4 +1,4 @@
--- `track::runs::mark_run` meets its contract. The invariant: what is marked, and what is left to mark, make the whole.
+-- `track::runs::mark_placed` meets its contract. The invariant: what is marked, and what is left to mark, make the whole.
 use Rattle.track.proofs.RunLaws.{MarkAt, mark-starts, mark-yes, mark-goes-by, mark-rests, mark-ends, run-ended, run-between}
 use Rattle.track.proofs.StepLaws.{at-number, at-leap, held-here}
 use Rattle.track.proofs.SkipLaws.{between-all}
@@ -9,8 +9,8 @@ use Prim.Native.Nat.{_+_, _-_}
 use native.Mathlib.Omega.{arith}
 use mathlib.Core.Path.{_≡_, sym, ap, _∙_}
 use borrow.Author.Needs.{needs}
-use Rattle.track.proofs.runs.mark_run.Statement.{statement}
-use Rattle.track.proofs.runs.mark_run.Tie as tie
+use Rattle.track.proofs.runs.mark_placed.Statement.{statement}
+use Rattle.track.proofs.runs.mark_placed.Tie as tie
 
 abbrev Inv-loop : tie.InvT-loop
 Inv-loop track flags hits₀ first begin value last terms need c₀ i₀ hits c i = (c ≡ cursorAt terms flags (first + i)) × MarkAt (hasDay track flags begin) value first hits₀ hits i
@@ -122,8 +122,8 @@ same-length-2 c = search needs
 returns-3 : tie.Need-returns-3 Inv-loop μ-loop
 returns-3 c = mark-ends _ _ _ _ _ _ (c .before .loop .inv .1) (c .loop-test .left)
 
-pub mark-run-spec : {M : Type 1} → statement M
-mark-run-spec =
+pub mark-placed-spec : {M : Type 1} → statement M
+mark-placed-spec =
     tie.close
     (tie.spec
     Inv-loop

@@ -1,0 +1,116 @@
+-- Months of a count that do not use it up.
+use Prim.Native.Nat.{ℕ, zero, suc, _+_, _-_, _/_, _<_, _≤_}
+use mathlib.Core.Bool.{Bool, true, false}
+use mathlib.Core.List.{List}
+use mathlib.Core.Path.{_≡_, refl, sym, ap, _∙_}
+use native.Mathlib.Omega.{arith}
+use native.Mathlib.Numerals.{add-one}
+use borrow.Author.Tests.{ne-eqb}
+use Rattle.signed.specs.Choose.{if_then_else_}
+use Rattle.rule.specs.declared.End.{End}
+use Rattle.rule.specs.Lists.{countIn}
+use Rattle.rule.proofs.Bools.{by}
+use Rattle.rule.proofs.Counting.{count-more, count-less, count-none}
+use Rattle.matcher.specs.declared.Terms.{Terms}
+use Rattle.matcher.specs.Walk.{picksOnBy}
+use Rattle.matcher.specs.Member.{isFirst, fallsOnBy}
+use Rattle.track.specs.Last.{endOf}
+use Rattle.track.specs.Ahead.{EndAt, OutAfter}
+use Rattle.track.proofs.LastLaws.{end-yes, end-no, end-leaps, falls-by}
+
+-- ---- how many of a month's days pass
+
+pub record CountAt (p : ℕ → Bool) (d n k found : ℕ) : Type 0 where
+  pub within : k ≤ n
+  pub few : found ≤ k
+  pub sum : found + countIn p (d + k) (n - k) ≡ countIn p d n
+
+module _ (p : ℕ → Bool) (d n : ℕ) where
+  pub count-starts : CountAt p d n 0 0
+  count-starts =
+      let here : d + 0 ≡ d = omega arith in
+      let all : n - 0 ≡ n = omega arith in
+      record { within = omega arith; few = omega arith; sum = rw (here, all) (omega arith) }
+
+  module _ (k found : ℕ) (i : CountAt p d n k found) (more : k < n) where
+    one-less : n - k ≡ suc (n - (k + 1))
+    one-less = omega arith
+
+    next : suc (d + k) ≡ d + (k + 1)
+    next = omega arith
+
+    pub count-yes : p (d + k) ≡ true → CountAt p d n (k + 1) (found + 1)
+    count-yes e =
+        let here : countIn p (d + k) (n - k) ≡ suc (countIn p (d + (k + 1)) (n - (k + 1))) =
+        ap (countIn p (d + k)) one-less ∙ (count-more p (d + k) (n - (k + 1)) e ∙ ap (λ (j : ℕ). suc (countIn p j (n - (k + 1)))) next) in
+        record { within = omega arith; few = omega (arith, i .few); sum = omega (arith, i .sum, here) }
+
+    pub count-no : p (d + k) ≡ false → CountAt p d n (k + 1) found
+    count-no e =
+        let here : countIn p (d + k) (n - k) ≡ countIn p (d + (k + 1)) (n - (k + 1)) =
+        ap (countIn p (d + k)) one-less ∙ (count-less p (d + k) (n - (k + 1)) e ∙ ap (λ (j : ℕ). countIn p j (n - (k + 1))) next) in
+        record { within = omega arith; few = omega (arith, i .few); sum = omega (arith, i .sum, here) }
+
+  pub count-ends : (k found : ℕ) → CountAt p d n k found → n ≤ k → found ≡ countIn p d n
+  count-ends k found i over =
+      let none : n - k ≡ 0 = omega arith in
+      let nothing : countIn p (d + k) (n - k) ≡ 0 = ap (countIn p (d + k)) none ∙ count-none p (d + k) in
+      omega (arith, i .sum)
+
+-- ---- days that do not use the count up
+
+end-counts : (p : ℕ → Bool) (g k d n : ℕ) → g ≤ k → countIn p d g < n → endOf p k d n ≡ endOf p (k - g) (d + g) (n - countIn p d g)
+end-counts p zero k d n h few =
+    let nothing = count-none p d in
+    let same : k - 0 ≡ k = omega arith in
+    let here : d + 0 ≡ d = omega arith in
+    let all : n - countIn p d 0 ≡ n = omega arith in
+    rw (same, here, all)
+end-counts p (suc g) k d n h few =
+    by (p d)
+    (λ e.
+    let counted = count-more p d g e in
+    let same : k - 1 - g ≡ k - suc g = omega arith in
+    let there : d + 1 + g ≡ d + suc g = omega arith in
+    let next : countIn p (d + 1) g ≡ countIn p (suc d) g = ap (λ (j : ℕ). countIn p j g) (add-one d) in
+    let rest : n - 1 - countIn p (d + 1) g ≡ n - countIn p d (suc g) = omega arith in
+    end-yes p k d n (omega arith) (λ none. omega arith) e
+    ∙ (end-counts p g (k - 1) (d + 1) (n - 1) (omega arith) (omega arith)
+    ∙ (ap (λ (j : ℕ). endOf p j (d + 1 + g) (n - 1 - countIn p (d + 1) g)) same
+    ∙ (ap (λ (j : ℕ). endOf p (k - suc g) j (n - 1 - countIn p (d + 1) g)) there ∙ ap (endOf p (k - suc g) (d + suc g)) rest))))
+    (λ e.
+    let counted = count-less p d g e in
+    let same : k - 1 - g ≡ k - suc g = omega arith in
+    let there : d + 1 + g ≡ d + suc g = omega arith in
+    let next : countIn p (d + 1) g ≡ countIn p (suc d) g = ap (λ (j : ℕ). countIn p j g) (add-one d) in
+    let rest : n - countIn p (d + 1) g ≡ n - countIn p d (suc g) = omega arith in
+    end-no p k d n (omega arith) (λ none. omega arith) e
+    ∙ (end-counts p g (k - 1) (d + 1) n (omega arith) (omega arith)
+    ∙ (ap (λ (j : ℕ). endOf p j (d + 1 + g) (n - countIn p (d + 1) g)) same
+    ∙ (ap (λ (j : ℕ). endOf p (k - suc g) j (n - countIn p (d + 1) g)) there ∙ ap (endOf p (k - suc g) (d + suc g)) rest))))
+
+pub end-passes : (p : ℕ → Bool) (first limit count d left more : ℕ) → EndAt p first limit count d left more
+    → (next n found : ℕ) → next ≡ d + n → n ≤ left → found ≡ countIn p d n → found < more → EndAt p first limit count next (left - n) (more - found)
+end-passes p first limit count d left more w next n found at h is few =
+    record {
+      low = omega (arith, w .low);
+      ends = omega (arith, w .ends);
+      same = rw (at, is) (sym (end-counts p n left d more h (omega arith)) ∙ w .same);
+    }
+
+pub end-moves : (p : ℕ → Bool) (first limit count d left more e : ℕ) → EndAt p first limit count d left more → e ≡ d
+    → EndAt p first limit count e left more
+end-moves p first limit count d left more e w same =
+    record { low = omega (arith, w .low); ends = omega (arith, w .ends); same = rw same (w .same) }
+
+-- the days behind the start's own that the rule does not pick are not its own
+pub falls-without : (excluded : Bool) (end : End) (t : Terms) (row : List Bool) (start d n : ℕ) → OutAfter t row (start / 86400) d n
+    → (j : ℕ) → d ≤ j → j < d + n → fallsOnBy excluded end t row start j ≡ false
+unfolding isFirst
+falls-without excluded end t row start d n o j low high =
+    let after = o .after (omega arith) in
+    sym (falls-by excluded end t row start j) ∙ rw (o .out .none j low high, ne-eqb j (start / 86400) (omega arith)) (go excluded)
+  where
+    go : (x : Bool) → (if (if x then false else false) then true else false) ≡ false
+    go true = refl
+    go false = refl
