@@ -1,4 +1,5 @@
 // An event on the output: the number, and what was read.
+ghost use Rattle.json_ends.specs.Ends.{Ends};
 use crate::print::mark;
 use crate::print::number;
 use crate::print::passage;
@@ -47,11 +48,13 @@ fn own_of(head: Head) -> Own {
     }
 }
 
-fn override_line(text: &[u8], own: Own, id: u64, gone: bool, at: usize) {
+fn override_line(text: &[u8], ends: &[u32], own: Own, id: u64, gone: bool, at: usize)
+    requires { ⌜ Ends (now text) (now ends) ⌝ }
+{
     say(b"override ");
     number(id);
     mark(b" excluded ", gone);
-    let p = patch(text, at, own, id);
+    let p = patch(text, ends, at, own, id);
     let title = p.title;
     let description = p.description;
     details(
@@ -68,23 +71,26 @@ fn override_line(text: &[u8], own: Own, id: u64, gone: bool, at: usize) {
     );
 }
 
-fn overrides(text: &[u8], own: Own, at: usize) {
+fn overrides(text: &[u8], ends: &[u32], own: Own, at: usize)
+    requires { ⌜ Ends (now text) (now ends) ⌝ }
+{
     let mut ids = [0u64; 256];
     let mut gone = [false; 256];
     let mut places = [0usize; 256];
-    let n = override_text::lists::overrides(text, at, &mut ids, &mut gone, &mut places);
+    let n = override_text::lists::overrides(text, ends, at, &mut ids, &mut gone, &mut places);
     let mut i: usize = 0;
     while i < 256 {
         if n <= i {
             return;
         }
-        override_line(text, own, ids[i], gone[i], places[i]);
+        override_line(text, ends, own, ids[i], gone[i], places[i]);
         i += 1;
     }
 }
 
-fn accepted(text: &[u8]) {
-    let head = event_text::heads::head(text);
+fn accepted(text: &[u8], ends: &[u32], head: Head)
+    requires { ⌜ Ends (now text) (now ends) ⌝ }
+{
     let own = own_of(head);
     say(b"event privacy ");
     let access = head.privacy;
@@ -93,21 +99,30 @@ fn accepted(text: &[u8]) {
     passage(b" zone ", text, zone);
     details(text, own);
     let rules = head.rules;
-    crate::rules::rules(b"rule ", text, rules);
+    crate::rules::rules(b"rule ", text, ends, rules);
     let excluded = head.excluded;
-    crate::rules::rules(b"excluded ", text, excluded);
+    crate::rules::rules(b"excluded ", text, ends, excluded);
     let patches = head.overrides;
     match patches {
         Place::None => {}
-        Place::At(at) => overrides(text, own, at),
+        Place::At(at) => overrides(text, ends, own, at),
+    }
+}
+
+fn judged(text: &[u8], ends: &[u32])
+    requires { ⌜ Ends (now text) (now ends) ⌝ }
+{
+    let head = event_text::heads::head(text, ends);
+    let answer = event_text::whole::event_fault(text, ends, head);
+    number(answer as u64);
+    say(b"\n");
+    if answer == 0 {
+        accepted(text, ends, head);
     }
 }
 
 pub fn event(text: &[u8]) {
-    let answer = event_text::whole::event_fault(text);
-    number(answer as u64);
-    say(b"\n");
-    if answer == 0 {
-        accepted(text);
-    }
+    let mut ends = [0u32; 65536];
+    json::answer::judge(text, &mut ends);
+    judged(text, &ends);
 }

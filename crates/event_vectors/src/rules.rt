@@ -1,4 +1,5 @@
 // A list of rules on the output, a line each.
+ghost use Rattle.json_ends.specs.Ends.{Ends};
 use crate::print::number;
 use crate::print::say;
 use crate::print::signed;
@@ -92,8 +93,10 @@ fn lists(rule: Rule) {
     numbers(b" positions", &positions, rule.positioncount);
 }
 
-fn line(kind: &[u8], text: &[u8], at: usize) {
-    let read = rule_text::rules::read_rule(text, at);
+fn line(kind: &[u8], text: &[u8], ends: &[u32], at: usize)
+    requires { ⌜ Ends (now text) (now ends) ⌝ }
+{
+    let read = rule_text::rules::read_rule(text, ends, at);
     let fault = read.fault;
     if fault == 0 {
         let rule = read.rule;
@@ -111,23 +114,27 @@ fn line(kind: &[u8], text: &[u8], at: usize) {
     }
 }
 
-fn all(kind: &[u8], text: &[u8], at: usize) {
+fn all(kind: &[u8], text: &[u8], ends: &[u32], at: usize)
+    requires { ⌜ Ends (now text) (now ends) ⌝ }
+{
     let mut places = [0usize; 8];
-    let n = rule_text::places::rule_places(text, at, &mut places);
+    let n = rule_text::places::rule_places(text, ends, at, &mut places);
     let mut i: usize = 0;
     while i < 8 {
         if n <= i {
             return;
         }
         let place = places[i];
-        line(kind, text, place);
+        line(kind, text, ends, place);
         i += 1;
     }
 }
 
-pub fn rules(kind: &[u8], text: &[u8], place: Place) {
+pub fn rules(kind: &[u8], text: &[u8], ends: &[u32], place: Place)
+    requires { ⌜ Ends (now text) (now ends) ⌝ }
+{
     match place {
         Place::None => {}
-        Place::At(at) => all(kind, text, at),
+        Place::At(at) => all(kind, text, ends, at),
     }
 }

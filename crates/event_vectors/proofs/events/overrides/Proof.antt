@@ -8,10 +8,10 @@ use Rattle.event_vectors.proofs.events.override_line.Reads as override-
 use Rattle.override_text.proofs.lists.overrides.Reads as overrides-reads
 
 abbrev Inv-loop : tie.InvT-loop
-Inv-loop text own at ids gone places n i₀ i = i ≤ 256
+Inv-loop text ends own at ids gone places n i₀ i = i ≤ 256
 
 abbrev μ-loop : tie.MeasureT-loop
-μ-loop text own at ids gone places n i₀ i = 256 - i
+μ-loop text ends own at ids gone places n i₀ i = 256 - i
 
 -- src/events.rt:75:55
 slice-aggregate-overrides : tie.Need-slice-aggregate-overrides Inv-loop μ-loop

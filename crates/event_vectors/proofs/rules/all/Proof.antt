@@ -8,10 +8,10 @@ use Rattle.event_vectors.proofs.rules.line.Reads as line-reads
 use Rattle.rule_text.proofs.places.rule_places.Reads as rule-places-reads
 
 abbrev Inv-loop : tie.InvT-loop
-Inv-loop kind text at places n i₀ i = i ≤ 8
+Inv-loop kind text ends at places n i₀ i = i ≤ 8
 
 abbrev μ-loop : tie.MeasureT-loop
-μ-loop kind text at places n i₀ i = 8 - i
+μ-loop kind text ends at places n i₀ i = 8 - i
 
 -- src/rules.rt:116:54
 slice-aggregate-rule-places : tie.Need-slice-aggregate-rule-places Inv-loop μ-loop
