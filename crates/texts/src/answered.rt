@@ -24,17 +24,17 @@ fn refused(answer: u32) -> Told
     }
 }
 
-// 14 where nothing is found.
+// "A date asked that is no occurrence answers 14."
 fn told_of(found: Lookup) -> Told
     ensures { λ r. ⌜ toldShown r ≡ lookupShown found ⌝ }
 {
-    match found {
-        Lookup::Found(part) => Told {
-            answer: 0,
-            start: part.start,
-            length: part.length,
-        },
-        Lookup::Missing => refused(14),
+    let Lookup::Found(part) = found else {
+        return refused(14);
+    };
+    Told {
+        answer: 0,
+        start: part.start,
+        length: part.length,
     }
 }
 

@@ -15,10 +15,10 @@ refused-requires : tie.Need-refused-requires
 refused-requires c κs = search needs
 
 returns : tie.Need-returns
-returns c = ap lookupShown (sym (c .before .found .given .1))
+returns c = c .refused .ensures ∙ ap lookupShown (sym (c .before .enum-told .given .1))
 
 returns-2 : tie.Need-returns-2
-returns-2 c = c .refused .ensures ∙ ap lookupShown (sym (c .before .enum-told .given .1))
+returns-2 c = ap lookupShown (sym (c .before .found .given .1))
 
 pub told-of-spec : {M : Type 1} → statement M
 told-of-spec = tie.close (tie.spec enum-known-found enum-told refused-requires returns returns-2)
