@@ -89,13 +89,15 @@ short-by (suc k) (suc n) s i e h =
     let t = run-more isPlain s i k e in
     char-plain n s i (t .0) ∙ short-by k n s (suc i) (t .1) (omega arith)
 
--- A turn of a string's loop: a run of plain bytes is stepped over at once, and then comes one char or the quote.
-pub chars-turn : (s : List ℕ) (i e n : ℕ) → e ≡ plainAt s i → e - i < n
-    → charsAt n s i ≡ (if eqb (getD s e 0) 0x22 then To (e + 1) else next (charAt s e) (λ j. charsAt (n - (e - i) - 1) s j))
+-- A run of plain bytes is stepped over at once.
+pub chars-skip : (s : List ℕ) (i e n : ℕ) → e ≡ plainAt s i → e - i < n → charsAt n s i ≡ charsAt (n - (e - i)) s e
 unfolding plainAt past
-chars-turn s i e n q h =
+chars-skip s i e n q h =
     skip-by (run isPlain (drop i s)) n (n - (e - i)) s i e refl (omega arith) (omega arith)
-    ∙ chars-step (n - (e - i)) (omega arith) s e
+
+-- The quote stands behind the run.
+pub chars-quote : (s : List ℕ) (i e n : ℕ) → e ≡ plainAt s i → e - i < n → eqb (getD s e 0) 0x22 ≡ true → charsAt n s i ≡ To (e + 1)
+chars-quote s i e n q h c = rw (chars-skip s i e n q h, chars-step (n - (e - i)) (omega arith) s e, c)
 
 -- A run of more plain bytes than chars are left.
 pub chars-short : (s : List ℕ) (i e n : ℕ) → e ≡ plainAt s i → n ≤ e - i → charsAt n s i ≡ Bad

@@ -103,7 +103,7 @@ pub fn character(text: &[u8], at: usize) -> Read
 }
 
 // A string with its quotes. A text has fewer chars than bytes, so n does not run out before the text does.
-// A turn of the loop is a run of plain bytes, and the quote or the char behind it.
+// A turn of the loop is a run of plain bytes, or one char.
 pub fn string(text: &[u8], at: usize) -> Read
     ensures { λ r. ⌜ r ≡ stringAt (now (text .entry)) at ⌝ }
 {
@@ -114,12 +114,18 @@ pub fn string(text: &[u8], at: usize) -> Read
     let mut n = text.len();
     while 0 < n {
         let e = plain(text, i);
-        let k = e - i;
-        if n <= k {
-            return Read::Bad;
+        if i < e {
+            let k = e - i;
+            if n <= k {
+                return Read::Bad;
+            }
+            if byte(text, e) == 0x22 {
+                return Read::To(e + 1);
+            }
+            i = e;
+            n -= k;
+            continue;
         }
-        i = e;
-        n -= k;
         if byte(text, i) == 0x22 {
             return Read::To(i + 1);
         }
