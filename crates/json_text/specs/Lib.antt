@@ -4,3 +4,4 @@ pub mod Utf8
 pub mod Strings
 pub mod Numbers
 pub mod Words
+pub mod Plain

@@ -2,6 +2,7 @@
 // a place of the text and answers where what it read ends. Nothing is copied and no table is kept.
 pub mod bytes;
 pub mod numbers;
+pub mod plain;
 pub mod strings;
 pub mod utf8;
 pub mod words;

@@ -4,6 +4,7 @@ ghost use Rattle.json_text.specs.Strings.{isHex, hexAt, isEscaped, escap
 use crate::Read;
 use crate::bytes::byte;
 use crate::bytes::is_digit;
+use crate::plain::plain;
 use crate::utf8::multi;
 
 pub fn is_hex(b: u8) -> bool
@@ -102,6 +103,7 @@ pub fn character(text: &[u8], at: usize) -> Read
 }
 
 // A string with its quotes. A text has fewer chars than bytes, so n does not run out before the text does.
+// A turn of the loop is a run of plain bytes, or one char.
 pub fn string(text: &[u8], at: usize) -> Read
     ensures { λ r. ⌜ r ≡ stringAt (now (text .entry)) at ⌝ }
 {
@@ -111,6 +113,19 @@ pub fn string(text: &[u8], at: usize) -> Read
     let mut i = at + 1;
     let mut n = text.len();
     while 0 < n {
+        let e = plain(text, i);
+        if i < e {
+            let k = e - i;
+            if n <= k {
+                return Read::Bad;
+            }
+            if byte(text, e) == 0x22 {
+                return Read::To(e + 1);
+            }
+            i = e;
+            n -= k;
+            continue;
+        }
         if byte(text, i) == 0x22 {
             return Read::To(i + 1);
         }

@@ -1,8 +1,11 @@
+-- `string` meets its contract: what is left to read, from here with n chars, stays what there was at the start. A turn is either
+-- a run of plain bytes, which is stepped over at once, or one char.
 use Rattle.json_text.proofs.Laws.{chars-none, chars-step}
+use Rattle.json_text.proofs.Skip.{chars-skip, chars-quote, chars-short}
 use Rattle.json_text.specs.Strings.{charsAt, stringAt}
 use borrow.Author.Needs.{needs}
 use borrow.Author.Tests.{eq-eqb, ne-eqb}
-use mathlib.Core.Path.{_≡_}
+use mathlib.Core.Path.{_≡_, sym}
 use Rattle.json_text.proofs.strings.string.Statement.{statement}
 use Rattle.json_text.proofs.strings.string.Tie as tie
 
@@ -34,20 +37,50 @@ loop-holds c =
       eq-eqb _ _ (c .if1 .left),
     )
 
+plain-requires : tie.Need-plain-requires Inv-loop μ-loop
+plain-requires c κs = search needs
+
+sub-k : tie.Need-sub-k Inv-loop μ-loop
+sub-k c = search needs
+
+returns-2 : tie.Need-returns-2 Inv-loop μ-loop
+returns-2 c =
+    rw (← (c .before .before .before .before .loop .inv)) (sym (chars-short _ _ _ _ (c .before .before .plain .ensures) (c .if3 .taken)))
+
 byte-requires-2 : tie.Need-byte-requires-2 Inv-loop μ-loop
 byte-requires-2 c κs = search needs
 
-add-t10 : tie.Need-add-t10 Inv-loop μ-loop
-add-t10 c = search needs
+add-t13 : tie.Need-add-t13 Inv-loop μ-loop
+add-t13 c = search needs
 
-returns-2 : tie.Need-returns-2 Inv-loop μ-loop
-unfolding stringAt
-returns-2 c =
+returns-3 : tie.Need-returns-3 Inv-loop μ-loop
+returns-3 c =
+    rw (← (c .before .before .before .before .before .before .loop .inv))
+    (sym (chars-quote _ _ _ _ (c .before .before .before .before .plain .ensures) (c .before .before .if3 .left) (rw (← (c .before .byte2 .ensures .is)) (eq-eqb _ _ (c .if4 .taken)))))
+
+sub-n : tie.Need-sub-n Inv-loop μ-loop
+sub-n c = search needs
+
+loop-less : tie.Need-loop-less Inv-loop μ-loop
+loop-less c = search needs
+
+loop-again : tie.Need-loop-again Inv-loop μ-loop
+loop-again c =
+    rw (← (c .before .before .before .before .before .before .loop .inv)) (sym (chars-skip _ _ _ _ (c .before .before .before .before .plain .ensures) (c .before .before .if3 .left)))
+
+byte-requires-3 : tie.Need-byte-requires-3 Inv-loop μ-loop
+byte-requires-3 c κs = search needs
+
+add-t15 : tie.Need-add-t15 Inv-loop μ-loop
+add-t15 c = search needs
+
+returns-4 : tie.Need-returns-4 Inv-loop μ-loop
+returns-4 c =
     rw (
-      ← (c .before .before .before .loop .inv),
-      chars-step _ (c .before .before .loop-test .taken),
-      ← (c .before .byte2 .ensures .is),
-      eq-eqb _ _ (c .if2 .taken),
+      ← (c .before .before .before .before .before .loop .inv),
+      chars-step _ (c .before .before .before .before .loop-test .taken),
+      ← (c .before .byte3 .ensures .is),
+      eq-eqb _ _ (c .if5 .taken),
     )
 
 character-requires : tie.Need-character-requires Inv-loop μ-loop
@@ -59,14 +92,13 @@ enum-known-j c = search needs
 enum-told : tie.Need-enum-told Inv-loop μ-loop
 enum-told c = search needs
 
-returns-3 : tie.Need-returns-3 Inv-loop μ-loop
-unfolding stringAt
-returns-3 c =
+returns-5 : tie.Need-returns-5 Inv-loop μ-loop
+returns-5 c =
     rw (
-      ← (c .before .before .before .before .before .before .loop .inv),
-      chars-step _ (c .before .before .before .before .before .loop-test .taken),
-      ← (c .before .before .before .before .byte2 .ensures .is),
-      ne-eqb _ _ (c .before .before .before .if2 .left),
+      ← (c .before .before .before .before .before .before .before .before .loop .inv),
+      chars-step _ (c .before .before .before .before .before .before .before .loop-test .taken),
+      ← (c .before .before .before .before .byte3 .ensures .is),
+      ne-eqb _ _ (c .before .before .before .if5 .left),
       ← (c .before .before .character .ensures),
       c .enum-told .given .1,
     )
@@ -74,39 +106,36 @@ returns-3 c =
 enum-told-2 : tie.Need-enum-told-2 Inv-loop μ-loop
 enum-told-2 c = search needs
 
-returns-4 : tie.Need-returns-4 Inv-loop μ-loop
-unfolding stringAt
-returns-4 c =
+returns-6 : tie.Need-returns-6 Inv-loop μ-loop
+returns-6 c =
     rw (
-      ← (c .before .before .before .before .before .before .loop .inv),
-      chars-step _ (c .before .before .before .before .before .loop-test .taken),
-      ← (c .before .before .before .before .byte2 .ensures .is),
-      ne-eqb _ _ (c .before .before .before .if2 .left),
+      ← (c .before .before .before .before .before .before .before .before .loop .inv),
+      chars-step _ (c .before .before .before .before .before .before .before .loop-test .taken),
+      ← (c .before .before .before .before .byte3 .ensures .is),
+      ne-eqb _ _ (c .before .before .before .if5 .left),
       ← (c .before .before .character .ensures),
       c .enum-told2 .given .1,
     )
 
-sub-n : tie.Need-sub-n Inv-loop μ-loop
-sub-n c = search needs
+sub-n-2 : tie.Need-sub-n-2 Inv-loop μ-loop
+sub-n-2 c = search needs
 
-loop-less : tie.Need-loop-less Inv-loop μ-loop
-loop-less c = search needs
+loop-less-2 : tie.Need-loop-less-2 Inv-loop μ-loop
+loop-less-2 c = search needs
 
-loop-again : tie.Need-loop-again Inv-loop μ-loop
-unfolding stringAt
-loop-again c =
+loop-again-2 : tie.Need-loop-again-2 Inv-loop μ-loop
+loop-again-2 c =
     rw (
-      ← (c .before .before .before .before .before .before .before .loop .inv),
-      chars-step _ (c .before .before .before .before .before .before .loop-test .taken),
-      ← (c .before .before .before .before .before .byte2 .ensures .is),
-      ne-eqb _ _ (c .before .before .before .before .if2 .left),
+      ← (c .before .before .before .before .before .before .before .before .before .loop .inv),
+      chars-step _ (c .before .before .before .before .before .before .before .before .loop-test .taken),
+      ← (c .before .before .before .before .before .byte3 .ensures .is),
+      ne-eqb _ _ (c .before .before .before .before .if5 .left),
       ← (c .before .before .before .character .ensures),
       c .before .j .given .1,
     )
 
-returns-5 : tie.Need-returns-5 Inv-loop μ-loop
-unfolding stringAt
-returns-5 c =
+returns-7 : tie.Need-returns-7 Inv-loop μ-loop
+returns-7 c =
     rw (
       ← (c .before .loop .inv),
       chars-none _ (c .loop-test .left),
@@ -122,16 +151,25 @@ string-spec =
     returns
     add-i
     loop-holds
-    byte-requires-2
-    add-t10
+    plain-requires
+    sub-k
     returns-2
-    character-requires
-    enum-known-j
-    enum-told
+    byte-requires-2
+    add-t13
     returns-3
-    enum-told-2
-    returns-4
     sub-n
     loop-less
     loop-again
-    returns-5)
+    byte-requires-3
+    add-t15
+    returns-4
+    character-requires
+    enum-known-j
+    enum-told
+    returns-5
+    enum-told-2
+    returns-6
+    sub-n-2
+    loop-less-2
+    loop-again-2
+    returns-7)

@@ -1,0 +1,38 @@
+-- `is_plain` meets its contract: it asks what the definition asks, in its order.
+use borrow.Author.Tests.{eq-eqb, ne-eqb, lt-ltb, le-ltb}
+use Rattle.json_text.specs.Plain.{isPlain}
+use Rattle.json_text.proofs.plain.is_plain.Statement.{statement}
+use Rattle.json_text.proofs.plain.is_plain.Tie as tie
+
+returns : tie.Need-returns
+unfolding isPlain
+returns c = rw (eq-eqb _ _ (c .if1 .taken))
+
+returns-2 : tie.Need-returns-2
+unfolding isPlain
+returns-2 c =
+    rw (
+      ne-eqb _ _ (c .before .if1 .left),
+      eq-eqb _ _ (c .if2 .taken),
+    )
+
+returns-3 : tie.Need-returns-3
+unfolding isPlain
+returns-3 c =
+    rw (
+      ne-eqb _ _ (c .before .before .if1 .left),
+      ne-eqb _ _ (c .before .if2 .left),
+      lt-ltb _ _ (c .if3 .taken),
+    )
+
+returns-4 : tie.Need-returns-4
+unfolding isPlain
+returns-4 c =
+    rw (
+      ne-eqb _ _ (c .before .before .if1 .left),
+      ne-eqb _ _ (c .before .if2 .left),
+      le-ltb _ _ (c .if3 .left),
+    )
+
+pub is-plain-spec : {M : Type 1} → statement M
+is-plain-spec = tie.close (tie.spec returns returns-2 returns-3 returns-4)
