@@ -13,16 +13,17 @@ use Rattle.rule.specs.declared.Frequency.{Frequency}
 use Rattle.rule.specs.declared.Frequency.the-variants.{Daily, Weekly, Monthly, Yearly}
 use Rattle.rule.specs.declared.Day.{Day}
 use Rattle.rule.specs.Day.{dayAt}
-use Rattle.rule.specs.Period.{periodOf}
+use Rattle.rule.specs.Period.{periodOf, sinceFirst, daysOf}
 use Rattle.rule.specs.Gives.{endDay}
 use Rattle.rule.proofs.Bools.{by}
-use Rattle.rule.proofs.DayLaws.{InCalendar, step-month}
+use Rattle.rule.proofs.DayLaws.{InCalendar, step-month, year-within}
 use Rattle.rule.proofs.PeriodLaws.{day-number}
 use Rattle.matcher.specs.declared.Terms.{Terms}
 use Rattle.matcher.specs.Flags.{monthBy, staysBy}
 use Rattle.matcher.specs.Walk.{stepBy, picksBy, picksOnBy}
 use Rattle.matcher.proofs.WalkLaws.{in-calendar}
 use Rattle.track.specs.Skips.{Without, Between, stepAt, stepOn, monthOn, toMonthEnd, daysAhead}
+use Rattle.track.proofs.SpanLaws.{Later, in-period}
 
 -- ---- days of one month
 
@@ -112,6 +113,17 @@ module _ (x : Day) (is : x ≡ dayAt (x .number)) where
           few = omega (arith, month-few);
         }
 
+    -- the days up to the end of the year, by their numbers
+    pub year-day : (j : ℕ) → x .number ≤ j → j < x .number + (x .yeardays - x .yearday) → Later Yearly 0 x (j - x .number) (dayAt j)
+    unfolding sinceFirst daysOf
+    year-day j low high =
+        let there : x .number + (j - x .number) ≡ j = omega arith in
+        let within : x .number - x .yearday + x .yeardays ≤ endDay =
+        subst (λ (d : Day). x .number - d .yearday + d .yeardays ≤ endDay) (sym is) (year-within (x .number) (omega arith) known)
+        in
+        subst (λ (i : ℕ). Later Yearly 0 x (j - x .number) (dayAt i)) there
+        (in-period Yearly 0 x is (omega arith) (j - x .number) (omega (arith, facts .yearday, facts .yeardays)) (omega arith))
+
     -- the period of a day ahead: the own one, or one of those that are counted with it
     period-ahead : (f : Frequency) (w n j : ℕ) → w < 7 → 1 ≤ n → x .number ≤ j → j < x .number + daysAhead f w n x
         → (periodOf f w x ≤ periodOf f w (dayAt j)) × (periodOf f w (dayAt j) < periodOf f w x + n)
@@ -121,14 +133,14 @@ module _ (x : Day) (is : x ≡ dayAt (x .number)) where
     period-ahead Monthly w n j week some-periods low high =
         let same = ap (λ (d : Day). 12 * d .year + d .month) (month-day j low high) in (omega arith, omega arith)
     period-ahead Yearly w n j week some-periods low high =
-        let same = ap (λ (d : Day). d .year) (month-day j low high) in (omega arith, omega arith)
+        let same = year-day j low high .period in (omega arith, omega arith)
 
     ahead-few : (f : Frequency) (w n : ℕ) → n ≤ endDay → daysAhead f w n x < 2 ^ 31
     unfolding daysAhead
     ahead-few Daily w n most = omega arith
     ahead-few Weekly w n most = omega arith
     ahead-few Monthly w n most = omega (arith, month-few)
-    ahead-few Yearly w n most = omega (arith, month-few)
+    ahead-few Yearly w n most = omega (arith, facts .yeardays)
 
     pub ahead-without : (t : Terms) (period n : ℕ) → t .first < 7 → period ≡ periodOf (t .frequency) (t .first) x → 1 ≤ n → n ≤ endDay
         → Without (stepAt t) period n → Without (stepOn t) (x .number) (daysAhead (t .frequency) (t .first) n x)

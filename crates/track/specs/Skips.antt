@@ -38,12 +38,12 @@ unfoldable pub toMonthEnd : Day → ℕ
 toMonthEnd x = x .monthdays + 1 - x .monthday
 
 -- The days from x on that lie in its own period and the n - 1 after it, as far as they are counted: all of them of days and weeks,
--- which have one length, and those of its month of the others.
+-- which have one length, and those of its own month or year of the others.
 unfoldable pub daysAhead : Frequency → ℕ → ℕ → Day → ℕ
 daysAhead Daily w n x = n
 daysAhead Weekly w n x = 7 * n - (x .number + 12 - w) % 7
 daysAhead Monthly w n x = toMonthEnd x
-daysAhead Yearly w n x = toMonthEnd x
+daysAhead Yearly w n x = x .yeardays - x .yearday
 
 -- A rule counts positions in years.
 unfoldable pub isCarried : Frequency → Bool → Bool

@@ -52,7 +52,7 @@ fn days_ahead(frequency: Frequency, first: u32, n: u32, x: Day) -> u32
         Frequency::Daily => n,
         Frequency::Weekly => 7 * n - (x.number + 12 - first) % 7,
         Frequency::Monthly => to_month_end(x),
-        Frequency::Yearly => to_month_end(x),
+        Frequency::Yearly => x.yeardays - x.yearday,
     }
 }
 
