@@ -4,6 +4,7 @@ use mathlib.Core.Bool.{Bool, true, false}
 use mathlib.Core.List.{List}
 use mathlib.Core.Path.{_≡_}
 use lib.Dec.{eqb}
+use lib.ListN.{getD}
 use Rattle.rule.specs.declared.Frequency.{Frequency}
 use Rattle.rule.specs.declared.Frequency.the-variants.{Daily, Weekly, Monthly, Yearly}
 use Rattle.rule.specs.declared.Day.{Day}
@@ -32,6 +33,12 @@ stepOn t n = stepBy t (dayAt n)
 
 unfoldable pub monthOn : List Bool → ℕ → Bool
 monthOn row n = monthBy row (dayAt n)
+
+-- None of the months from a on and before b is set; 13 stands for the end of the year.
+pub record MonthsUnset (row : List Bool) (a b : ℕ) : Type 0 where
+  pub low : a ≤ b
+  pub high : b ≤ 13
+  pub none : (i : ℕ) → a ≤ i → i < b → getD row i false ≡ false
 
 -- The days from x to the end of its month.
 unfoldable pub toMonthEnd : Day → ℕ
