@@ -48,6 +48,16 @@ end-no p (suc k) d n h some-left e =
     let less : suc k - 1 ≡ k = omega arith in
     rw (less, add-one d, ne-eqb n 0 some-left, e)
 
+-- ---- as many days as are left, or more: the count is not used up
+
+pub end-all : (p : ℕ → Bool) (k d n : ℕ) → k ≤ n → endOf p k d n ≡ d + k
+end-all p zero d n h = omega (arith, end-none p d n)
+end-all p (suc k) d n h =
+    let less : suc k - 1 ≡ k = omega arith in
+    by (p d)
+    (λ e. rw (end-yes p (suc k) d n (omega arith) (omega arith) e, less) (omega (arith, end-all p k (d + 1) (n - 1) (omega arith))))
+    (λ e. rw (end-no p (suc k) d n (omega arith) (omega arith) e, less) (omega (arith, end-all p k (d + 1) n (omega arith))))
+
 -- ---- days that do not pass, at once
 
 pub end-skips : (p : ℕ → Bool) (k d n : ℕ) → (n ≡ 0 → ⊥) → (g : ℕ) → g ≤ k → ((j : ℕ) → d ≤ j → j < d + g → p j ≡ false)

@@ -6,23 +6,56 @@ use mathlib.Core.Path.{_≡_, refl, sym, ap, _∙_, subst}
 use native.Mathlib.Omega.{arith}
 use native.Mathlib.Nat.{mod-add-mod, mod-eq-of-lt, mod-lt}
 use lib.Dec.{ltb}
+use lib.ListN.{getD}
 use borrow.Author.Tests.{ltb-true, ltb-false, ne-eqb}
 use Rattle.signed.specs.Choose.{if_then_else_}
-use Rattle.gregorian.specs.Days.{dayCount}
+use Rattle.gregorian.specs.Days.{dayCount, dateOf}
+use Rattle.gregorian.specs.Month.{monthStart}
+use Rattle.gregorian.proofs.MonthLaws.{month-next, month-mono, year-is-months}
+use Rattle.gregorian.proofs.RoundTrips.{date-parts}
 use Rattle.rule.specs.declared.Frequency.{Frequency}
 use Rattle.rule.specs.declared.Frequency.the-variants.{Daily, Weekly, Monthly, Yearly}
 use Rattle.rule.specs.declared.Day.{Day}
-use Rattle.rule.specs.Day.{dayAt}
-use Rattle.rule.specs.Period.{periodOf}
+use Rattle.rule.specs.Day.{onDate, dayAt}
+use Rattle.rule.specs.Period.{periodOf, sinceFirst, daysOf}
 use Rattle.rule.specs.Gives.{endDay}
 use Rattle.rule.proofs.Bools.{by}
-use Rattle.rule.proofs.DayLaws.{InCalendar, step-month}
+use Rattle.rule.proofs.DayLaws.{InCalendar, step-month, year-within}
 use Rattle.rule.proofs.PeriodLaws.{day-number}
 use Rattle.matcher.specs.declared.Terms.{Terms}
 use Rattle.matcher.specs.Flags.{monthBy, staysBy}
 use Rattle.matcher.specs.Walk.{stepBy, picksBy, picksOnBy}
 use Rattle.matcher.proofs.WalkLaws.{in-calendar}
-use Rattle.track.specs.Skips.{Without, Between, stepAt, stepOn, monthOn, toMonthEnd, daysAhead}
+use Rattle.track.specs.Skips.{Without, Between, MonthsUnset, stepAt, stepOn, monthOn, toMonthEnd, daysAhead}
+use Rattle.track.proofs.SpanLaws.{Later, in-period}
+
+-- ---- a day and the months of its year
+
+month-holds : (n : ℕ) → n < dayCount
+    → (monthStart (dayAt n .year) (dayAt n .month) ≤ dayAt n .yearday) × (dayAt n .yearday < monthStart (dayAt n .year) (suc (dayAt n .month)))
+unfolding dayAt onDate
+month-holds n h =
+    let p = date-parts n h in
+    (omega arith, omega (arith, p .first, p .last, month-next (dateOf n .year) (dateOf n .month)))
+
+year-of-months : (n : ℕ) → dayAt n .yeardays ≡ monthStart (dayAt n .year) 13
+unfolding dayAt onDate
+year-of-months n = year-is-months (dateOf n .year)
+
+-- ---- months that are looked at one by one
+
+pub unset-none : (row : List Bool) (a : ℕ) → a ≤ 13 → MonthsUnset row a a
+unset-none row a h = record { low = omega arith; high = h; none = λ i low high. absurd (omega arith) }
+
+pub unset-more : (row : List Bool) (a b : ℕ) → MonthsUnset row a b → b < 13 → getD row b false ≡ false → MonthsUnset row a (b + 1)
+unset-more row a b w more out =
+    record {
+      low = omega (arith, w .low);
+      high = omega arith;
+      none = λ i low high.
+          by (ltb i b) (λ e. w .none i low (ltb-true i b e))
+          (λ e. let same : b ≡ i = omega (arith, ltb-false i b e) in subst (λ (k : ℕ). getD row k false ≡ false) same out);
+    }
 
 -- ---- days of one month
 
@@ -104,12 +137,64 @@ module _ (x : Day) (is : x ≡ dayAt (x .number)) where
     unfolding toMonthEnd
     month-reaches k h = (omega (arith, facts .monthdays), omega (arith, facts .monthday-low))
 
-    pub month-without : (row : List Bool) → monthBy row x ≡ false → Without (monthOn row) (x .number) (toMonthEnd x)
+    -- the days up to the end of the year, by their numbers
+    year-known : (j : ℕ) → j < x .number + (x .yeardays - x .yearday) → j < endDay
+    year-known j high =
+        let within : x .number - x .yearday + x .yeardays ≤ endDay =
+        subst (λ (d : Day). x .number - d .yearday + d .yeardays ≤ endDay) (sym is) (year-within (x .number) (omega arith) known)
+        in
+        omega (arith, facts .yearday, facts .yeardays)
+
+    year-day : (j : ℕ) → x .number ≤ j → j < x .number + (x .yeardays - x .yearday) → Later Yearly 0 x (j - x .number) (dayAt j)
+    unfolding sinceFirst daysOf
+    year-day j low high =
+        let there : x .number + (j - x .number) ≡ j = omega arith in
+        subst (λ (i : ℕ). Later Yearly 0 x (j - x .number) (dayAt i)) there
+        (in-period Yearly 0 x is (omega arith) (j - x .number) (omega (arith, year-known j high)) (omega arith))
+
+    -- ---- months that are not set
+
+    all-months : x .yeardays ≡ monthStart (x .year) 13
+    all-months = subst (λ (d : Day). d .yeardays ≡ monthStart (d .year) 13) (sym is) (year-of-months (x .number))
+
+    month-begun : (monthStart (x .year) (x .month) ≤ x .yearday) × (x .yearday < monthStart (x .year) (suc (x .month)))
+    month-begun =
+        subst (λ (d : Day). (monthStart (d .year) (d .month) ≤ d .yearday) × (d .yearday < monthStart (d .year) (suc (d .month)))) (sym is)
+        (month-holds (x .number) (omega arith))
+
+    module _ (m : ℕ) (most : m ≤ 13) where
+      within-months : monthStart (x .year) m ≤ x .yeardays
+      within-months = omega (arith, all-months, month-mono (x .year) m 13 most)
+
+      pub behind-month : x .month < m → x .yearday < monthStart (x .year) m
+      behind-month more = omega (arith, month-begun .1, month-mono (x .year) (suc (x .month)) m more)
+
+      months-ahead : (j : ℕ) → x .number ≤ j → j < x .number + (monthStart (x .year) m - x .yearday) → (x .month ≤ dayAt j .month) × (dayAt j .month < m)
+      unfolding sinceFirst periodOf
+      months-ahead j low high =
+          let k = dayAt j .month in
+          let inside : j < x .number + (x .yeardays - x .yearday) = omega (arith, within-months) in
+          let far = year-day j low inside in
+          let at : dayAt j .yearday ≡ x .yearday + (j - x .number) = far .since in
+          let held : (monthStart (x .year) k ≤ dayAt j .yearday) × (dayAt j .yearday < monthStart (x .year) (suc k)) =
+          subst (λ (y : ℕ). (monthStart y k ≤ dayAt j .yearday) × (dayAt j .yearday < monthStart y (suc k))) (far .period)
+          (month-holds j (omega (arith, year-known j inside)))
+          in (
+            by (ltb k (x .month))
+                (λ e. absurd (omega (arith, held .1, month-begun .0, at, month-mono (x .year) (suc k) (x .month) (ltb-true k (x .month) e))))
+                (λ e. ltb-false k (x .month) e),
+            by (ltb k m) (λ e. ltb-true k m e) (λ e. absurd (omega (arith, held .0, at, month-mono (x .year) m k (ltb-false k m e)))),
+          )
+
+    pub months-without : (row : List Bool) (m : ℕ) → MonthsUnset row (x .month) m
+        → Without (monthOn row) (x .number) (monthStart (x .year) m - x .yearday)
     unfolding monthOn monthBy
-    month-without row no-it-has-not =
+    months-without row m unset =
         record {
-          none = λ j low high. ap (monthBy row) (sym (month-day j low high)) ∙ no-it-has-not;
-          few = omega (arith, month-few);
+          none = λ j low high.
+              let there = months-ahead m (unset .high) j low high in
+              unset .none (dayAt j .month) (there .0) (there .1);
+          few = omega (arith, within-months m (unset .high), facts .yeardays);
         }
 
     -- the period of a day ahead: the own one, or one of those that are counted with it
@@ -121,14 +206,14 @@ module _ (x : Day) (is : x ≡ dayAt (x .number)) where
     period-ahead Monthly w n j week some-periods low high =
         let same = ap (λ (d : Day). 12 * d .year + d .month) (month-day j low high) in (omega arith, omega arith)
     period-ahead Yearly w n j week some-periods low high =
-        let same = ap (λ (d : Day). d .year) (month-day j low high) in (omega arith, omega arith)
+        let same = year-day j low high .period in (omega arith, omega arith)
 
     ahead-few : (f : Frequency) (w n : ℕ) → n ≤ endDay → daysAhead f w n x < 2 ^ 31
     unfolding daysAhead
     ahead-few Daily w n most = omega arith
     ahead-few Weekly w n most = omega arith
     ahead-few Monthly w n most = omega (arith, month-few)
-    ahead-few Yearly w n most = omega (arith, month-few)
+    ahead-few Yearly w n most = omega (arith, facts .yeardays)
 
     pub ahead-without : (t : Terms) (period n : ℕ) → t .first < 7 → period ≡ periodOf (t .frequency) (t .first) x → 1 ≤ n → n ≤ endDay
         → Without (stepAt t) period n → Without (stepOn t) (x .number) (daysAhead (t .frequency) (t .first) n x)

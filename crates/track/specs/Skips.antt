@@ -4,6 +4,7 @@ use mathlib.Core.Bool.{Bool, true, false}
 use mathlib.Core.List.{List}
 use mathlib.Core.Path.{_≡_}
 use lib.Dec.{eqb}
+use lib.ListN.{getD}
 use Rattle.rule.specs.declared.Frequency.{Frequency}
 use Rattle.rule.specs.declared.Frequency.the-variants.{Daily, Weekly, Monthly, Yearly}
 use Rattle.rule.specs.declared.Day.{Day}
@@ -33,17 +34,23 @@ stepOn t n = stepBy t (dayAt n)
 unfoldable pub monthOn : List Bool → ℕ → Bool
 monthOn row n = monthBy row (dayAt n)
 
+-- None of the months from a on and before b is set; 13 stands for the end of the year.
+pub record MonthsUnset (row : List Bool) (a b : ℕ) : Type 0 where
+  pub low : a ≤ b
+  pub high : b ≤ 13
+  pub none : (i : ℕ) → a ≤ i → i < b → getD row i false ≡ false
+
 -- The days from x to the end of its month.
 unfoldable pub toMonthEnd : Day → ℕ
 toMonthEnd x = x .monthdays + 1 - x .monthday
 
 -- The days from x on that lie in its own period and the n - 1 after it, as far as they are counted: all of them of days and weeks,
--- which have one length, and those of its month of the others.
+-- which have one length, and those of its own month or year of the others.
 unfoldable pub daysAhead : Frequency → ℕ → ℕ → Day → ℕ
 daysAhead Daily w n x = n
 daysAhead Weekly w n x = 7 * n - (x .number + 12 - w) % 7
 daysAhead Monthly w n x = toMonthEnd x
-daysAhead Yearly w n x = toMonthEnd x
+daysAhead Yearly w n x = x .yeardays - x .yearday
 
 -- A rule counts positions in years.
 unfoldable pub isCarried : Frequency → Bool → Bool

@@ -63,8 +63,7 @@ fn falls(excluded: bool, end: End, terms: Terms, flags: &[bool], start: u64, c: 
     not_after(end, 86400 * day as u64 + start % 86400)
 }
 
-// The day that has `count` of the rule's days before it, or the limit.
-fn count_day(
+fn walk_count(
     excluded: bool,
     end: End,
     terms: Terms,
@@ -73,13 +72,9 @@ fn count_day(
     limit: u32,
     count: u64,
 ) -> u32
-    requires { ⌜ Ending terms (length (now flags)) start limit ⌝ }
+    requires { ⌜ Ending terms (length (now flags)) start limit × (start / 86400 < limit) ⌝ }
     ensures { λ r. ⌜ r ≡ endOf (fallsOnBy excluded end terms (now (flags .entry)) start) (limit - start / 86400) (start / 86400) count ⌝ }
 {
-    let first = (start / 86400) as u32;
-    if limit <= first {
-        return first;
-    }
     let need = super::places::least_days(terms, flags);
     let from = super::ahead::count_from(excluded, end, terms, flags, start, limit, count);
     let x = from.day;
@@ -104,6 +99,29 @@ fn count_day(
         }
     }
     limit
+}
+
+// The day that has `count` of the rule's days before it, or the limit: a rule has one date a day, so a count of that many days needs no walk.
+fn count_day(
+    excluded: bool,
+    end: End,
+    terms: Terms,
+    flags: &[bool],
+    start: u64,
+    limit: u32,
+    count: u64,
+) -> u32
+    requires { ⌜ Ending terms (length (now flags)) start limit ⌝ }
+    ensures { λ r. ⌜ r ≡ endOf (fallsOnBy excluded end terms (now (flags .entry)) start) (limit - start / 86400) (start / 86400) count ⌝ }
+{
+    let first = (start / 86400) as u32;
+    if limit <= first {
+        return first;
+    }
+    if (limit - first) as u64 <= count {
+        return limit;
+    }
+    walk_count(excluded, end, terms, flags, start, limit, count)
 }
 
 // A count is walked once from the start to its last day, and no further than the limit, which no later day is asked beyond.

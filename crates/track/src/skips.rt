@@ -6,7 +6,7 @@ ghost use lib.ListN.{length};
 ghost use Rattle.rule.specs.Day.{dayAt};
 ghost use Rattle.rule.specs.Gives.{endDay};
 ghost use Rattle.matcher.specs.Walk.{Asked, picksOnBy};
-ghost use Rattle.track.specs.Skips.{Without, Between, stepAt, stepOn, monthOn, toMonthEnd, daysAhead, isCarried};
+ghost use Rattle.track.specs.Skips.{Without, Between, stepAt, stepOn, monthOn, MonthsUnset, toMonthEnd, daysAhead, isCarried};
 ghost use Rattle.track.specs.Places.{Unset};
 ghost use Rattle.track.specs.Steps.{Holding};
 use super::Cursor;
@@ -52,7 +52,7 @@ fn days_ahead(frequency: Frequency, first: u32, n: u32, x: Day) -> u32
         Frequency::Daily => n,
         Frequency::Weekly => 7 * n - (x.number + 12 - first) % 7,
         Frequency::Monthly => to_month_end(x),
-        Frequency::Yearly => to_month_end(x),
+        Frequency::Yearly => x.yeardays - x.yearday,
     }
 }
 
@@ -81,15 +81,32 @@ fn period_out(terms: Terms, x: Day) -> u32
     super::places::to_period_end(terms, x)
 }
 
-// Days from this one on of a month that the rule has not.
+// The first month from this one on that the rule has: 13 where the year has none any more.
+fn next_month(flags: &[bool], month: u32) -> u32
+    requires { ⌜ (length (now flags) ≡ 1574) × (month ≤ 12) ⌝ }
+    ensures { λ r. ⌜ MonthsUnset (now (flags .entry)) month r ⌝ }
+{
+    let mut next = month;
+    while next < 13 {
+        if flags[next as usize] {
+            return next;
+        }
+        next += 1;
+    }
+    next
+}
+
+// Days from this one on of months that the rule has not, as far as its year goes.
 fn month_out(flags: &[bool], x: Day) -> u32
     requires { ⌜ (length (now flags) ≡ 1574) × ((x ≡ dayAt (x .number)) × (x .number < endDay)) ⌝ }
     ensures { λ r. ⌜ Without (monthOn (now (flags .entry))) (x .number) r ⌝ }
 {
-    if matcher::flags::on_month(flags, x) {
+    let month = x.month;
+    let next = next_month(flags, month);
+    if next <= month {
         return 0;
     }
-    to_month_end(x)
+    calendar::month::month_start(x.year, next) - x.yearday
 }
 
 // The positions of a year are counted once, where it begins: it is passed whole or not at all.

@@ -1,5 +1,7 @@
 -- `track::skips::days_ahead` meets its contract: the tests of the definition in their order.
 use Rattle.track.specs.Skips.{daysAhead}
+use Rattle.matcher.proofs.WalkLaws.{in-calendar}
+use native.Mathlib.Omega.{arith}
 use borrow.Author.Needs.{needs}
 use Rattle.track.proofs.skips.days_ahead.Statement.{statement}
 use Rattle.track.proofs.skips.days_ahead.Tie as tie
@@ -31,8 +33,10 @@ to-month-end-requires c κs = search needs
 enum-told-4 : tie.Need-enum-told-4
 enum-told-4 c = search needs
 
-to-month-end-requires-2 : tie.Need-to-month-end-requires-2
-to-month-end-requires-2 c κs = search needs
+sub-result-3 : tie.Need-sub-result-3
+sub-result-3 c =
+    let p = c .before .before .before .pre .1 in
+    omega (arith, in-calendar _ _ (p .0) (omega (arith, p .1)) .yearday)
 
 returns : tie.Need-returns
 unfolding daysAhead
@@ -53,10 +57,7 @@ returns-3 c =
 returns-4 : tie.Need-returns-4
 unfolding daysAhead
 returns-4 c =
-    rw (
-      c .before .enum-told4 .given .1,
-      ← (c .to-month-end2 .ensures),
-    )
+    rw (c .before .enum-told4 .given .1)
 
 pub days-ahead-spec : {M : Type 1} → statement M
 days-ahead-spec =
@@ -71,7 +72,7 @@ days-ahead-spec =
     enum-told-3
     to-month-end-requires
     enum-told-4
-    to-month-end-requires-2
+    sub-result-3
     returns
     returns-2
     returns-3
