@@ -1,6 +1,6 @@
 -- The overrides, one after the other.
-use Prim.Native.Nat.{ℕ, zero, suc, _+_, _-_, _<_, _≤_}
-use mathlib.Core.Bool.{Bool, true, false, false≢true, _&&_, _||_}
+use Prim.Native.Nat.{ℕ, suc, _+_, _<_, _≤_}
+use mathlib.Core.Bool.{Bool, true, false, _&&_, _||_}
 use mathlib.Core.List.{List, [], _∷_}
 use mathlib.Core.Path.{_≡_, refl, sym, ap, _∙_, subst}
 use native.Mathlib.Omega.{arith}
@@ -8,12 +8,16 @@ use native.Mathlib.Numerals.{add-one}
 use lib.Dec.{eqb, ltb}
 use lib.ListN.{length, drop, getD}
 use lib.Seq.{drop-cons, drop-length}
-use borrow.Author.Tests.{ltb-true, ltb-false, eqb-true, eqb-false, eq-eqb, ne-eqb}
+use borrow.Author.Tests.{ltb-true, ltb-false, eqb-true, eq-eqb, ne-eqb}
 use Rattle.signed.specs.Choose.{if_then_else_}
 use Rattle.rule.proofs.Bools.{by, or-left, or-right}
 use Rattle.dates.specs.Overrides.{counts, isNamed, isKept}
 use Rattle.window.specs.Next.{nearer, leastOf, nextOf}
 use Rattle.window.proofs.NextLaws.{next-is, next-made}
+
+neither : (b c : Bool) → ((b && false) || c) ≡ c
+neither true c = refl
+neither false c = refl
 
 -- ---- whether one names x
 
@@ -42,12 +46,8 @@ module _ (only : Bool) (ids : List ℕ) (gone : List Bool) (x : ℕ) where
         rw (add-one i)
         (record {
           within = more;
-          same = sym (step ∙ rw (ne-eqb (getD ids i 0) x other) (none (counts only (getD gone i false)) (isNamed only (drop (suc i) ids) (drop (suc i) gone) x)));
+          same = sym (step ∙ rw (ne-eqb (getD ids i 0) x other) (neither (counts only (getD gone i false)) (isNamed only (drop (suc i) ids) (drop (suc i) gone) x)));
         })
-      where
-        none : (b c : Bool) → ((b && false) || c) ≡ c
-        none true c = refl
-        none false c = refl
 
     pub named-not-counted : (counted : Bool) → counted ≡ counts only (getD gone i false) → counted ≡ false → NamedAt only ids gone x (i + 1)
     named-not-counted counted is no-it-is-not =
@@ -112,10 +112,6 @@ module _ (at best i r : ℕ) (ids : List ℕ) (gone : List Bool) where
             by (eqb i j) (λ e. rw (e, h j below above (eqb-true i j e)))
             (λ e. rw e (f .none j below above ∙ sym (neither g (isNamed true ids gone j))));
       }
-    where
-      neither : (b c : Bool) → ((b && false) || c) ≡ c
-      neither true c = refl
-      neither false c = refl
 
   -- an id that does
   closer : at ≤ i → i < best → Least at i ids gone r → Least at best (i ∷ ids) (false ∷ gone) r

@@ -7,7 +7,7 @@ use lib.Dec.{eqb, leb, ltb}
 use lib.ListN.{length, getD}
 use Rattle.signed.specs.Choose.{if_then_else_}
 use Rattle.rule.specs.Gives.{endDay}
-use Rattle.dates.specs.Overrides.{isNamed, isKept}
+use Rattle.dates.specs.Overrides.{isKept}
 
 -- The first of n days from d on that passes; the day behind them where none does.
 unfoldable pub firstFrom : (ℕ → Bool) → ℕ → ℕ → ℕ
