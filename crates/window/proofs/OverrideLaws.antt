@@ -1,6 +1,6 @@
 -- The overrides, one after the other.
-use Prim.Native.Nat.{ℕ, zero, suc, _+_, _-_, _<_, _≤_}
-use mathlib.Core.Bool.{Bool, true, false, false≢true, _&&_, _||_}
+use Prim.Native.Nat.{ℕ, suc, _+_, _<_, _≤_}
+use mathlib.Core.Bool.{Bool, true, false, _&&_, _||_}
 use mathlib.Core.List.{List, [], _∷_}
 use mathlib.Core.Path.{_≡_, refl, sym, ap, _∙_, subst}
 use native.Mathlib.Omega.{arith}
@@ -8,13 +8,16 @@ use native.Mathlib.Numerals.{add-one}
 use lib.Dec.{eqb, ltb}
 use lib.ListN.{length, drop, getD}
 use lib.Seq.{drop-cons, drop-length}
-use borrow.Author.Tests.{ltb-true, ltb-false, eqb-true, eqb-false, eq-eqb, ne-eqb}
+use borrow.Author.Tests.{ltb-true, ltb-false, eqb-true, eq-eqb, ne-eqb}
 use Rattle.signed.specs.Choose.{if_then_else_}
-use Rattle.rule.specs.Lists.{any}
 use Rattle.rule.proofs.Bools.{by, or-left, or-right}
 use Rattle.dates.specs.Overrides.{counts, isNamed, isKept}
 use Rattle.window.specs.Next.{nearer, leastOf, nextOf}
-use Rattle.window.proofs.NextLaws.{Next, next-made}
+use Rattle.window.proofs.NextLaws.{next-is, next-made}
+
+neither : (b c : Bool) → ((b && false) || c) ≡ c
+neither true c = refl
+neither false c = refl
 
 -- ---- whether one names x
 
@@ -43,12 +46,8 @@ module _ (only : Bool) (ids : List ℕ) (gone : List Bool) (x : ℕ) where
         rw (add-one i)
         (record {
           within = more;
-          same = sym (step ∙ rw (ne-eqb (getD ids i 0) x other) (none (counts only (getD gone i false)) (isNamed only (drop (suc i) ids) (drop (suc i) gone) x)));
+          same = sym (step ∙ rw (ne-eqb (getD ids i 0) x other) (neither (counts only (getD gone i false)) (isNamed only (drop (suc i) ids) (drop (suc i) gone) x)));
         })
-      where
-        none : (b c : Bool) → ((b && false) || c) ≡ c
-        none true c = refl
-        none false c = refl
 
     pub named-not-counted : (counted : Bool) → counted ≡ counts only (getD gone i false) → counted ≡ false → NamedAt only ids gone x (i + 1)
     named-not-counted counted is no-it-is-not =
@@ -61,108 +60,157 @@ module _ (only : Bool) (ids : List ℕ) (gone : List Bool) (x : ℕ) where
       let none : drop i ids ≡ [] = rw all (drop-length ids) in
       sym (ap (λ (l : List ℕ). isNamed only l (drop i gone) x) none) ∙ a .same
 
--- ---- the least that is kept
+-- ---- the least of those that are not excluded
 
 pub record LeastAt (ids : List ℕ) (gone : List Bool) (at to best i : ℕ) : Type 0 where
   pub within : i ≤ length ids
-  pub same : leastOf ids gone at best (drop i ids) ≡ leastOf ids gone at to ids
+  pub same : leastOf at best (drop i ids) (drop i gone) ≡ leastOf at to ids gone
 
-module _ (ids : List ℕ) (gone : List Bool) (at to : ℕ) where
+module _ (ids : List ℕ) (gone : List Bool) (at to : ℕ) (sizes : length ids ≡ length gone) where
   pub least-starts : LeastAt ids gone at to to 0
   least-starts = record { within = omega arith; same = refl }
 
-  pub least-goes-on : (best next i : ℕ) → LeastAt ids gone at to best i → i < length ids → next ≡ nearer ids gone at best (getD ids i 0) → LeastAt ids gone at to next (i + 1)
-  unfolding leastOf
-  least-goes-on best next i a more is =
-      rw (add-one i)
-      (record {
-        within = more;
-        same = ap (λ (b : ℕ). leastOf ids gone at b (drop (suc i) ids)) is ∙ (sym (ap (leastOf ids gone at best) (drop-cons ids i 0 more)) ∙ a .same);
-      })
+  module _ (best i : ℕ) (a : LeastAt ids gone at to best i) where
+    pub least-goes-on : (next : ℕ) → i < length ids → next ≡ nearer at best (getD ids i 0) (getD gone i false) → LeastAt ids gone at to next (i + 1)
+    unfolding leastOf
+    least-goes-on next more is =
+        rw (add-one i)
+        (record {
+          within = more;
+          same =
+              ap (λ (b : ℕ). leastOf at b (drop (suc i) ids) (drop (suc i) gone)) is
+              ∙ (sym
+              (ap (λ (l : List ℕ). leastOf at best l (drop i gone)) (drop-cons ids i 0 more)
+              ∙ ap (leastOf at best (getD ids i 0 ∷ drop (suc i) ids)) (drop-cons gone i false (omega arith)))
+              ∙ a .same);
+        })
 
-  -- the walk ends with the least
-  pub record Least (best : ℕ) (l : List ℕ) (r : ℕ) : Type 0 where
-    pub low : at ≤ best → at ≤ r
-    pub high : r ≤ best
-    pub passes : r < best → (any (λ i. eqb i r) l ≡ true) × (isNamed true ids gone r ≡ false)
-    pub none : (j : ℕ) → at ≤ j → j < r → any (λ i. eqb i j) l ≡ true → isNamed true ids gone j ≡ true
+    pub least-ends : length ids ≤ i → best ≡ leastOf at to ids gone
+    unfolding leastOf
+    least-ends over =
+        let all : i ≡ length ids = omega (arith, a .within) in
+        let none : drop i ids ≡ [] = rw all (drop-length ids) in
+        sym (ap (λ (l : List ℕ). leastOf at best l (drop i gone)) none) ∙ a .same
 
+-- an override names it, and what an override names before it is excluded by each that names it
+record Least (at best : ℕ) (ids : List ℕ) (gone : List Bool) (r : ℕ) : Type 0 where
+  low : at ≤ best → at ≤ r
+  high : r ≤ best
+  named : r < best → isNamed false ids gone r ≡ true
+  none : (j : ℕ) → at ≤ j → j < r → isNamed false ids gone j ≡ isNamed true ids gone j
+
+module _ (at best i r : ℕ) (ids : List ℕ) (gone : List Bool) where
   -- an id that does not come nearer
-  farther : (best i r : ℕ) (l : List ℕ) → ((j : ℕ) → at ≤ j → j < r → i ≡ j → isNamed true ids gone j ≡ true) → Least best l r → Least best (i ∷ l) r
-  unfolding any
-  farther best i r l h f =
+  farther : (g : Bool) → ((j : ℕ) → at ≤ j → j < r → i ≡ j → g ≡ true) → Least at best ids gone r → Least at best (i ∷ ids) (g ∷ gone) r
+  unfolding isNamed counts
+  farther g h f =
       record {
         low = f .low;
         high = f .high;
-        passes = λ less. (or-right (eqb i r) (any (λ k. eqb k r) l) (f .passes less .0), f .passes less .1);
-        none = λ j below above e.
-            by (eqb i j) (λ g. h j below above (eqb-true i j g)) (λ g. f .none j below above (rw g at e));
+        named = λ less. or-right (eqb i r) (isNamed false ids gone r) (f .named less);
+        none = λ j below above.
+            by (eqb i j) (λ e. rw (e, h j below above (eqb-true i j e)))
+            (λ e. rw e (f .none j below above ∙ sym (neither g (isNamed true ids gone j))));
       }
 
   -- an id that does
-  closer : (best i r : ℕ) (l : List ℕ) → at ≤ i → i < best → isNamed true ids gone i ≡ false → Least i l r → Least best (i ∷ l) r
-  unfolding any
-  closer best i r l after less kept f =
+  closer : at ≤ i → i < best → Least at i ids gone r → Least at best (i ∷ ids) (false ∷ gone) r
+  unfolding isNamed counts
+  closer after less f =
       let most = f .high in
       record {
         low = λ h. f .low after;
         high = omega arith;
-        passes = λ h.
-            by (ltb r i)
-            (λ g. (or-right (eqb i r) (any (λ k. eqb k r) l) (f .passes (ltb-true r i g) .0), f .passes (ltb-true r i g) .1))
-            (λ g.
-            let same : i ≡ r = omega (arith, ltb-false r i g) in
-            (or-left (eqb i r) (any (λ k. eqb k r) l) (eq-eqb i r same), subst (λ (k : ℕ). isNamed true ids gone k ≡ false) same kept));
-        none = λ j below above e.
-            f .none j below above (rw (ne-eqb i j (λ same. omega arith)) at e);
+        named = λ h.
+            by (ltb r i) (λ e. or-right (eqb i r) (isNamed false ids gone r) (f .named (ltb-true r i e)))
+            (λ e. or-left (eqb i r) (isNamed false ids gone r) (eq-eqb i r (omega (arith, ltb-false r i e))));
+        none = λ j below above. rw (ne-eqb i j (λ same. omega arith)) (f .none j below above);
       }
 
-  least-is : (best : ℕ) (l : List ℕ) → Least best l (leastOf ids gone at best l)
-  unfolding leastOf any nearer
-  least-is best [] =
-      record { low = λ h. h; high = omega arith; passes = λ h. absurd (omega arith); none = λ j below above e. absurd (false≢true e) }
-  least-is best (i ∷ l) =
-      by (ltb i at)
-      (λ e. rw e (farther best i _ l (λ j below above same. absurd (omega (arith, ltb-true i at e))) (least-is best l)))
-      (λ e.
-      rw e
-      (by (ltb i best)
-      (λ f.
-      rw f
-      (by (isNamed true ids gone i)
-      (λ g. rw g (farther best i _ l (λ j below above same. subst (λ (k : ℕ). isNamed true ids gone k ≡ true) same g) (least-is best l)))
-      (λ g. rw g (closer best i _ l (ltb-false i at e) (ltb-true i best f) g (least-is i l)))))
-      (λ f.
-      let far = ltb-false i best f in
-      let walk = least-is best l in
-      rw f (farther best i _ l (λ j below above same. absurd (omega (arith, walk .high))) walk))))
+least-is : (at best : ℕ) (ids : List ℕ) (gone : List Bool) → Least at best ids gone (leastOf at best ids gone)
+unfolding leastOf nearer isNamed
+least-is at best [] gone =
+    record { low = λ h. h; high = omega arith; named = λ h. absurd (omega arith); none = λ j below above. refl }
+least-is at best (i ∷ ids) [] =
+    record { low = λ h. h; high = omega arith; named = λ h. absurd (omega arith); none = λ j below above. refl }
+least-is at best (i ∷ ids) (true ∷ gone) = farther at best i _ ids gone true (λ j below above same. refl) (least-is at best ids gone)
+least-is at best (i ∷ ids) (false ∷ gone) =
+    by (ltb i at)
+    (λ e. rw e (farther at best i _ ids gone false (λ j below above same. absurd (omega (arith, ltb-true i at e))) (least-is at best ids gone)))
+    (λ e.
+    rw e
+    (by (ltb i best)
+    (λ f. rw f (closer at best i _ ids gone (ltb-false i at e) (ltb-true i best f) (least-is at i ids gone)))
+    (λ f.
+    let far = ltb-false i best f in
+    let walk = least-is at best ids gone in
+    rw f (farther at best i _ ids gone false (λ j below above same. absurd (omega (arith, walk .high))) walk))))
 
-names-any : (ids : List ℕ) (gone : List Bool) (x : ℕ) → length ids ≡ length gone → isNamed false ids gone x ≡ any (λ i. eqb i x) ids
-unfolding isNamed any counts
-names-any [] gone x h = refl
-names-any (i ∷ ids) [] x h = absurd (omega arith)
-names-any (i ∷ ids) (g ∷ gone) x h = ap (λ (b : Bool). eqb i x || b) (names-any ids gone x (omega arith))
+-- ---- the first that is kept
 
-module _ (ids : List ℕ) (gone : List Bool) (at to : ℕ) (sizes : length ids ≡ length gone) (order : at ≤ to) where
-  least-next : Next (isKept ids gone) at to (leastOf ids gone at to ids)
-  unfolding isKept
-  least-next =
-      let f = least-is ids gone at to to ids in
-      let r = leastOf ids gone at to ids in
-      record {
-        low = f .low order;
-        high = f .high;
-        passes = λ h. rw (f .passes h .1) (names-any ids gone r sizes ∙ f .passes h .0);
-        none = λ j below above.
-            by (isNamed true ids gone j) (λ e. rw e)
-            (λ e. rw e (by (isNamed false ids gone j)
-            (λ g. absurd (false≢true (sym e ∙ f .none j below above (sym (names-any ids gone j sizes) ∙ g))))
-            (λ g. g)));
-      }
+pub record KeptAt (ids : List ℕ) (gone : List Bool) (at to from : ℕ) : Type 0 where
+  pub order : from ≤ to
+  pub same : nextOf (isKept ids gone) from to ≡ nextOf (isKept ids gone) at to
 
-  pub least-ends : (best i : ℕ) → LeastAt ids gone at to best i → length ids ≤ i → best ≡ nextOf (isKept ids gone) at to
-  unfolding leastOf
-  least-ends best i a over =
-      let all : i ≡ length ids = omega (arith, a .within) in
-      let none : drop i ids ≡ [] = rw all (drop-length ids) in
-      sym (ap (leastOf ids gone at best) none) ∙ (a .same ∙ next-made (isKept ids gone) at to order (leastOf ids gone at to ids) least-next)
+module _ (ids : List ℕ) (gone : List Bool) (at to : ℕ) where
+  pub kept-starts : at ≤ to → KeptAt ids gone at to at
+  kept-starts order = record { order = order; same = refl }
+
+  module _ (from : ℕ) (a : KeptAt ids gone at to from) where
+    pub kept-ends : to ≤ from → to ≡ nextOf (isKept ids gone) at to
+    kept-ends over =
+        next-made (isKept ids gone) from to (a .order) to
+        (record { low = a .order; high = omega arith; passes = λ h. absurd (omega arith); none = λ j below above. absurd (omega arith) })
+        ∙ a .same
+
+    module _ (x : ℕ) (is : x ≡ leastOf from to ids gone) where
+      walk : Least from to ids gone x
+      walk = subst (Least from to ids gone) (sym is) (least-is from to ids gone)
+
+      pub kept-later : from ≤ x
+      kept-later = walk .low (a .order)
+
+      before : (j : ℕ) → from ≤ j → j < x → isKept ids gone j ≡ false
+      unfolding isKept
+      before j below above = rw (walk .none j below above) (never (isNamed true ids gone j))
+        where
+          never : (b : Bool) → (if b then false else b) ≡ false
+          never true = refl
+          never false = refl
+
+      pub kept-none : to ≤ x → to ≡ nextOf (isKept ids gone) at to
+      kept-none over =
+          next-made (isKept ids gone) from to (a .order) to
+          (record { low = a .order; high = omega arith; passes = λ h. absurd (omega arith); none = λ j below above. before j below (omega arith) })
+          ∙ a .same
+
+      pub kept-here : x < to → isNamed true ids gone x ≡ false → x ≡ nextOf (isKept ids gone) at to
+      unfolding isKept
+      kept-here less kept =
+          next-made (isKept ids gone) from to (a .order) x
+          (record { low = kept-later; high = omega arith; passes = λ h. rw kept (walk .named less); none = before })
+          ∙ a .same
+
+      pub kept-goes-on : x < to → isNamed true ids gone x ≡ true → KeptAt ids gone at to (x + 1)
+      unfolding isKept
+      kept-goes-on less gone-it-is =
+          let next = next-is (isKept ids gone) (x + 1) to (omega arith) in
+          let low = kept-later in
+          record {
+            order = omega arith;
+            same =
+                next-made (isKept ids gone) from to (a .order) (nextOf (isKept ids gone) (x + 1) to)
+                (record {
+                  low = omega (arith, next .low);
+                  high = next .high;
+                  passes = next .passes;
+                  none = λ j below above.
+                      by (ltb j x) (λ e. before j below (ltb-true j x e))
+                      (λ e.
+                      by (ltb x j) (λ f. next .none j (omega (arith, ltb-true x j f)) above)
+                      (λ f.
+                      let here : x ≡ j = omega (arith, ltb-false j x e, ltb-false x j f) in
+                      subst (λ (k : ℕ). isKept ids gone k ≡ false) here (rw gone-it-is)));
+                })
+                ∙ a .same;
+          }

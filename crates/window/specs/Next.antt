@@ -7,7 +7,7 @@ use lib.Dec.{eqb, leb, ltb}
 use lib.ListN.{length, getD}
 use Rattle.signed.specs.Choose.{if_then_else_}
 use Rattle.rule.specs.Gives.{endDay}
-use Rattle.dates.specs.Overrides.{isNamed, isKept}
+use Rattle.dates.specs.Overrides.{isKept}
 
 -- The first of n days from d on that passes; the day behind them where none does.
 unfoldable pub firstFrom : (ℕ → Bool) → ℕ → ℕ → ℕ
@@ -32,14 +32,14 @@ dayFrom start at = if leb (at % 86400) (start % 86400) then at / 86400 else at /
 
 -- ---- among the overrides
 
--- The nearer of two: an id from `at` on that lies before `best` and that no override excludes.
-unfoldable pub nearer : List ℕ → List Bool → ℕ → ℕ → ℕ → ℕ
-nearer ids gone at best i =
-    if ltb i at then best else if ltb i best then (if isNamed true ids gone i then best else i) else best
+-- The nearer of two: the id of an override that is not excluded, from `at` on and before `best`.
+unfoldable pub nearer : ℕ → ℕ → ℕ → Bool → ℕ
+nearer at best i gone = if gone then best else if ltb i at then best else if ltb i best then i else best
 
-unfoldable pub leastOf : List ℕ → List Bool → ℕ → ℕ → List ℕ → ℕ
-leastOf ids gone at best [] = best
-leastOf ids gone at best (i ∷ l) = leastOf ids gone at (nearer ids gone at best i) l
+unfoldable pub leastOf : ℕ → ℕ → List ℕ → List Bool → ℕ
+leastOf at best [] gone = best
+leastOf at best (i ∷ ids) [] = best
+leastOf at best (i ∷ ids) (g ∷ gone) = leastOf at (nearer at best i g) ids gone
 
 -- ---- in both
 

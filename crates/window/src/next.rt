@@ -24,34 +24,53 @@ pub fn is_named(only: bool, ids: &[u64], gone: &[bool], x: u64) -> bool
     false
 }
 
-fn nearer_of(ids: &[u64], gone: &[bool], at: u64, best: u64, id: u64) -> u64
-    requires { ⌜ length (now ids) ≡ length (now gone) ⌝ }
-    ensures { λ r. ⌜ r ≡ nearer (now (ids .entry)) (now (gone .entry)) at best id ⌝ }
+fn nearer_of(at: u64, best: u64, id: u64, gone: bool) -> u64
+    ensures { λ r. ⌜ r ≡ nearer at best id gone ⌝ }
 {
+    if gone {
+        return best;
+    }
     if id < at {
         return best;
     }
     if id < best {
-        if is_named(true, ids, gone, id) {
-            return best;
-        }
         return id;
     }
     best
 }
 
-// The first date-time from `at` on, and before `to`, that an override names and none excludes; `to` where there is none.
-pub fn next_kept(ids: &[u64], gone: &[bool], at: u64, to: u64) -> u64
-    requires { ⌜ (length (now ids) ≡ length (now gone)) × (at ≤ to) ⌝ }
-    ensures { λ r. ⌜ r ≡ nextOf (isKept (now (ids .entry)) (now (gone .entry))) at to ⌝ }
+// The least date-time from `at` on, and before `to`, of an override that is not excluded; `to` where there is none.
+fn nearest(ids: &[u64], gone: &[bool], at: u64, to: u64) -> u64
+    requires { ⌜ length (now ids) ≡ length (now gone) ⌝ }
+    ensures { λ r. ⌜ r ≡ leastOf at to (now (ids .entry)) (now (gone .entry)) ⌝ }
 {
     let mut best = to;
     let mut i = 0;
     while i < ids.len() {
-        best = nearer_of(ids, gone, at, best, ids[i]);
+        best = nearer_of(at, best, ids[i], gone[i]);
         i += 1;
     }
     best
+}
+
+// The first date-time from `at` on, and before `to`, that an override names and none excludes; `to` where there is none.
+// Whether another override excludes a date-time is asked only of the nearest, as asking it goes through all of them.
+pub fn next_kept(ids: &[u64], gone: &[bool], at: u64, to: u64) -> u64
+    requires { ⌜ (length (now ids) ≡ length (now gone)) × (at ≤ to) ⌝ }
+    ensures { λ r. ⌜ r ≡ nextOf (isKept (now (ids .entry)) (now (gone .entry))) at to ⌝ }
+{
+    let mut from = at;
+    while from < to {
+        let x = nearest(ids, gone, from, to);
+        if to <= x {
+            return to;
+        }
+        if !is_named(true, ids, gone, x) {
+            return x;
+        }
+        from = x + 1;
+    }
+    to
 }
 
 // What was next among the overrides, looked for again only where it was passed.

@@ -1,46 +1,27 @@
 -- `window::next::nearer_of` meets its contract.
-use Rattle.recurrence.specs.Event.{inSet}
-use Rattle.recurrence.specs.Ids.{candidates, ids, inWindow}
 use Rattle.window.specs.Next.{nearer}
 use borrow.Author.Tests.{le-ltb, lt-ltb}
-use borrow.Author.Needs.{needs}
 use Rattle.window.proofs.next.nearer_of.Statement.{statement}
 use Rattle.window.proofs.next.nearer_of.Tie as tie
 
 returns : tie.Need-returns
-unfolding candidates ids inSet inWindow nearer
-returns c = rw (lt-ltb _ _ (c .if1 .taken))
-
-is-named-requires : tie.Need-is-named-requires
-is-named-requires c κs = search needs
+unfolding nearer
+returns c = rw (c .if1 .taken)
 
 returns-2 : tie.Need-returns-2
-unfolding candidates ids inSet inWindow nearer
+unfolding nearer
 returns-2 c =
-    rw (
-      le-ltb _ _ (c .before .before .before .if1 .left),
-      lt-ltb _ _ (c .before .before .if2 .taken),
-      ← (c .before .is-named .ensures),
-      c .if3 .taken,
-    )
+    rw (c .before .if1 .left, lt-ltb _ _ (c .if2 .taken))
 
 returns-3 : tie.Need-returns-3
-unfolding candidates ids inSet inWindow nearer
+unfolding nearer
 returns-3 c =
-    rw (
-      le-ltb _ _ (c .before .before .before .if1 .left),
-      lt-ltb _ _ (c .before .before .if2 .taken),
-      ← (c .before .is-named .ensures),
-      c .if3 .left,
-    )
+    rw (c .before .before .if1 .left, le-ltb _ _ (c .before .if2 .left), lt-ltb _ _ (c .if3 .taken))
 
 returns-4 : tie.Need-returns-4
-unfolding candidates ids inSet inWindow nearer
+unfolding nearer
 returns-4 c =
-    rw (
-      le-ltb _ _ (c .before .if1 .left),
-      le-ltb _ _ (c .if2 .left),
-    )
+    rw (c .before .before .if1 .left, le-ltb _ _ (c .before .if2 .left), le-ltb _ _ (c .if3 .left))
 
 pub nearer-of-spec : {M : Type 1} → statement M
-nearer-of-spec = tie.close (tie.spec returns is-named-requires returns-2 returns-3 returns-4)
+nearer-of-spec = tie.close (tie.spec returns returns-2 returns-3 returns-4)
