@@ -7,9 +7,9 @@ ghost use Rattle.json_ends.specs.Ends.{Ends};
 use crate::table::past;
 use json_text::Read;
 use json_value::Item;
+use json_value::LEVELS;
 use json_value::items::after;
 use json_value::items::first;
-use json_value::whole::LEVELS;
 use json_walk::Element;
 use json_walk::ElementStep;
 

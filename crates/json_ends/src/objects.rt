@@ -8,10 +8,10 @@ use crate::table::past;
 use crate::table::string_past;
 use json_text::Read;
 use json_value::Item;
+use json_value::LEVELS;
 use json_value::items::after;
 use json_value::items::colon;
 use json_value::items::first;
-use json_value::whole::LEVELS;
 use json_walk::Member;
 use json_walk::MemberStep;
 

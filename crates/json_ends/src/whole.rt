@@ -1,4 +1,4 @@
-// The whole text, as `json_value::whole` reads it, with the ends of its names and values kept on the way.
+// The whole text: a value between white space, and nothing else. The ends of its names and values are kept on the way.
 ghost use mathlib.Core.Path.{_≡_};
 ghost use Rattle.json_value.specs.Values.{textAt};
 ghost use Rattle.json_ends.specs.Ends.{Ends};
@@ -6,7 +6,7 @@ ghost use Rattle.json_ends.specs.Found.{Found};
 use crate::reading::value;
 use json_text::Read;
 use json_text::bytes::space;
-use json_value::whole::LEVELS;
+use json_value::LEVELS;
 
 pub fn whole(text: &[u8], ends: &mut [u32]) -> Read
     requires { ⌜ Ends (now text) (now ends) ⌝ }

@@ -8,7 +8,7 @@ ghost use Rattle.json_value.specs.Values.{levels};
 ghost use Rattle.json_names.specs.Names.{faultAt};
 use crate::faults::fault;
 use json_text::bytes::space;
-use json_value::whole::LEVELS;
+use json_value::LEVELS;
 
 // Is a name in the value at a place at fault? With a table of ends, which the walks look into: so each object is gone over
 // a few times, however deep it lies; and with room to sort names.

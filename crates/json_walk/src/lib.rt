@@ -1,7 +1,5 @@
-// Walks through a text that is known to be JSON, by place: the members of an object, the elements of an array, the
-// bytes of a string. Every function is total: where the text is not JSON a walk just ends.
-pub mod arrays;
-pub mod objects;
+// What a walk through a text that is known to be JSON meets, by place: the members of an object, the elements of an array, the bytes
+// of a string. The walks themselves go with a table of ends (`json_ends`).
 pub mod strings;
 
 // A member of an object: the place of its name, that is of the opening quote; the place behind the closing quote; the
