@@ -33,6 +33,10 @@ pub plain-on : (s : List ℕ) (i : ℕ) → i ≤ plainAt s i
 unfolding plainAt past
 plain-on s i = omega arith
 
+-- A run that begins with a plain byte is not empty.
+pub plain-some : (s : List ℕ) (i e : ℕ) → e ≡ plainAt s i → i < length s → isPlain (getD s i 0) ≡ true → i < e
+plain-some s i e q h t = omega (arith, q, plain-more s i h t, plain-on s (i + 1))
+
 no-flag : false ≡ true → ⊥
 no-flag e = let q : _≡_ {A = ℕ} 0 1 = cc in omega arith
 

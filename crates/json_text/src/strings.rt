@@ -4,6 +4,7 @@ ghost use Rattle.json_text.specs.Strings.{isHex, hexAt, isEscaped, escap
 use crate::Read;
 use crate::bytes::byte;
 use crate::bytes::is_digit;
+use crate::plain::is_plain;
 use crate::plain::plain;
 use crate::utf8::multi;
 
@@ -113,8 +114,8 @@ pub fn string(text: &[u8], at: usize) -> Read
     let mut i = at + 1;
     let mut n = text.len();
     while 0 < n {
-        let e = plain(text, i);
-        if i < e {
+        if is_plain(byte(text, i)) {
+            let e = plain(text, i);
             let k = e - i;
             if n <= k {
                 return Read::Bad;
