@@ -22,10 +22,10 @@ use Rattle.matcher.proofs.WalkLaws.{number-is, day-again, in-calendar, asked-ea
 use Rattle.track.specs.declared.Cursor.{Cursor}
 use Rattle.track.specs.declared.Track.{Track}
 use Rattle.track.specs.Runs.{hasDay}
-use Rattle.track.specs.Steps.{isCounted, staying, cursorOn, cursorAt, Holding}
+use Rattle.track.specs.Steps.{isCounted, staying, cursorOn, Holding}
 use Rattle.track.specs.Skips.{toMonthEnd}
 use Rattle.track.specs.Plain.{InMonth}
-use Rattle.track.proofs.StepLaws.{cursor-made, cursor-at-day, held-day, held-asked, held-seen, held-total}
+use Rattle.track.proofs.StepLaws.{cursor-made, cursor-first, cursor-at-day, held-day, held-asked, held-seen, held-total}
 use Rattle.track.proofs.SkipLaws.{in-same-month, month-reaches, later}
 
 -- ---- a day that stays
@@ -63,6 +63,11 @@ has-none t row begin d e = rw e (go (ltb d begin) (ltb d (t .last)))
     go false false = refl
 
 -- ---- the days of the month
+
+-- what `stays` says of a day, by the number that it was made for
+pub stays-there : (row : List Bool) (inYear : Bool) (y : Day) (n : ℕ) (b : Bool) → y ≡ dayAt n → staysBy row inYear y ≡ b → staysOnBy row inYear n ≡ b
+unfolding staysOnBy
+stays-there row inYear y n b is e = ap (staysBy row inYear) (sym is) ∙ e
 
 -- of the days from the first of the month up to the k-th behind x, those that stay
 unfoldable pub stayed : Terms → List Bool → Day → ℕ → ℕ
@@ -143,8 +148,7 @@ module _ (t : Terms) (row : List Bool) (c : Cursor) (hold : Holding t row (lengt
         ∙ ap (λ (a : ℕ). countIn (staysOnBy row (t .inyear)) (c .day .number - (c .day .monthday - 1)) (c .day .monthday - 1 + k) + countIn (staysOnBy row (t .inyear)) a 1) here)
 
     on-day : (b : Bool) → staysBy row (t .inyear) y ≡ b → staysOnBy row (t .inyear) (c .day .number + k) ≡ b
-    unfolding staysOnBy
-    on-day b e = ap (staysBy row (t .inyear)) (sym is) ∙ e
+    on-day b e = stays-there row (t .inyear) y (c .day .number + k) b is e
 
     pub stayed-more : (seen : ℕ) → seen ≡ stayed t row (c .day) k → staysBy row (t .inyear) y ≡ true → seen + 1 ≡ stayed t row (c .day) (k + 1)
     stayed-more seen e yes-it-does =
@@ -169,6 +173,18 @@ module _ (t : Terms) (row : List Bool) (c : Cursor) (hold : Holding t row (lengt
         on-day-by f = ap (staysBy row (t .inyear)) (sym is) ∙ f
 
 -- ---- a month of a run
+
+pub month-whole : (x : Day) → x .monthday ≡ 1 → x .monthdays ≤ toMonthEnd x
+unfolding toMonthEnd
+month-whole x e = omega arith
+
+-- counted from its first day on
+pub cursor-new : (t : Terms) (row : List Bool) (x : Day) → t .placed ≡ true → t .frequency ≡ Monthly → x .number < endDay → x .monthday ≡ 1
+    → (total : ℕ) → total ≡ countIn (staysOnBy row (t .inyear)) (x .number) (x .monthdays) → record { day = x; seen = 0; total = total } ≡ cursorOn t row x
+unfolding isCounted
+cursor-new t row x placed monthly known first total e =
+    cursor-first t row x true (x .monthday - 1) (x .monthdays) total (rw placed (sym (lt-ltb (x .number) endDay known))) refl
+    (sym (since-is t monthly x)) (sym (whole-is t monthly x)) (omega arith) e
 
 pub month-fits-on : (t : Terms) (row : List Bool) (c : Cursor) (x : Day) (n : ℕ) → c ≡ cursorOn t row x → InMonth x n → InMonth (c .day) n
 unfolding cursorOn

@@ -5,12 +5,19 @@ ghost use mathlib.Core.Path.{_≡_};
 ghost use Prim.Native.Nat.{_<_, _≤_};
 ghost use lib.ListN.{length};
 ghost use Rattle.rule.specs.declared.Frequency.the-variants.{Monthly};
+ghost use Rattle.rule.specs.Day.{dayAt};
+ghost use Rattle.rule.specs.Lists.{countIn};
+ghost use Rattle.rule.specs.Gives.{endDay};
 ghost use Rattle.matcher.specs.Flags.{staysBy};
+ghost use Rattle.matcher.specs.Walk.{Asked, staysOnBy};
 ghost use Rattle.track.specs.Runs.{hasDay, marked, Marking};
-ghost use Rattle.track.specs.Steps.{Holding};
+ghost use Rattle.track.specs.Steps.{Holding, cursorOn};
+ghost use Rattle.track.specs.Skips.{toMonthEnd};
 ghost use Rattle.track.specs.Plain.{InMonth};
 use super::Cursor;
 use super::Track;
+use matcher::Terms;
+use rule::Day;
 
 // Asked only of a day that stays.
 fn is_chosen(track: Track, flags: &[bool], begin: u32, c: Cursor) -> bool
@@ -32,6 +39,41 @@ fn is_chosen(track: Track, flags: &[bool], begin: u32, c: Cursor) -> bool
         return false;
     }
     matcher::walk::in_step(track.terms, x)
+}
+
+// How many of the n days of one month from x on stay.
+fn count_days(flags: &[bool], inyear: bool, x: Day, n: u32) -> u32
+    requires { ⌜ (length (now flags) ≡ 1574) × (((x ≡ dayAt (x .number)) × (x .number < endDay)) × (n ≤ toMonthEnd x)) ⌝ }
+    ensures { λ r. ⌜ r ≡ countIn (staysOnBy (now (flags .entry)) inyear) (x .number) n ⌝ }
+{
+    let mut k = 0;
+    let mut found: u32 = 0;
+    while k < n {
+        let here = k;
+        k += 1;
+        let y = super::leaps::in_month(x, here);
+        if matcher::flags::stays(flags, inyear, y) {
+            found += 1;
+        }
+    }
+    found
+}
+
+// All months of a run but the first are counted from their first day on.
+fn month_cursor(terms: Terms, flags: &[bool], x: Day) -> Cursor
+    requires { ⌜ ((terms .placed ≡ true) × (terms .frequency ≡ Monthly)) × Asked terms (length (now flags)) x ⌝ }
+    ensures { λ r. ⌜ r ≡ cursorOn terms (now (flags .entry)) x ⌝ }
+{
+    let monthday = x.monthday;
+    if monthday == 1 {
+        let total = count_days(flags, terms.inyear, x, x.monthdays);
+        return Cursor {
+            day: x,
+            seen: 0,
+            total,
+        };
+    }
+    super::steps::cursor_on(terms, flags, x)
 }
 
 // The days of one month from the cursor's on, as many as there are hits.
@@ -97,7 +139,7 @@ pub fn mark_months(
             x = super::leaps::days_later(here, out);
         } else {
             let n = super::plain::month_part(here, hits.len() - i);
-            let c = super::steps::cursor_on(terms, flags, here);
+            let c = month_cursor(terms, flags, here);
             mark_counted(track, flags, &mut hits[i..i + n], c, begin, value);
             if hits.len() <= i + n {
                 return;

@@ -3,7 +3,7 @@
 use Rattle.track.proofs.PlacedLaws.{stayed, stayed-starts, stayed-more, stayed-same, month-held, month-gone, has-none}
 use Rattle.track.proofs.RunLaws.{MarkAt, mark-starts, mark-yes, mark-no, mark-ends}
 use Rattle.track.proofs.SkipLaws.{month-reaches}
-use Rattle.track.proofs.StepLaws.{held-day, held-asked, held-small}
+use Rattle.track.proofs.StepLaws.{held-day, held-small}
 use Rattle.track.specs.Runs.{hasDay}
 use Rattle.matcher.proofs.WalkLaws.{number-is, in-calendar}
 use lib.ListN.{length, length-set}

@@ -6,10 +6,10 @@ use Rattle.track.proofs.RunLaws.{MarkAt, mark-starts, mark-goes-by, mar
 use Rattle.track.specs.Runs.{hasDay}
 use Rattle.rule.specs.Day.{dayAt}
 use Rattle.matcher.proofs.WalkLaws.{number-is, day-again}
-use lib.ListN.{length, take, drop, length-set}
-use Prim.Native.Nat.{ℕ, _+_, _-_}
+use lib.ListN.{length}
+use Prim.Native.Nat.{_+_, _-_}
 use native.Mathlib.Omega.{arith}
-use mathlib.Core.Path.{_≡_, refl, sym, ap, _∙_}
+use mathlib.Core.Path.{_≡_, ap, _∙_}
 use borrow.Author.Needs.{needs}
 use Rattle.track.proofs.placed.mark_months.Statement.{statement}
 use Rattle.track.proofs.placed.mark_months.Tie as tie
@@ -92,19 +92,11 @@ month-part-requires c κs =
     let at = number-is _ _ (m .0) in
     (day-again _ _ (m .0), (omega (arith, at, p .1 .high, m .1 .size, c .before .before .before .before .loop-test .taken), omega (arith, c .before .before .before .before .loop-test .taken)))
 
-cursor-on-requires : tie.Need-cursor-on-requires Inv-loop μ-loop
-cursor-on-requires c κs =
+month-cursor-requires : tie.Need-month-cursor-requires Inv-loop μ-loop
+month-cursor-requires c κs =
     let m = c .before .before .before .before .before .before .loop .inv in
     let p = c .before .before .before .before .before .before .before .before .before .before .before .pre in
-    let at = number-is _ _ (m .0) in (
-      day-again _ _ (m .0),
-      record {
-        row-length = p .1 .row-length;
-        week = p .1 .week;
-        low = omega (arith, at, p .1 .low);
-        high = omega (arith, at, p .1 .high, m .1 .size, c .before .before .before .before .before .loop-test .taken);
-      },
-    )
+    (p .0, month-at _ _ _ _ (p .1 .row-length) (p .1 .week) (m .0) (omega (arith, p .1 .low)) (omega (arith, p .1 .high, m .1 .size, c .before .before .before .before .before .loop-test .taken)))
 
 add-mark-counted : tie.Need-add-mark-counted Inv-loop μ-loop
 add-mark-counted c =
@@ -128,7 +120,7 @@ mark-counted-requires c κs =
     let at = number-is _ _ (m .0) in
     let size = part-size (c .before .before .before .before .before .before .before .before .loop .hits) (c .before .before .before .before .before .before .before .before .loop .i) (c .before .before .month-part .result) (omega (arith, n .most, c .before .before .before .before .before .before .before .loop-test .taken)) in (
       p .0,
-      (held-here _ _ _ _ (p .1 .row-length) (p .1 .week) (omega (arith, p .1 .low)) (omega (arith, p .1 .high, m .1 .size, c .before .before .before .before .before .before .before .loop-test .taken)) (c .before .cursor-on .ensures ∙ cursor-at-day _ _ _ _ (m .0)), month-fits-on _ _ _ _ _ (c .before .cursor-on .ensures) (month-fits _ _ _ size (n .within) (omega (arith, at, p .1 .high, m .1 .size, n .most, c .before .before .before .before .before .before .before .loop-test .taken)))),
+      (held-here _ _ _ _ (p .1 .row-length) (p .1 .week) (omega (arith, p .1 .low)) (omega (arith, p .1 .high, m .1 .size, c .before .before .before .before .before .before .before .loop-test .taken)) (c .before .month-cursor .ensures ∙ cursor-at-day _ _ _ _ (m .0)), month-fits-on _ _ _ _ _ (c .before .month-cursor .ensures) (month-fits _ _ _ size (n .within) (omega (arith, at, p .1 .high, m .1 .size, n .most, c .before .before .before .before .before .before .before .loop-test .taken)))),
     )
 
 add-if4 : tie.Need-add-if4 Inv-loop μ-loop
@@ -138,12 +130,12 @@ add-if4 c =
 same-length-3 : tie.Need-same-length-3 Inv-loop μ-loop
 same-length-3 c =
     let m = c .before .before .before .before .before .before .before .before .before .before .before .before .loop .inv in
-    (mark-lent _ _ _ _ _ _ (m .1) _ _ _ (omega (arith, c .before .before .before .before .before .before .month-part .ensures .most, c .before .before .before .before .before .before .before .before .before .before .before .loop-test .taken)) (at-number _ _ _ _ (c .before .before .before .before .before .cursor-on .ensures ∙ cursor-at-day _ _ _ _ (m .0))) (c .before .before .before .mark-counted .ensures)) .size
+    (mark-lent _ _ _ _ _ _ (m .1) _ _ _ (omega (arith, c .before .before .before .before .before .before .month-part .ensures .most, c .before .before .before .before .before .before .before .before .before .before .before .loop-test .taken)) (at-number _ _ _ _ (c .before .before .before .before .before .month-cursor .ensures ∙ cursor-at-day _ _ _ _ (m .0))) (c .before .before .before .mark-counted .ensures)) .size
 
 returns-3 : tie.Need-returns-3 Inv-loop μ-loop
 returns-3 c =
     let m = c .before .before .before .before .before .before .before .before .before .before .before .before .loop .inv in
-    mark-ends _ _ _ _ _ _ (mark-lent _ _ _ _ _ _ (m .1) _ _ _ (omega (arith, c .before .before .before .before .before .before .month-part .ensures .most, c .before .before .before .before .before .before .before .before .before .before .before .loop-test .taken)) (at-number _ _ _ _ (c .before .before .before .before .before .cursor-on .ensures ∙ cursor-at-day _ _ _ _ (m .0))) (c .before .before .before .mark-counted .ensures)) (c .if4 .taken)
+    mark-ends _ _ _ _ _ _ (mark-lent _ _ _ _ _ _ (m .1) _ _ _ (omega (arith, c .before .before .before .before .before .before .month-part .ensures .most, c .before .before .before .before .before .before .before .before .before .before .before .loop-test .taken)) (at-number _ _ _ _ (c .before .before .before .before .before .month-cursor .ensures ∙ cursor-at-day _ _ _ _ (m .0))) (c .before .before .before .mark-counted .ensures)) (c .if4 .taken)
 
 add-i-2 : tie.Need-add-i-2 Inv-loop μ-loop
 add-i-2 c =
@@ -164,14 +156,14 @@ days-later-requires-2 c κs =
 loop-less-2 : tie.Need-loop-less-2 Inv-loop μ-loop
 loop-less-2 c =
     let m = c .before .before .before .before .before .before .before .before .before .before .before .before .before .loop .inv in
-    mark-falls _ _ _ _ _ _ (m .1) _ _ (mark-lent _ _ _ _ _ _ (m .1) _ _ _ (omega (arith, c .before .before .before .before .before .before .before .month-part .ensures .most, c .before .before .before .before .before .before .before .before .before .before .before .before .loop-test .taken)) (at-number _ _ _ _ (c .before .before .before .before .before .before .cursor-on .ensures ∙ cursor-at-day _ _ _ _ (m .0))) (c .before .before .before .before .mark-counted .ensures)) (c .before .before .before .before .before .before .before .month-part .ensures .more) (c .before .before .before .before .before .before .before .before .before .before .before .before .loop-test .taken)
+    mark-falls _ _ _ _ _ _ (m .1) _ _ (mark-lent _ _ _ _ _ _ (m .1) _ _ _ (omega (arith, c .before .before .before .before .before .before .before .month-part .ensures .most, c .before .before .before .before .before .before .before .before .before .before .before .before .loop-test .taken)) (at-number _ _ _ _ (c .before .before .before .before .before .before .month-cursor .ensures ∙ cursor-at-day _ _ _ _ (m .0))) (c .before .before .before .before .mark-counted .ensures)) (c .before .before .before .before .before .before .before .month-part .ensures .more) (c .before .before .before .before .before .before .before .before .before .before .before .before .loop-test .taken)
 
 loop-again-2 : tie.Need-loop-again-2 Inv-loop μ-loop
 loop-again-2 c =
     let m = c .before .before .before .before .before .before .before .before .before .before .before .before .before .loop .inv in
     let at = number-is _ _ (m .0) in (
       c .days-later2 .ensures ∙ ap dayAt (omega (arith, at)),
-      mark-lent _ _ _ _ _ _ (m .1) _ _ _ (omega (arith, c .before .before .before .before .before .before .before .month-part .ensures .most, c .before .before .before .before .before .before .before .before .before .before .before .before .loop-test .taken)) (at-number _ _ _ _ (c .before .before .before .before .before .before .cursor-on .ensures ∙ cursor-at-day _ _ _ _ (m .0))) (c .before .before .before .before .mark-counted .ensures),
+      mark-lent _ _ _ _ _ _ (m .1) _ _ _ (omega (arith, c .before .before .before .before .before .before .before .month-part .ensures .most, c .before .before .before .before .before .before .before .before .before .before .before .before .loop-test .taken)) (at-number _ _ _ _ (c .before .before .before .before .before .before .month-cursor .ensures ∙ cursor-at-day _ _ _ _ (m .0))) (c .before .before .before .before .mark-counted .ensures),
     )
 
 same-length-4 : tie.Need-same-length-4 Inv-loop μ-loop
@@ -203,7 +195,7 @@ mark-months-spec =
     loop-again
     sub-month-part
     month-part-requires
-    cursor-on-requires
+    month-cursor-requires
     add-mark-counted
     sub-mark-counted
     part-mark-counted-start
