@@ -7,3 +7,4 @@ pub mod SpanLaws
 pub mod PlaceLaws
 pub mod PlainLaws
 pub mod AheadLaws
+pub mod PlacedLaws

@@ -59,7 +59,7 @@ unset-more row a b w more out =
 
 -- ---- days of one month
 
-abbrev later : Day → ℕ → Day
+abbrev pub later : Day → ℕ → Day
 later x k =
     record {
       number = x .number + k;

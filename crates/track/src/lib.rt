@@ -5,6 +5,7 @@ use rule::Day;
 mod ahead;
 pub mod last;
 pub mod leaps;
+mod placed;
 pub mod places;
 mod plain;
 pub mod runs;
