@@ -85,7 +85,7 @@ month-least y m low high = leb→le 1 (monthLength y m) (of (isLeap y) m (omega 
     of leap zero h k = absurd (omega arith)
     of leap (suc m) h k = all-below (test leap) 12 (tested leap) m (omega arith)
 
-january : (y : ℕ) → monthStart y 1 ≡ 0
+pub january : (y : ℕ) → monthStart y 1 ≡ 0
 unfolding monthStart startIn lengthIn
 january y = of (isLeap y)
   where
@@ -196,7 +196,7 @@ inNextYear x =
       monthdays = 31;
     }
 
-january-length : (y : ℕ) → 31 ≡ monthLength y 1
+pub january-length : (y : ℕ) → 31 ≡ monthLength y 1
 unfolding monthLength lengthIn
 january-length y = of (isLeap y)
   where

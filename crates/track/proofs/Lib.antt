@@ -1,6 +1,7 @@
 pub mod StepLaws
 pub mod RunLaws
 pub mod LastLaws
+pub mod LeapLaws
 pub mod SettleLaws
 pub mod SkipLaws
 pub mod SpanLaws

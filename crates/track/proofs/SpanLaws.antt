@@ -23,7 +23,7 @@ use Rattle.track.specs.Skips.{Without, stepOn}
 use Rattle.track.specs.Places.{InPeriod}
 use Rattle.track.proofs.StepLaws.{SamePeriod, same-period}
 
-year-length-of : (n : ℕ) → dayAt n .yeardays ≡ yearLength (dayAt n .year)
+pub year-length-of : (n : ℕ) → dayAt n .yeardays ≡ yearLength (dayAt n .year)
 unfolding dayAt onDate
 year-length-of n = refl
 

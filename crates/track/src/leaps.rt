@@ -1,6 +1,6 @@
 // From a day to one some days later.
 ghost use mathlib.Core.Path.{_≡_};
-ghost use Prim.Native.Nat.{_+_, _<_, _≤_};
+ghost use Prim.Native.Nat.{_+_, _-_, _<_, _≤_};
 ghost use lib.ListN.{length};
 ghost use Rattle.gregorian.specs.Days.{dayCount};
 ghost use Rattle.rule.specs.Day.{dayAt};
@@ -27,13 +27,36 @@ pub fn in_month(x: Day, k: u32) -> Day
     }
 }
 
-// Most leaps end behind their month: then nothing is looked up.
+// The first day of the next year.
+fn new_year(x: Day) -> Day
+    requires { ⌜ (x ≡ dayAt (x .number)) × (x .number + (x .yeardays - x .yearday) < dayCount) ⌝ }
+    ensures { λ r. ⌜ r ≡ dayAt (x .number + (x .yeardays - x .yearday)) ⌝ }
+{
+    let rest = x.yeardays - x.yearday;
+    let year = x.year + 1;
+    let yeardays = calendar::year::year_length(year);
+    Day {
+        number: x.number + rest,
+        weekday: (x.weekday + rest) % 7,
+        year,
+        yearday: 0,
+        yeardays,
+        month: 1,
+        monthday: 1,
+        monthdays: 31,
+    }
+}
+
+// Most leaps end behind their month or their year: then nothing is looked up.
 pub fn days_later(x: Day, k: u32) -> Day
     requires { ⌜ (x ≡ dayAt (x .number)) × ((1 ≤ k) × (x .number + k < dayCount)) ⌝ }
     ensures { λ r. ⌜ r ≡ dayAt (x .number + k) ⌝ }
 {
     let near = k - 1;
     if x.monthdays < x.monthday + near {
+        if x.yearday + k == x.yeardays {
+            return new_year(x);
+        }
         return rule::days::day_of(x.number + k);
     }
     let last = in_month(x, near);

@@ -17,14 +17,31 @@ add-if1 c =
     let facts = in-calendar _ _ (p .0) (omega (arith, p .1 .1)) in
     omega (arith, facts .monthday-high, facts .monthdays, p .1 .1)
 
+add-if2 : tie.Need-add-if2
+add-if2 c =
+    let p = c .before .before .before .before .pre in
+    let facts = in-calendar _ _ (p .0) (omega (arith, p .1 .1)) in
+    omega (arith, facts .yearday, facts .yeardays, p .1 .1)
+
+new-year-requires : tie.Need-new-year-requires
+new-year-requires c κs =
+    let p = c .before .before .before .before .before .before .pre in
+    (p .0, omega (arith, c .if2 .taken, p .1 .1))
+
+returns : tie.Need-returns
+returns c =
+    let q = c .before .before .before .before .before .before .before in
+    let there : q .args .x .number + (q .args .x .yeardays - q .args .x .yearday) ≡ q .args .x .number + q .args .k = omega (arith, c .before .if2 .taken) in
+    c .new-year .ensures ∙ ap dayAt there
+
 add-day-of : tie.Need-add-day-of
 add-day-of c = search needs
 
 day-of-requires : tie.Need-day-of-requires
 day-of-requires c κs = search needs
 
-returns : tie.Need-returns
-returns c = search needs
+returns-2 : tie.Need-returns-2
+returns-2 c = search needs
 
 in-month-requires : tie.Need-in-month-requires
 in-month-requires c κs = search needs
@@ -35,8 +52,8 @@ next-day-requires c κs =
     let at = number-is _ _ (c .in-month .ensures) in
     (day-again _ _ (c .in-month .ensures), omega (arith, at, p .1 .0, p .1 .1))
 
-returns-2 : tie.Need-returns-2
-returns-2 c =
+returns-3 : tie.Need-returns-3
+returns-3 c =
     let p = c .before .before .before .before .before .pre in
     let at = number-is _ _ (c .before .in-month .ensures) in
     let there : c .before .in-month .result .number + 1 ≡ c .before .before .before .before .before .args .x .number + c .before .before .before .before .before .args .k = omega (arith, at, p .1 .0) in
@@ -48,9 +65,12 @@ days-later-spec =
     (tie.spec
     sub-near
     add-if1
+    add-if2
+    new-year-requires
+    returns
     add-day-of
     day-of-requires
-    returns
+    returns-2
     in-month-requires
     next-day-requires
-    returns-2)
+    returns-3)

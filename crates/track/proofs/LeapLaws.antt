@@ -1,0 +1,109 @@
+-- The first day of the year that follows the year of a day.
+use Prim.Native.Nat.{ℕ, zero, suc, _+_, _-_, _*_, _%_, _<_, _≤_}
+use mathlib.Core.Path.{_≡_, refl, sym, ap, _∙_}
+use native.Mathlib.Omega.{arith}
+use lib.Dec.{ltb}
+use borrow.Author.Tests.{ltb-true, ltb-false}
+use Rattle.gregorian.specs.declared.Date.{Date}
+use Rattle.gregorian.specs.Days.{dayCount, dayOf, dateOf, weekdayOf}
+use Rattle.gregorian.specs.Year.{yearLength, firstOfYear}
+use Rattle.gregorian.specs.Month.{monthStart}
+use Rattle.gregorian.proofs.YearLaws.{first-suc, first-cycle, first-zero}
+use Rattle.gregorian.proofs.DayLaws.{Parts, is-date}
+use Rattle.gregorian.proofs.RoundTrips.{date-day-date}
+use Rattle.rule.specs.declared.Day.{Day}
+use Rattle.rule.specs.Day.{onDate, dayAt}
+use Rattle.rule.proofs.Bools.{by}
+use Rattle.rule.proofs.DayLaws.{InCalendar, january, january-length, year-start-of}
+use Rattle.track.proofs.SpanLaws.{year-length-of}
+use Rattle.matcher.proofs.WalkLaws.{in-calendar}
+
+weekday-of : (n : ℕ) → dayAt n .weekday ≡ (n + 5) % 7
+unfolding dayAt onDate weekdayOf
+weekday-of n = refl
+
+-- The calendar's last year is followed by none.
+last-end : firstOfYear 8400 ≡ 3068037
+last-end = first-cycle 21 0 ∙ (omega (arith, first-zero))
+
+abbrev first : ℕ → Date
+first y = record { year = y; month = 1; day = 1 }
+
+module _ (y : ℕ) (low : 1600 ≤ y) (high : y ≤ 9999) where
+  parts : Parts (first y)
+  parts = record { low = low; high = high; first = omega arith; last = omega (arith, january-length y) }
+
+  number-of : dayOf (first y) ≡ firstOfYear (y - 1600)
+  unfolding dayOf
+  number-of = omega (arith, january y)
+
+  date-of : dateOf (firstOfYear (y - 1600)) ≡ first y
+  date-of = ap dateOf (sym number-of) ∙ date-day-date (first y) (is-date (first y) parts)
+
+-- January 1st of a year, with its number and its weekday.
+abbrev newYear : ℕ → ℕ → ℕ → Day
+newYear n w y =
+    record {
+      number = n;
+      weekday = w;
+      year = y;
+      yearday = 0;
+      yeardays = yearLength y;
+      month = 1;
+      monthday = 1;
+      monthdays = 31;
+    }
+
+first-day : (y n w : ℕ) → 1600 ≤ y → y ≤ 9999 → n ≡ firstOfYear (y - 1600) → w ≡ weekdayOf n → newYear n w y ≡ dayAt n
+unfolding dayAt onDate
+first-day y n w low high e f =
+    let date : dateOf n ≡ first y = ap dateOf e ∙ date-of y low high in
+    let on : 0 ≡ monthStart y 1 + (1 - 1) = rw (january y) in
+    rw date
+    (λ i.
+    record {
+      number = n;
+      weekday = f i;
+      year = y;
+      yearday = on i;
+      yeardays = yearLength y;
+      month = 1;
+      monthday = 1;
+      monthdays = january-length y i;
+    })
+
+module _ (x : Day) (is : x ≡ dayAt (x .number)) (h : x .number + (x .yeardays - x .yearday) < dayCount) where
+  facts : InCalendar x
+  facts = in-calendar x (x .number) is (omega arith)
+
+  begin : firstOfYear (x .year - 1600) + x .yearday ≡ x .number
+  begin = ap (λ (d : Day). firstOfYear (d .year - 1600) + d .yearday) is ∙ year-start-of (x .number) (omega arith)
+
+  whole : x .yeardays ≡ yearLength (x .year)
+  whole = ap (λ (d : Day). d .yeardays) is ∙ (year-length-of (x .number) ∙ sym (ap (λ (d : Day). yearLength (d .year)) is))
+
+  next : firstOfYear (suc (x .year - 1600)) ≡ x .number + (x .yeardays - x .yearday)
+  next =
+      let low = facts .year-low in
+      let one : 1600 + (x .year - 1600) ≡ x .year = omega arith in
+      omega (arith, first-suc (x .year - 1600), ap yearLength one, begin, whole, facts .yearday)
+
+  -- the calendar has a year after
+  pub not-last : x .year + 1 ≤ 9999
+  not-last =
+      by (ltb (x .year) 9999) (λ e. omega (arith, ltb-true (x .year) 9999 e))
+      (λ e.
+      let top : suc (x .year - 1600) ≡ 8400 = omega (arith, ltb-false (x .year) 9999 e, facts .year-high) in
+      absurd (omega (arith, next, ap firstOfYear top, last-end)))
+
+  weekday-is : (x .weekday + (x .yeardays - x .yearday)) % 7 ≡ weekdayOf (x .number + (x .yeardays - x .yearday))
+  unfolding weekdayOf
+  weekday-is =
+      let at : x .weekday ≡ (x .number + 5) % 7 = ap (λ (d : Day). d .weekday) is ∙ weekday-of (x .number) in
+      omega (arith, at)
+
+  pub new-year : newYear (x .number + (x .yeardays - x .yearday)) ((x .weekday + (x .yeardays - x .yearday)) % 7) (x .year + 1) ≡ dayAt (x .number + (x .yeardays - x .yearday))
+  new-year =
+      let low = facts .year-low in
+      let after : x .year + 1 - 1600 ≡ suc (x .year - 1600) = omega arith in
+      first-day (x .year + 1) _ _ (omega arith) not-last (sym next ∙ ap firstOfYear (sym after)) weekday-is
