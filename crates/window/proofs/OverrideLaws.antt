@@ -127,13 +127,24 @@ module _ (at best i r : ℕ) (ids : List ℕ) (gone : List Bool) where
         none = λ j below above. rw (ne-eqb i j (λ same. omega arith)) (f .none j below above);
       }
 
+nearer-gone : (at best i : ℕ) → nearer at best i true ≡ best
+unfolding nearer
+nearer-gone at best i = alike (ltb i at) (ltb i best)
+  where
+    alike : (a b : Bool) → (if a then best else if b then best else best) ≡ best
+    alike true b = refl
+    alike false true = refl
+    alike false false = refl
+
 least-is : (at best : ℕ) (ids : List ℕ) (gone : List Bool) → Least at best ids gone (leastOf at best ids gone)
 unfolding leastOf nearer isNamed
 least-is at best [] gone =
     record { low = λ h. h; high = omega arith; named = λ h. absurd (omega arith); none = λ j below above. refl }
 least-is at best (i ∷ ids) [] =
     record { low = λ h. h; high = omega arith; named = λ h. absurd (omega arith); none = λ j below above. refl }
-least-is at best (i ∷ ids) (true ∷ gone) = farther at best i _ ids gone true (λ j below above same. refl) (least-is at best ids gone)
+least-is at best (i ∷ ids) (true ∷ gone) =
+    subst (λ (b : ℕ). Least at best (i ∷ ids) (true ∷ gone) (leastOf at b ids gone)) (sym (nearer-gone at best i))
+    (farther at best i _ ids gone true (λ j below above same. refl) (least-is at best ids gone))
 least-is at best (i ∷ ids) (false ∷ gone) =
     by (ltb i at)
     (λ e. rw e (farther at best i _ ids gone false (λ j below above same. absurd (omega (arith, ltb-true i at e))) (least-is at best ids gone)))

@@ -34,7 +34,7 @@ dayFrom start at = if leb (at % 86400) (start % 86400) then at / 86400 else at /
 
 -- The nearer of two: the id of an override that is not excluded, from `at` on and before `best`.
 unfoldable pub nearer : ℕ → ℕ → ℕ → Bool → ℕ
-nearer at best i gone = if gone then best else if ltb i at then best else if ltb i best then i else best
+nearer at best i gone = if ltb i at then best else if ltb i best then (if gone then best else i) else best
 
 unfoldable pub leastOf : ℕ → ℕ → List ℕ → List Bool → ℕ
 leastOf at best [] gone = best

@@ -27,13 +27,13 @@ pub fn is_named(only: bool, ids: &[u64], gone: &[bool], x: u64) -> bool
 fn nearer_of(at: u64, best: u64, id: u64, gone: bool) -> u64
     ensures { λ r. ⌜ r ≡ nearer at best id gone ⌝ }
 {
-    if gone {
-        return best;
-    }
     if id < at {
         return best;
     }
     if id < best {
+        if gone {
+            return best;
+        }
         return id;
     }
     best
