@@ -51,8 +51,10 @@ impl Libical {
     /// Opens the library, if it is there.
     pub fn load() -> Option<Libical> {
         // SAFETY: both names end with a zero.
-        let library =
-            [c"libical.so.3", c"libical.so"].into_iter().map(|name| unsafe { dlopen(name.as_ptr(), RTLD_NOW) }).find(|library| !library.is_null())?;
+        let library = [c"libical.so.3", c"libical.so"]
+            .into_iter()
+            .map(|name| unsafe { dlopen(name.as_ptr(), RTLD_NOW) })
+            .find(|library| !library.is_null())?;
         let find = |name: &CStr| {
             // SAFETY: the library is open, and stays so.
             let function = unsafe { dlsym(library, name.as_ptr()) };

@@ -68,7 +68,9 @@ fn spans(records: &[u8]) -> Vec<(i64, i64)> {
 /// Events in London, with libical doing the same work: from a text and a zone at hand to the start and the end of each occurrence in UTC.
 fn print_beside(libical: &libical::Libical) {
     println!("\n## The same work by libical\n");
-    println!("| Event in London | Records | Library, ms | Expander / library | libical, rule alone / library | libical, whole call / library |");
+    println!(
+        "| Event in London | Records | Library, ms | Expander / library | libical, rule alone / library | libical, whole call / library |"
+    );
     println!("|---|---|---|---|---|---|");
     for (workload, text) in workloads::in_london() {
         let mut buffer = vec![0; workload.room()];

@@ -37,7 +37,16 @@ impl Workload {
     pub fn library(&self, buffer: &mut [u8]) -> (u32, u64) {
         let zone = &*self.zone;
         let (start, end) = self.window;
-        smocurant::raw::expand(&self.text, zone.name().as_bytes(), zone.initial_offset(), zone.instants(), zone.offsets(), start, end, buffer)
+        smocurant::raw::expand(
+            &self.text,
+            zone.name().as_bytes(),
+            zone.initial_offset(),
+            zone.instants(),
+            zone.offsets(),
+            start,
+            end,
+            buffer,
+        )
     }
 
     /// The expander's call.
