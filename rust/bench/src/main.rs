@@ -29,6 +29,7 @@ fn main() {
     if let Some(libical) = &libical {
         print_beside(libical);
     }
+    print_counts();
     println!("\n## Growth\n");
     println!("| Workload | Text, bytes | Records | Library, ms | To the line before |");
     println!("|---|---|---|---|---|");
@@ -68,27 +69,42 @@ fn spans(records: &[u8]) -> Vec<(i64, i64)> {
 /// Events in London, with libical doing the same work: from a text and a zone at hand to the start and the end of each occurrence in UTC.
 fn print_beside(libical: &libical::Libical) {
     println!("\n## The same work by libical\n");
-    println!(
-        "| Event in London | Records | Library, ms | Expander / library | libical, rule alone / library | libical, whole call / library |"
-    );
-    println!("|---|---|---|---|---|---|");
+    println!("| Event in London | Records | Library, us | its rule, us | libical, us | its rule, us | Whole calls | Rules |");
+    println!("|---|---|---|---|---|---|---|---|");
     for (workload, text) in workloads::in_london() {
         let mut buffer = vec![0; workload.room()];
         let (_, length) = workload.library(&mut buffer);
         let records = (length as usize - 12) / 28;
         assert_eq!(libical.occurrences(&text, workload.window), spans(&buffer[..28 * records]), "{}", workload.name);
+        let empty = workload.without_window();
         let library = nanoseconds(|| workload.library(&mut buffer));
-        let expander = nanoseconds(|| workload.expander(&mut buffer));
-        let rule = workload.rule.as_ref().map_or(0.0, |rule| nanoseconds(|| libical.expand(rule, records)));
-        let whole = nanoseconds(|| libical.occurrences(&text, workload.window));
+        let library_rule = library - nanoseconds(|| empty.library(&mut buffer));
+        let other = nanoseconds(|| libical.occurrences(&text, workload.window));
+        let other_rule = workload.rule.as_ref().map_or(0.0, |rule| nanoseconds(|| libical.expand(rule, records)));
         println!(
-            "| {} | {records} | {:.4} | {:.2} | {:.0} | {:.0} |",
+            "| {} | {records} | {:.1} | {:.1} | {:.0} | {:.0} | {:.0} | {:.0} |",
             workload.name,
-            library / 1e6,
-            expander / library,
-            rule / library,
-            whole / library,
+            library / 1e3,
+            library_rule / 1e3,
+            other / 1e3,
+            other_rule / 1e3,
+            other / library,
+            other_rule / library_rule,
         );
+    }
+}
+
+/// Counts that are never used up, of the library alone: what is asked of them is a bound, and not to be faster than another.
+fn print_counts() {
+    println!("\n## Counts from 1601 on\n");
+    println!("| 16 rules, each | the year 2026, ms | the year 9998, ms |");
+    println!("|---|---|---|");
+    for (name, workloads) in workloads::counted() {
+        let [near, far] = workloads.map(|workload| {
+            let mut buffer = vec![0; workload.room()];
+            nanoseconds(|| workload.library(&mut buffer)) / 1e6
+        });
+        println!("| {name} | {near:.2} | {far:.2} |");
     }
 }
 

@@ -1,7 +1,7 @@
 //! Texts: a typical one, and the worst of 64 KiB.
 
 use generator::dates::{self, DAY};
-use generator::examples::event;
+use generator::examples::{by_day, event};
 
 /// A weekly list with some changes.
 pub const THEATRE: &str = include_str!("../../../examples/theatre-lists.json");
@@ -84,11 +84,39 @@ pub fn alike(count: usize) -> String {
     event(START, &format!(r#", "x": {{{}}}"#, vec![r#""":0"#; count].join(",")))
 }
 
-/// As many rules as are allowed, each with a count that the calendar does not use up.
-pub fn counted() -> String {
-    let rule = r#"{"@type":"RecurrenceRule","frequency":"yearly","byMonth":["2"],"byMonthDay":[29],"count":10000}"#;
-    let list = [rule; 8].join(",");
+/// As many rules as are allowed, all alike, each with a count.
+pub fn counted(rule: &str, count: u32) -> String {
+    let rule = format!(r#"{{"@type":"RecurrenceRule",{rule},"count":{count}}}"#);
+    let list = vec![rule; 8].join(",");
     event("1601-01-01T09:00:00", &format!(r#", "recurrenceRules": [{list}], "excludedRecurrenceRules": [{list}]"#))
+}
+
+/// Rules of every kind that have less than two dates in three days.
+pub fn endless_rules() -> Vec<(&'static str, String)> {
+    let working = by_day("mo tu we th fr");
+    let some = r#""byMonthDay":[1,2,3,4,5,6,7,8,9,10,11,12,13,14,15,16,17,18,19]"#;
+    let every = |frequency: &str, interval: u32, rest: &str| format!(r#""frequency":"{frequency}","interval":{interval}{rest}"#);
+    vec![
+        ("daily, 19 days of each month", every("daily", 1, &format!(",{some}"))),
+        ("every second day", every("daily", 2, "")),
+        ("every 63rd day", every("daily", 63, "")),
+        ("every 200th day", every("daily", 200, "")),
+        ("daily, position 1 of Mondays", every("daily", 1, &format!(r#",{},"bySetPosition":[1]"#, by_day("mo")))),
+        ("weekly on three days", every("weekly", 1, &format!(",{}", by_day("mo tu we")))),
+        ("every second week on five days", every("weekly", 2, &format!(",{working}"))),
+        ("every 13th week on five days", every("weekly", 13, &format!(",{working}"))),
+        ("weekly, last of five days", every("weekly", 1, &format!(r#",{working},"bySetPosition":[-1]"#))),
+        ("every third week, last of five days", every("weekly", 3, &format!(r#",{working},"bySetPosition":[-1]"#))),
+        ("monthly, last of five days", every("monthly", 1, &format!(r#",{working},"bySetPosition":[-1]"#))),
+        ("every fifth month, last of five days", every("monthly", 5, &format!(r#",{working},"bySetPosition":[-1]"#))),
+        ("monthly on the 31st", every("monthly", 1, r#","byMonthDay":[31]"#)),
+        (
+            "yearly, last of five days in three months",
+            every("yearly", 1, &format!(r#",{working},"byMonth":["1","6","12"],"bySetPosition":[-1]"#)),
+        ),
+        ("yearly, the 20th Monday", every("yearly", 1, r#","byDay":[{"@type":"NDay","day":"mo","nthOfPeriod":20}]"#)),
+        ("yearly, 29 February", every("yearly", 1, r#","byMonth":["2"],"byMonthDay":[29]"#)),
+    ]
 }
 
 /// Overrides of the days from the start on.

@@ -27,6 +27,12 @@ impl Workload {
         Workload { rule: Some((rule.to_string(), dates::read(start))), ..self }
     }
 
+    /// The same call with a window that ends where it begins: what a call takes beside the expansion of its rules.
+    pub fn without_window(&self) -> Workload {
+        let window = (self.window.0, self.window.0);
+        Workload { name: self.name.clone(), text: self.text.clone(), window, rule: None, zone: zone() }
+    }
+
     /// Room for an occurrence a day, and the overrides.
     pub fn room(&self) -> usize {
         let days = (self.window.1 - self.window.0) / dates::DAY + 1;
@@ -78,9 +84,17 @@ pub fn all() -> Vec<Workload> {
     let mut list = rules();
     list.extend(texts::worst().into_iter().map(|(name, text)| Workload::new(name, text, "2026-01-01", "2027-01-01")));
     list.push(Workload::new("64 KiB: 13,000 members of one name", texts::alike(13_000), "2026-01-01", "2027-01-01"));
-    list.push(Workload::new("16 rules with a count from 1601 on, the year 2026", texts::counted(), "2026-01-01", "2027-01-01"));
-    list.push(Workload::new("16 rules with a count from 1601 on, the year 9998", texts::counted(), "9998-01-01", "9999-01-01"));
     list
+}
+
+/// Events from 1601 on with as many rules as are allowed, each with a count that is not used up in the window: in
+/// the year 2026, then in 9998. A count of as many days as there are would not have to be looked for.
+pub fn counted() -> Vec<(String, [Workload; 2])> {
+    let windows = [("2026-01-01", "2027-01-01", 150_000), ("9998-01-01", "9999-01-01", 2_000_000)];
+    let both = |(name, rule): (&str, String)| {
+        (name.to_string(), windows.map(|(from, to, count)| Workload::new(name, texts::counted(&rule, count), from, to)))
+    };
+    texts::endless_rules().into_iter().map(both).collect()
 }
 
 /// Typical rules.
