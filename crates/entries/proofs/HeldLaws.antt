@@ -1,69 +1,29 @@
--- What the gathered table holds: the first 1,025 entries.
-use Prim.Native.Nat.{ℕ, _+_, _<_, _≤_, min}
-use mathlib.Core.Path.{_≡_, refl, sym, ap, _∙_, subst}
-use mathlib.Core.List.{List, [], _∷_, _++_, map}
-use native.Mathlib.Numerals.{add-one}
+-- What the runs hold once the entries are gathered: in their first places, the numbers of the first 1,025 entries.
+use Prim.Native.Nat.{ℕ, _+_, _≤_}
+use mathlib.Core.Path.{_≡_, ap, _∙_, subst}
+use mathlib.Core.List.{List, map, _++_}
 use native.Mathlib.Omega.{arith}
-use borrow.Author.Tests.{lt-ltb}
-use lib.IntN.{ℤ, pos}
-use lib.ListN.{length, take, set, length-set, length-append, length-replicate, length-take}
-use lib.Seq.{take-suc-set, append-snoc}
+use lib.IntN.{ℤ}
+use lib.ListN.{length, take, drop, length-map, length-take}
+use lib.Seq.{sets, sets-eq, take-append-seam}
 use Rattle.entries.specs.declared.Transition.{Transition}
-use Rattle.entries.specs.declared.Entries.{Entries}
-use Rattle.entries.specs.Gather.{noEntries, added, addedAll, gathered, instantsOf, offsetsOf, Holds, Reaching}
+use Rattle.entries.specs.Gather.{gathered, instantsOf, offsetsOf, Gathers}
 
-map-snoc : (f : Transition → ℤ) (xs : List Transition) (e : Transition) → map f (xs ++ (e ∷ [])) ≡ map f xs ++ (f e ∷ [])
-map-snoc f [] e = refl
-map-snoc f (x ∷ xs) e = ap (λ (l : List ℤ). f x ∷ l) (map-snoc f xs e)
-
--- one array after a store at its count
-stored : (f : Transition → ℤ) (l : List ℤ) (n : ℕ) (xs : List Transition) (e : Transition) → n < length l → take n l ≡ map f xs
-    → take (n + 1) (set l n (f e)) ≡ map f (xs ++ (e ∷ []))
-stored f l n xs e h k = rw (add-one, take-suc-set l n (f e) h, k, map-snoc f xs e)
-
-held-none : Holds noEntries []
-unfolding noEntries instantsOf offsetsOf
-held-none =
-    record {
-      number = refl;
-      instants-are = refl;
-      offsets-are = refl;
-      instants-whole = length-replicate 1025 (pos 0);
-      offsets-whole = length-replicate 1025 (pos 0);
-    }
-
-held-one : (t : Entries) (xs : List Transition) (e : Transition) → Holds t xs → length xs < 1025 → Holds (added t (e .instant) (e .offset)) (xs ++ (e ∷ []))
-unfolding added instantsOf offsetsOf
-held-one t xs e h room = rw (lt-ltb (t .n) 1025 (rw (h .number) room)) record {
-  number = rw (h .number, length-append xs (e ∷ []));
-  instants-are = stored (λ e. e .instant) (t .instants) (t .n) xs e (rw (h .instants-whole, h .number) room) (h .instants-are);
-  offsets-are = stored (λ e. e .offset) (t .offsets) (t .n) xs e (rw (h .offsets-whole, h .number) room) (h .offsets-are);
-  instants-whole = rw (length-set) (h .instants-whole);
-  offsets-whole = rw (length-set) (h .offsets-whole);
-}
-
-held-all : (es : List Transition) (t : Entries) (xs : List Transition) → Holds t xs → length xs + length es ≤ 1025 → Holds (addedAll t es) (xs ++ es)
-unfolding addedAll
-held-all [] t xs h room = subst (λ (l : List Transition). Holds t l) (sym (append-nil xs)) h
-  where
-    append-nil : (l : List Transition) → l ++ [] ≡ l
-    append-nil [] = refl
-    append-nil (x ∷ l) = ap (λ (m : List Transition). x ∷ m) (append-nil l)
-held-all (e ∷ es) t xs h room =
-    subst (λ (l : List Transition). Holds (addedAll (added t (e .instant) (e .offset)) es) l) (append-snoc xs e es)
-    (held-all es (added t (e .instant) (e .offset)) (xs ++ (e ∷ [])) (held-one t xs e h (omega arith)) (rw (length-append xs (e ∷ [])) (omega arith)))
-
-pub gathered-holds : (ys : List Transition) → Holds (gathered ys) (take 1025 ys)
+pub gathered-most : (ys : List Transition) → length (gathered ys) ≤ 1025
 unfolding gathered
-gathered-holds ys = held-all (take 1025 ys) noEntries [] held-none (omega (arith, length-take 1025 ys))
+gathered-most ys = omega (arith, length-take 1025 ys)
 
-pub gathered-number : (ys : List Transition) → gathered ys .n ≡ min 1025 (length ys)
-gathered-number ys = gathered-holds ys .number ∙ length-take 1025 ys
+-- a run whose first places were stored to
+stored : (f : Transition → ℤ) (xs : List Transition) (l : List ℤ) → length xs ≤ length l → take (length xs) (sets l 0 (map f xs)) ≡ map f xs
+stored f xs l h =
+    ap (λ (r : List ℤ). take (length xs) r) (sets-eq (map f xs) l 0 (rw (length-map) (omega arith)))
+    ∙ subst (λ (n : ℕ). take n (map f xs ++ drop (0 + length (map f xs)) l) ≡ map f xs) (length-map xs f) (take-append-seam (map f xs) (drop (0 + length (map f xs)) l))
 
-pub gathered-reaches : (ys : List Transition) → Reaching (gathered ys)
-gathered-reaches ys =
-    let h : Holds (gathered ys) (take 1025 ys) = gathered-holds ys in
-    record {
-      instants-reach = rw (h .number, h .instants-whole) (omega (arith, length-take 1025 ys));
-      offsets-reach = rw (h .number, h .offsets-whole) (omega (arith, length-take 1025 ys));
-    }
+module _ (ys : List Transition) (instants offsets : List ℤ) (n : ℕ) (instants′ offsets′ : List ℤ) (g : Gathers ys instants offsets n instants′ offsets′) where
+  pub instants-held : 1025 ≤ length instants → take n instants′ ≡ instantsOf (gathered ys)
+  unfolding instantsOf
+  instants-held h = rw (g .number, g .instants-are) (stored (λ e. e .instant) (gathered ys) instants (let m : length (gathered ys) ≤ 1025 = gathered-most ys in omega arith))
+
+  pub offsets-held : 1025 ≤ length offsets → take n offsets′ ≡ offsetsOf (gathered ys)
+  unfolding offsetsOf
+  offsets-held h = rw (g .number, g .offsets-are) (stored (λ e. e .offset) (gathered ys) offsets (let m : length (gathered ys) ≤ 1025 = gathered-most ys in omega arith))

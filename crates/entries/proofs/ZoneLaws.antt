@@ -11,14 +11,15 @@ use lib.ListN.{length, take, length-map, length-take}
 use lib.Seq.{take-all}
 use Rattle.zone.specs.Table.{validTable}
 use Rattle.entries.specs.declared.Transition.{Transition}
-use Rattle.entries.specs.Gather.{instantsOf, offsetsOf}
+use Rattle.entries.specs.Gather.{gathered, instantsOf, offsetsOf}
 
 too-long : (initial : ℤ) (entries : List Transition) → 1024 < length entries → validTable initial (instantsOf entries) (offsetsOf entries) ≡ false
 unfolding validTable instantsOf
 too-long initial entries h = rw (length-map, lt-leb _ _ h)
 
 pub first-enough : (initial : ℤ) (ys : List Transition)
-    → validTable initial (instantsOf ys) (offsetsOf ys) ≡ validTable initial (instantsOf (take 1025 ys)) (offsetsOf (take 1025 ys))
+    → validTable initial (instantsOf ys) (offsetsOf ys) ≡ validTable initial (instantsOf (gathered ys)) (offsetsOf (gathered ys))
+unfolding gathered
 first-enough initial ys = by (leb (length ys) 1024) refl
   where
     by : (b : Bool) → leb (length ys) 1024 ≡ b
@@ -29,7 +30,8 @@ first-enough initial ys = by (leb (length ys) 1024) refl
         too-long initial ys h ∙ sym (too-long initial (take 1025 ys) (omega (arith, length-take 1025 ys)))
 
 -- Of a valid table none is left out.
-pub valid-whole : (initial : ℤ) (ys : List Transition) → validTable initial (instantsOf ys) (offsetsOf ys) ≡ true → take 1025 ys ≡ ys
+pub valid-whole : (initial : ℤ) (ys : List Transition) → validTable initial (instantsOf ys) (offsetsOf ys) ≡ true → gathered ys ≡ ys
+unfolding gathered
 valid-whole initial ys e = by (leb (length ys) 1024) refl
   where
     by : (b : Bool) → leb (length ys) 1024 ≡ b → take 1025 ys ≡ ys

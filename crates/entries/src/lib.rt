@@ -1,6 +1,8 @@
 // A zone table lent as a slice of entries, and the two runs of numbers that the library works over (01, "Zone table and UTC").
 ghost use mathlib.Core.Path.{_≡_};
-ghost use Rattle.entries.specs.Gather.{lesser, noEntries, added, gathered};
+ghost use Prim.Native.Nat.{_≤_};
+ghost use lib.ListN.{length};
+ghost use Rattle.entries.specs.Gather.{lesser, Gathers};
 
 // "a run of entries, each an instant and an offset from then on"
 #[repr(C)]
@@ -9,39 +11,7 @@ pub struct Transition {
     pub offset: i64,
 }
 
-// The first n places of both arrays are the entries. One more than a valid table may have is enough to see that a table is too long.
-pub struct Entries {
-    pub instants: [i64; 1025],
-    pub offsets: [i64; 1025],
-    pub n: usize,
-}
-
-pub fn empty() -> Entries
-    ensures { λ r. ⌜ r ≡ noEntries ⌝ }
-{
-    let instants = [0i64; 1025];
-    let offsets = [0i64; 1025];
-    Entries {
-        instants,
-        offsets,
-        n: 0,
-    }
-}
-
-// One entry more; a full table stays as it is.
-pub fn add(mut t: Entries, x: i64, y: i64) -> Entries
-    ensures { λ r. ⌜ r ≡ added t x y ⌝ }
-{
-    let n = t.n;
-    if n < 1025 {
-        t.instants[n] = x;
-        t.offsets[n] = y;
-        t.n = n + 1;
-        return t;
-    }
-    t
-}
-
+// One more than a valid table may have is enough to see that a table is too long.
 fn limit(n: usize) -> usize
     ensures { λ r. ⌜ r ≡ lesser n 1025 ⌝ }
 {
@@ -51,18 +21,18 @@ fn limit(n: usize) -> usize
     n
 }
 
-// The borrow checker does not cover a slice of structs: each number of an entry goes to `add` by itself.
-pub fn gather(entries: &[Transition]) -> Entries
-    ensures { λ r. ⌜ r ≡ gathered (now (entries .entry)) ⌝ }
+// The entries' numbers go to the first places of both runs; the result says to how many.
+pub fn gather(entries: &[Transition], instants: &mut [i64], offsets: &mut [i64]) -> usize
+    requires { ⌜ (1025 ≤ length (now instants)) × (1025 ≤ length (now offsets)) ⌝ }
+    ensures { λ r. ⌜ Gathers (now (entries .entry)) (now (instants .entry)) (now (offsets .entry)) r (now (instants .exit)) (now (offsets .exit)) ⌝ }
 {
-    let mut t = empty();
+    let n = limit(entries.len());
     let mut i = 0;
-    let mut left = limit(entries.len());
-    while 0 < left {
+    while i < n {
         let e = entries[i];
-        t = add(t, e.instant, e.offset);
+        instants[i] = e.instant;
+        offsets[i] = e.offset;
         i += 1;
-        left -= 1;
     }
-    t
+    n
 }

@@ -1,2 +1,3 @@
+pub mod ArrayLent
 pub mod EntryLaws
 pub mod PartLaws

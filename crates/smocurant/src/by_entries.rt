@@ -1,28 +1,27 @@
 // 01: "lent slice of entry structs in a thin outer function; the core first works over slices of numbers".
-ghost use lib.ListN.{take};
+ghost use Prim.Native.Nat.{_≤_};
+ghost use lib.ListN.{length as lengthOf, take};
 ghost use Rattle.table.specs.Call.{expandText};
 ghost use Rattle.table.specs.Results.{zonesOf, Gives};
-ghost use Rattle.entries.specs.Gather.{Reaching, instantsOf, offsetsOf};
-use entries::Entries;
+ghost use Rattle.entries.specs.Gather.{instantsOf, offsetsOf};
 use entries::Transition;
 
-// The gathered numbers are lent to the core.
+// The first n numbers of both runs are lent to the core.
 fn with_numbers(
     text: &[u8],
     zone_name: &[u8],
     initial_offset: i64,
-    t: Entries,
+    instants: &[i64],
+    offsets: &[i64],
+    n: usize,
     window_start: i64,
     window_end: i64,
     buffer: &mut [u8],
     length: &mut u64,
 ) -> u32
-    requires { ⌜ Reaching t ⌝ }
-    ensures { λ r. ⌜ Gives (expandText (zonesOf (now («zone_name» .entry)) «initial_offset» (take (t .n) (t .instants)) (take (t .n) (t .offsets))) (now (text .entry)) «window_start» «window_end» (now (buffer .entry))) r (now (length .exit)) (now (buffer .exit)) ⌝ }
+    requires { ⌜ (n ≤ lengthOf (now instants)) × (n ≤ lengthOf (now offsets)) ⌝ }
+    ensures { λ r. ⌜ Gives (expandText (zonesOf (now («zone_name» .entry)) «initial_offset» (take n (now (instants .entry))) (take n (now (offsets .entry)))) (now (text .entry)) «window_start» «window_end» (now (buffer .entry))) r (now (length .exit)) (now (buffer .exit)) ⌝ }
 {
-    let instants = t.instants;
-    let offsets = t.offsets;
-    let n = t.n;
     expansion::expand::expand(
         text,
         zone_name,
@@ -49,11 +48,16 @@ pub extern "C" fn smocurant_expand_entries(
 ) -> u32
     ensures { λ r. ⌜ Gives (expandText (zonesOf (now («zone_name» .entry)) «initial_offset» (instantsOf (now (entries .entry))) (offsetsOf (now (entries .entry)))) (now (text .entry)) «window_start» «window_end» (now (buffer .entry))) r (now (length .exit)) (now (buffer .exit)) ⌝ }
 {
+    let mut instants = [0i64; 1025];
+    let mut offsets = [0i64; 1025];
+    let n = entries::gather(entries, &mut instants, &mut offsets);
     with_numbers(
         text,
         zone_name,
         initial_offset,
-        entries::gather(entries),
+        &instants,
+        &offsets,
+        n,
         window_start,
         window_end,
         buffer,

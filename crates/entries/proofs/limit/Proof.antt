@@ -5,12 +5,12 @@ use Rattle.entries.proofs.limit.Tie as tie
 use Rattle.entries.proofs.limit.Reads as reads
 use Rattle.entries.proofs.limit.Lts as lts
 
--- src/lib.rt:49:9
+-- src/lib.rt:20:9
 returns : tie.Need-returns
 unfolding lesser
 returns c = rw (lt-ltb _ _ (c .if1 .taken))
 
--- src/lib.rt:45:1
+-- src/lib.rt:16:1
 returns-2 : tie.Need-returns-2
 unfolding lesser
 returns-2 c = rw (le-ltb _ _ (c .if1 .left))
