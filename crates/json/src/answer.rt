@@ -21,16 +21,15 @@ pub fn judge(text: &[u8], ends: &mut [u32]) -> u32
         return 1;
     }
     match whole(text, ends) {
-        Read::To(_) => match paired(text) {
-            Read::To(_) => {
-                if text_fault(text, ends) {
-                    return 4;
-                }
-                0
+        Read::To(_) => {
+            if !paired(text) {
+                return 3;
             }
-            Read::Bad => 3,
-            Read::Deep => 3,
-        },
+            if text_fault(text, ends) {
+                return 4;
+            }
+            0
+        }
         Read::Bad => 3,
         Read::Deep => 2,
     }

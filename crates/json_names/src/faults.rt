@@ -1,11 +1,17 @@
-// The names of every object in a value: the value's own, and those of the values that it holds, one level deeper.
+// The names of every object in a value: the value's own, and those of the values that it holds, one level deeper. The walk
+// over an object's members looks at their values, and puts their names down on the way, to be sorted at its end.
 ghost use mathlib.Core.Path.{_≡_};
 ghost use Prim.Native.Nat.{_<_, _≤_};
 ghost use Rattle.json_ends.specs.Ends.{Ends};
 ghost use lib.ListN.{length};
-ghost use Rattle.json_walk.specs.Walk.{membersOf, elementsOf};
-ghost use Rattle.json_names.specs.Names.{faultAt, anyMember, anyElement};
-use crate::duplicates::bad_names;
+ghost use Rattle.json_walk.specs.Walk.{elementsOf};
+ghost use Rattle.json_names.specs.Names.{faultAt, objectFault, anyElement};
+ghost use Rattle.json_names.specs.Slashes.{Clean};
+use crate::duplicates::repeated_from;
+use crate::keys::pack;
+use crate::opening::append;
+use crate::opening::opens;
+use crate::slashes::slash_named;
 use json_ends::arrays::first_element;
 use json_ends::arrays::next_element;
 use json_ends::objects::first_member;
@@ -14,16 +20,19 @@ use json_text::bytes::byte;
 use json_walk::ElementStep;
 use json_walk::MemberStep;
 
-// Is the value at a place at fault? It opens at most so many levels.
+// Is the value at a place at fault? It opens at most so many levels. The names of the objects around it stand in `order`
+// before `base`.
 pub fn fault(
     text: &[u8],
     ends: &[u32],
     at: usize,
     left: usize,
+    clean: bool,
+    base: usize,
     order: &mut [u64],
     spare: &mut [u64],
 ) -> bool
-    requires { ⌜ (length (now order) ≤ 65536) × (length (now order) ≤ length (now spare)) × Ends (now text) (now ends) ⌝ }
+    requires { ⌜ (length (now order) ≤ 65536) × (length (now order) ≤ length (now spare)) × (base ≤ length (now order)) × Clean (now text) clean × Ends (now text) (now ends) ⌝ }
     ensures { λ r. ⌜ r ≡ faultAt left (now (text .entry)) at ⌝ }
 {
     if left == 0 {
@@ -31,44 +40,50 @@ pub fn fault(
     }
     let b = byte(text, at);
     if b == 0x7B {
-        if bad_names(text, ends, at, order, spare) {
-            return true;
-        }
-        return object(text, ends, at, left - 1, order, spare);
+        return object(text, ends, at, left - 1, clean, base, order, spare);
     }
     if b == 0x5B {
-        return array(text, ends, at, left - 1, order, spare);
+        return array(text, ends, at, left - 1, clean, base, order, spare);
     }
     false
 }
 
-// Is a value of the object at a place at fault?
+// Is the object at a place at fault?
 pub fn object(
     text: &[u8],
     ends: &[u32],
     at: usize,
     left: usize,
+    clean: bool,
+    base: usize,
     order: &mut [u64],
     spare: &mut [u64],
 ) -> bool
-    requires { ⌜ (at < length (now text)) × (length (now order) ≤ 65536) × (length (now order) ≤ length (now spare)) × Ends (now text) (now ends) ⌝ }
-    ensures { λ r. ⌜ r ≡ anyMember (λ v. faultAt left (now (text .entry)) v) (membersOf (now (text .entry)) at) ⌝ }
+    requires { ⌜ (at < length (now text)) × (length (now order) ≤ 65536) × (length (now order) ≤ length (now spare)) × (base ≤ length (now order)) × Clean (now text) clean × Ends (now text) (now ends) ⌝ }
+    ensures { λ r. ⌜ r ≡ objectFault (λ v. faultAt left (now (text .entry)) v) (now (text .entry)) at ⌝ }
 {
     let mut step = first_member(text, ends, at);
+    let mut k = base;
     let mut n = text.len();
     while 0 < n {
+        n -= 1;
         match step {
             MemberStep::One(m) => {
-                if fault(text, ends, m.value, left, order, spare) {
+                if slash_named(text, clean, m.name, m.stop) {
                     return true;
                 }
+                k = append(order, k, pack(text, m.name, m.stop));
                 step = next_member(text, ends, m.after);
+                if opens(text, m.value) {
+                    if fault(text, ends, m.value, left, clean, k, order, spare) {
+                        return true;
+                    }
+                }
             }
-            MemberStep::End => return false,
+            MemberStep::End => return repeated_from(text, ends, at, base, k, order, spare),
         }
-        n -= 1;
     }
-    false
+    repeated_from(text, ends, at, base, k, order, spare)
 }
 
 // Is a value of the array at a place at fault?
@@ -77,25 +92,29 @@ pub fn array(
     ends: &[u32],
     at: usize,
     left: usize,
+    clean: bool,
+    base: usize,
     order: &mut [u64],
     spare: &mut [u64],
 ) -> bool
-    requires { ⌜ (at < length (now text)) × (length (now order) ≤ 65536) × (length (now order) ≤ length (now spare)) × Ends (now text) (now ends) ⌝ }
+    requires { ⌜ (at < length (now text)) × (length (now order) ≤ 65536) × (length (now order) ≤ length (now spare)) × (base ≤ length (now order)) × Clean (now text) clean × Ends (now text) (now ends) ⌝ }
     ensures { λ r. ⌜ r ≡ anyElement (λ v. faultAt left (now (text .entry)) v) (elementsOf (now (text .entry)) at) ⌝ }
 {
     let mut step = first_element(text, ends, at);
     let mut n = text.len();
     while 0 < n {
+        n -= 1;
         match step {
             ElementStep::Next(e) => {
-                if fault(text, ends, e.value, left, order, spare) {
-                    return true;
-                }
                 step = next_element(text, ends, e.after);
+                if opens(text, e.value) {
+                    if fault(text, ends, e.value, left, clean, base, order, spare) {
+                        return true;
+                    }
+                }
             }
             ElementStep::Stop => return false,
         }
-        n -= 1;
     }
     false
 }

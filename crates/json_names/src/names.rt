@@ -5,11 +5,10 @@ ghost use Rattle.json_ends.specs.Ends.{Ends};
 ghost use lib.ListN.{length};
 ghost use Rattle.json_walk.specs.Walk.{membersFrom, membersOf, nextMemberAt};
 ghost use Rattle.json_walk.specs.Strings.{rawAt};
-ghost use Rattle.json_names.specs.Names.{named, repeats, anySlashed};
+ghost use Rattle.json_names.specs.Names.{named, repeats};
 use json_ends::objects::first_member;
 use json_ends::objects::next_member;
 use json_walk::MemberStep;
-use json_walk::strings::has_backslash;
 use json_walk::strings::same_raw;
 
 // Has one of the next n members, behind a place, the name that stands from `name` to `stop`?
@@ -45,28 +44,6 @@ pub fn repeated(text: &[u8], ends: &[u32], at: usize) -> bool
         match step {
             MemberStep::One(m) => {
                 if among(text, ends, m.name, m.stop, m.after, n - 1) {
-                    return true;
-                }
-                step = next_member(text, ends, m.after);
-            }
-            MemberStep::End => return false,
-        }
-        n -= 1;
-    }
-    false
-}
-
-// Has one of the names a backslash?
-pub fn slash_named(text: &[u8], ends: &[u32], at: usize) -> bool
-    requires { ⌜ (at < length (now text)) × Ends (now text) (now ends) ⌝ }
-    ensures { λ r. ⌜ r ≡ anySlashed (now (text .entry)) (membersOf (now (text .entry)) at) ⌝ }
-{
-    let mut step = first_member(text, ends, at);
-    let mut n = text.len();
-    while 0 < n {
-        match step {
-            MemberStep::One(m) => {
-                if has_backslash(text, m.name, m.stop) {
                     return true;
                 }
                 step = next_member(text, ends, m.after);

@@ -136,12 +136,19 @@ pub fn again(text: &[u8], ends: &[u32], at: usize, name: usize) -> bool
     false
 }
 
-// Have two members equal names? By k entries that should be all names, sorted.
-pub fn judge(text: &[u8], ends: &[u32], at: usize, order: &[u64], places: &[u64], k: usize) -> bool
-    requires { ⌜ (at < length (now text)) × Ends (now text) (now ends) ⌝ }
+// Have two members equal names? By k entries that should be all names, sorted, of which r come before the next one.
+pub fn judge(
+    text: &[u8],
+    ends: &[u32],
+    at: usize,
+    order: &[u64],
+    places: &[u64],
+    k: usize,
+    r: usize,
+) -> bool
+    requires { ⌜ (at < length (now text)) × Rising (now text) (now order) r × Ends (now text) (now ends) ⌝ }
     ensures { λ r. ⌜ r ≡ repeats (now (text .entry)) (membersOf (now (text .entry)) at) ⌝ }
 {
-    let r = rising(text, order, k);
     if 1 < minus(k, r) {
         if again(text, ends, at, name_of(entry(order, r))) {
             return true;

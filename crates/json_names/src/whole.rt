@@ -7,6 +7,7 @@ ghost use Rattle.json_text.specs.Bytes.{spaceAt};
 ghost use Rattle.json_value.specs.Values.{levels};
 ghost use Rattle.json_names.specs.Names.{faultAt};
 use crate::faults::fault;
+use crate::slashes::slash_free;
 use json_text::bytes::space;
 use json_value::LEVELS;
 
@@ -16,7 +17,8 @@ pub fn fault_in(text: &[u8], ends: &[u32], at: usize, order: &mut [u64], spare: 
     requires { ⌜ (length (now order) ≤ 65536) × (length (now order) ≤ length (now spare)) × Ends (now text) (now ends) ⌝ }
     ensures { λ r. ⌜ r ≡ faultAt levels (now (text .entry)) at ⌝ }
 {
-    fault(text, ends, at, LEVELS, order, spare)
+    let clean = slash_free(text);
+    fault(text, ends, at, LEVELS, clean, 0, order, spare)
 }
 
 // A text of 2,048 bytes. A member takes five bytes at least.

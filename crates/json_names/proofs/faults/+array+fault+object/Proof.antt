@@ -1,12 +1,15 @@
-use Prim.Native.Nat.{_*_, _+_}
-use mathlib.Core.Path.{_≡_}
-use lib.ListN.{length}
+use Prim.Native.Nat.{_*_, _+_, _≤_}
+use Rattle.json_names.specs.Names.{anyElement, faultAt}
+use Rattle.json_names.specs.Walked.{anyFault}
+use Rattle.json_walk.specs.Walk.{elementsFrom, elementsOf, membersFrom, membersOf}
+use Rattle.json_walk.proofs.Walks.{members-one, members-end, members-none, elements-one, elements-end, elements-none}
+use Rattle.json_names.proofs.Laws.{fault-step, fault-none}
+use Rattle.json_names.proofs.Walked.{object-fault, closed}
+use native.Mathlib.Omega.{arith}
 use borrow.Author.Needs.{needs}
 use borrow.Author.Tests.{eq-eqb, ne-eqb}
-use Rattle.json_walk.specs.Walk.{membersFrom, membersOf, elementsFrom, elementsOf}
-use Rattle.json_walk.proofs.Walks.{members-one, members-end, members-none, elements-one, elements-end, elements-none}
-use Rattle.json_names.specs.Names.{anyElement, anyMember, faultAt, objectFault}
-use Rattle.json_names.proofs.Laws.{fault-step, fault-none}
+use lib.ListN.{length}
+use mathlib.Core.Path.{_≡_, sym, _∙_}
 use Prim.Native.Nat.{ℕ, _<_}
 use borrow.Fn.Kinds.{In}
 use borrow.Fn.PlainCycle.{Measures, is, falls, and}
@@ -23,7 +26,11 @@ use Rattle.json_ends.proofs.arrays.first_element.Reads as first-element-reads
 use Rattle.json_ends.proofs.arrays.next_element.Reads as next-element-reads
 use Rattle.json_ends.proofs.objects.first_member.Reads as first-member-reads
 use Rattle.json_ends.proofs.objects.next_member.Reads as next-member-reads
-use Rattle.json_names.proofs.duplicates.bad_names.Reads as bad-names-reads
+use Rattle.json_names.proofs.duplicates.repeated_from.Reads as repeated-from-reads
+use Rattle.json_names.proofs.keys.pack.Reads as pack-reads
+use Rattle.json_names.proofs.opening.append.Reads as append-reads
+use Rattle.json_names.proofs.opening.opens.Reads as opens-reads
+use Rattle.json_names.proofs.slashes.slash_named.Reads as slash-named-reads
 use Rattle.json_text.proofs.bytes.byte.Reads as byte-reads
 use Rattle.json_names.proofs.faults.+array+fault+object.{statement}
 use Rattle.json_names.proofs.faults.+array+fault+object.Tie.{close}
@@ -56,241 +63,282 @@ abbrev object-below : ℕ → In 4 object-kinds.ps
 object-below t = and 4 object-kinds.ps (falls 4 object-kinds.ps _<_ μ-object t) object.Pre
 
 abbrev array-Inv-loop : array-lts.InvT-loop
-array-Inv-loop text ends at left order₀ spare₀ step₀ n₀ order spare step n = (anyElement (λ v. faultAt left text v) (elementsFrom n text step) ≡ anyElement (λ v. faultAt left text v) (elementsOf text at)) × (length order ≡ length order₀) × (length spare ≡ length spare₀)
+array-Inv-loop text ends at left clean base order₀ spare₀ step₀ n₀ order spare step n = (anyElement (λ v. faultAt left text v) (elementsFrom n text step) ≡ anyElement (λ v. faultAt left text v) (elementsOf text at)) × (length order ≡ length order₀) × (length spare ≡ length spare₀)
 
 abbrev array-μ-loop : array-lts.MeasureT-loop
-array-μ-loop text ends at left order₀ spare₀ step₀ n₀ order spare step n = n
+array-μ-loop text ends at left clean base order₀ spare₀ step₀ n₀ order spare step n = n
 
 array-first-element-requires : (t : ℕ) → array-lts.Need-first-element-requires (
   first-element-reads.Asked,
   first-element-reads.Learnt,
-  fault-below t,
-  fault.Post,
   next-element-reads.Asked,
   next-element-reads.Learnt,
+  opens-reads.Asked,
+  opens-reads.Learnt,
+  fault-below t,
+  fault.Post,
 ) (array-at t) array.Post array-Inv-loop array-μ-loop
 array-first-element-requires t c κs = search needs
 
 array-loop-holds : (t : ℕ) → array-lts.Need-loop-holds (
   first-element-reads.Asked,
   first-element-reads.Learnt,
-  fault-below t,
-  fault.Post,
   next-element-reads.Asked,
   next-element-reads.Learnt,
+  opens-reads.Asked,
+  opens-reads.Learnt,
+  fault-below t,
+  fault.Post,
 ) (array-at t) array.Post array-Inv-loop array-μ-loop
 unfolding anyElement elementsOf
 array-loop-holds t c = (rw (← (c .first-element .ensures)), search needs, search needs)
 
+array-sub-n : (t : ℕ) → array-lts.Need-sub-n (
+  first-element-reads.Asked,
+  first-element-reads.Learnt,
+  next-element-reads.Asked,
+  next-element-reads.Learnt,
+  opens-reads.Asked,
+  opens-reads.Learnt,
+  fault-below t,
+  fault.Post,
+) (array-at t) array.Post array-Inv-loop array-μ-loop
+array-sub-n t c = search needs
+
 array-enum-known-step : (t : ℕ) → array-lts.Need-enum-known-step (
   first-element-reads.Asked,
   first-element-reads.Learnt,
-  fault-below t,
-  fault.Post,
   next-element-reads.Asked,
   next-element-reads.Learnt,
+  opens-reads.Asked,
+  opens-reads.Learnt,
+  fault-below t,
+  fault.Post,
 ) (array-at t) array.Post array-Inv-loop array-μ-loop
 array-enum-known-step t c = search needs
+
+array-next-element-requires : (t : ℕ) → array-lts.Need-next-element-requires (
+  first-element-reads.Asked,
+  first-element-reads.Learnt,
+  next-element-reads.Asked,
+  next-element-reads.Learnt,
+  opens-reads.Asked,
+  opens-reads.Learnt,
+  fault-below t,
+  fault.Post,
+) (array-at t) array.Post array-Inv-loop array-μ-loop
+array-next-element-requires t c κs = search needs
+
+array-opens-requires : (t : ℕ) → array-lts.Need-opens-requires (
+  first-element-reads.Asked,
+  first-element-reads.Learnt,
+  next-element-reads.Asked,
+  next-element-reads.Learnt,
+  opens-reads.Asked,
+  opens-reads.Learnt,
+  fault-below t,
+  fault.Post,
+) (array-at t) array.Post array-Inv-loop array-μ-loop
+array-opens-requires t c κs = search needs
 
 array-fault-requires : (t : ℕ) → array-lts.Need-fault-requires (
   first-element-reads.Asked,
   first-element-reads.Learnt,
-  fault-below t,
-  fault.Post,
   next-element-reads.Asked,
   next-element-reads.Learnt,
+  opens-reads.Asked,
+  opens-reads.Learnt,
+  fault-below t,
+  fault.Post,
 ) (array-at t) array.Post array-Inv-loop array-μ-loop
-array-fault-requires t c κs = search needs
+array-fault-requires t c κs = (search needs, (search needs, search needs, search needs, search needs, search needs))
 
 array-same-length : (t : ℕ) → array-lts.Need-same-length (
   first-element-reads.Asked,
   first-element-reads.Learnt,
-  fault-below t,
-  fault.Post,
   next-element-reads.Asked,
   next-element-reads.Learnt,
+  opens-reads.Asked,
+  opens-reads.Learnt,
+  fault-below t,
+  fault.Post,
 ) (array-at t) array.Post array-Inv-loop array-μ-loop
 array-same-length t c = search needs
 
 array-same-length-2 : (t : ℕ) → array-lts.Need-same-length-2 (
   first-element-reads.Asked,
   first-element-reads.Learnt,
-  fault-below t,
-  fault.Post,
   next-element-reads.Asked,
   next-element-reads.Learnt,
+  opens-reads.Asked,
+  opens-reads.Learnt,
+  fault-below t,
+  fault.Post,
 ) (array-at t) array.Post array-Inv-loop array-μ-loop
 array-same-length-2 t c = search needs
 
 array-returns : (t : ℕ) → array-lts.Need-returns (
   first-element-reads.Asked,
   first-element-reads.Learnt,
-  fault-below t,
-  fault.Post,
   next-element-reads.Asked,
   next-element-reads.Learnt,
-) (array-at t) array.Post array-Inv-loop array-μ-loop
-unfolding anyElement elementsOf
-array-returns t c =
-    rw (
-      ← (c .before .before .before .before .before .before .before .before .before .before .before .before .loop .inv .0),
-      c .before .before .before .before .before .before .before .before .before .step .given .1,
-      elements-one _ (c .before .before .before .before .before .before .before .before .before .before .before .loop-test .taken),
-      ← (c .before .before .before .before .before .fault .ensures),
-      c .if1 .taken,
-    )
-
-array-next-element-requires : (t : ℕ) → array-lts.Need-next-element-requires (
-  first-element-reads.Asked,
-  first-element-reads.Learnt,
+  opens-reads.Asked,
+  opens-reads.Learnt,
   fault-below t,
   fault.Post,
-  next-element-reads.Asked,
-  next-element-reads.Learnt,
 ) (array-at t) array.Post array-Inv-loop array-μ-loop
-array-next-element-requires t c κs = search needs
-
-array-enum-told : (t : ℕ) → array-lts.Need-enum-told (
-  first-element-reads.Asked,
-  first-element-reads.Learnt,
-  fault-below t,
-  fault.Post,
-  next-element-reads.Asked,
-  next-element-reads.Learnt,
-) (array-at t) array.Post array-Inv-loop array-μ-loop
-array-enum-told t c = search needs
-
-array-same-length-3 : (t : ℕ) → array-lts.Need-same-length-3 (
-  first-element-reads.Asked,
-  first-element-reads.Learnt,
-  fault-below t,
-  fault.Post,
-  next-element-reads.Asked,
-  next-element-reads.Learnt,
-) (array-at t) array.Post array-Inv-loop array-μ-loop
-array-same-length-3 t c = search needs
-
-array-same-length-4 : (t : ℕ) → array-lts.Need-same-length-4 (
-  first-element-reads.Asked,
-  first-element-reads.Learnt,
-  fault-below t,
-  fault.Post,
-  next-element-reads.Asked,
-  next-element-reads.Learnt,
-) (array-at t) array.Post array-Inv-loop array-μ-loop
-array-same-length-4 t c = search needs
-
-array-returns-2 : (t : ℕ) → array-lts.Need-returns-2 (
-  first-element-reads.Asked,
-  first-element-reads.Learnt,
-  fault-below t,
-  fault.Post,
-  next-element-reads.Asked,
-  next-element-reads.Learnt,
-) (array-at t) array.Post array-Inv-loop array-μ-loop
-unfolding anyElement elementsOf
-array-returns-2 t c =
-    rw (
-      ← (c .before .before .before .loop .inv .0),
-      c .enum-told .given .1,
-      elements-end,
-    )
-
-array-sub-n : (t : ℕ) → array-lts.Need-sub-n (
-  first-element-reads.Asked,
-  first-element-reads.Learnt,
-  fault-below t,
-  fault.Post,
-  next-element-reads.Asked,
-  next-element-reads.Learnt,
-) (array-at t) array.Post array-Inv-loop array-μ-loop
-array-sub-n t c = search needs
+unfolding anyElement
+array-returns t c = rw (← (c .before .before .before .before .before .before .before .before .before .before .before .before .before .before .before .loop .inv .0), c .before .before .before .before .before .before .before .before .before .before .before .before .step .given .1, elements-one _ (c .before .before .before .before .before .before .before .before .before .before .before .before .before .before .loop-test .taken), ← (c .before .before .before .before .before .fault .ensures), c .if2 .taken)
 
 array-loop-less : (t : ℕ) → array-lts.Need-loop-less (
   first-element-reads.Asked,
   first-element-reads.Learnt,
-  fault-below t,
-  fault.Post,
   next-element-reads.Asked,
   next-element-reads.Learnt,
+  opens-reads.Asked,
+  opens-reads.Learnt,
+  fault-below t,
+  fault.Post,
 ) (array-at t) array.Post array-Inv-loop array-μ-loop
 array-loop-less t c = search needs
 
 array-loop-again : (t : ℕ) → array-lts.Need-loop-again (
   first-element-reads.Asked,
   first-element-reads.Learnt,
-  fault-below t,
-  fault.Post,
   next-element-reads.Asked,
   next-element-reads.Learnt,
+  opens-reads.Asked,
+  opens-reads.Learnt,
+  fault-below t,
+  fault.Post,
 ) (array-at t) array.Post array-Inv-loop array-μ-loop
-unfolding anyElement elementsOf
-array-loop-again t c = (
-  rw (
-    ← (c .before .before .before .before .before .before .before .before .before .before .before .before .before .loop .inv .0),
-    c .before .before .before .before .before .before .before .before .before .before .step .given .1,
-    elements-one _ (c .before .before .before .before .before .before .before .before .before .before .before .before .loop-test .taken),
-    ← (c .before .before .before .before .before .before .fault .ensures),
-    c .before .if1 .left,
-    ← (c .next-element .ensures),
-  ),
-  search needs,
-  search needs,
-)
+unfolding anyElement
+array-loop-again t c = (rw (← (c .before .before .before .before .before .before .before .before .before .before .before .before .before .before .before .loop .inv .0), c .before .before .before .before .before .before .before .before .before .before .before .before .step .given .1, elements-one _ (c .before .before .before .before .before .before .before .before .before .before .before .before .before .before .loop-test .taken), ← (c .before .before .before .before .before .fault .ensures), c .if2 .left, ← (c .before .before .before .before .before .before .before .before .before .before .next-element .ensures)), search needs, search needs)
+
+array-loop-less-2 : (t : ℕ) → array-lts.Need-loop-less-2 (
+  first-element-reads.Asked,
+  first-element-reads.Learnt,
+  next-element-reads.Asked,
+  next-element-reads.Learnt,
+  opens-reads.Asked,
+  opens-reads.Learnt,
+  fault-below t,
+  fault.Post,
+) (array-at t) array.Post array-Inv-loop array-μ-loop
+array-loop-less-2 t c = search needs
+
+array-loop-again-2 : (t : ℕ) → array-lts.Need-loop-again-2 (
+  first-element-reads.Asked,
+  first-element-reads.Learnt,
+  next-element-reads.Asked,
+  next-element-reads.Learnt,
+  opens-reads.Asked,
+  opens-reads.Learnt,
+  fault-below t,
+  fault.Post,
+) (array-at t) array.Post array-Inv-loop array-μ-loop
+unfolding anyElement
+array-loop-again-2 t c = (rw (← (c .before .before .before .before .before .before .before .loop .inv .0), c .before .before .before .before .step .given .1, elements-one _ (c .before .before .before .before .before .before .loop-test .taken), closed _ _ (sym (c .before .opens .ensures) ∙ c .if1 .left), ← (c .before .before .next-element .ensures)), search needs, search needs)
+
+array-enum-told : (t : ℕ) → array-lts.Need-enum-told (
+  first-element-reads.Asked,
+  first-element-reads.Learnt,
+  next-element-reads.Asked,
+  next-element-reads.Learnt,
+  opens-reads.Asked,
+  opens-reads.Learnt,
+  fault-below t,
+  fault.Post,
+) (array-at t) array.Post array-Inv-loop array-μ-loop
+array-enum-told t c = search needs
+
+array-same-length-3 : (t : ℕ) → array-lts.Need-same-length-3 (
+  first-element-reads.Asked,
+  first-element-reads.Learnt,
+  next-element-reads.Asked,
+  next-element-reads.Learnt,
+  opens-reads.Asked,
+  opens-reads.Learnt,
+  fault-below t,
+  fault.Post,
+) (array-at t) array.Post array-Inv-loop array-μ-loop
+array-same-length-3 t c = search needs
+
+array-same-length-4 : (t : ℕ) → array-lts.Need-same-length-4 (
+  first-element-reads.Asked,
+  first-element-reads.Learnt,
+  next-element-reads.Asked,
+  next-element-reads.Learnt,
+  opens-reads.Asked,
+  opens-reads.Learnt,
+  fault-below t,
+  fault.Post,
+) (array-at t) array.Post array-Inv-loop array-μ-loop
+array-same-length-4 t c = search needs
+
+array-returns-2 : (t : ℕ) → array-lts.Need-returns-2 (
+  first-element-reads.Asked,
+  first-element-reads.Learnt,
+  next-element-reads.Asked,
+  next-element-reads.Learnt,
+  opens-reads.Asked,
+  opens-reads.Learnt,
+  fault-below t,
+  fault.Post,
+) (array-at t) array.Post array-Inv-loop array-μ-loop
+unfolding anyElement
+array-returns-2 t c = rw (← (c .before .before .before .loop .inv .0), c .enum-told .given .1, elements-end)
 
 array-same-length-5 : (t : ℕ) → array-lts.Need-same-length-5 (
   first-element-reads.Asked,
   first-element-reads.Learnt,
-  fault-below t,
-  fault.Post,
   next-element-reads.Asked,
   next-element-reads.Learnt,
+  opens-reads.Asked,
+  opens-reads.Learnt,
+  fault-below t,
+  fault.Post,
 ) (array-at t) array.Post array-Inv-loop array-μ-loop
 array-same-length-5 t c = search needs
 
 array-same-length-6 : (t : ℕ) → array-lts.Need-same-length-6 (
   first-element-reads.Asked,
   first-element-reads.Learnt,
-  fault-below t,
-  fault.Post,
   next-element-reads.Asked,
   next-element-reads.Learnt,
+  opens-reads.Asked,
+  opens-reads.Learnt,
+  fault-below t,
+  fault.Post,
 ) (array-at t) array.Post array-Inv-loop array-μ-loop
 array-same-length-6 t c = search needs
 
 array-returns-3 : (t : ℕ) → array-lts.Need-returns-3 (
   first-element-reads.Asked,
   first-element-reads.Learnt,
-  fault-below t,
-  fault.Post,
   next-element-reads.Asked,
   next-element-reads.Learnt,
+  opens-reads.Asked,
+  opens-reads.Learnt,
+  fault-below t,
+  fault.Post,
 ) (array-at t) array.Post array-Inv-loop array-μ-loop
-unfolding anyElement elementsOf
-array-returns-3 t c =
-    rw (
-      ← (c .before .loop .inv .0),
-      elements-none _ (c .loop-test .left),
-    )
+unfolding anyElement
+array-returns-3 t c = rw (← (c .before .loop .inv .0), elements-none _ (c .loop-test .left))
 
 fault-returns : (t : ℕ) → fault-lts.Need-returns (
   byte-reads.Asked,
   byte-reads.Learnt,
-  bad-names-reads.Asked,
-  bad-names-reads.Learnt,
   object-below t,
   object.Post,
   array-below t,
   array.Post,
 ) (fault-at t) fault.Post
-unfolding objectFault
 fault-returns t c = rw (fault-none _ (c .if1 .taken))
 
 fault-byte-requires : (t : ℕ) → fault-lts.Need-byte-requires (
   byte-reads.Asked,
   byte-reads.Learnt,
-  bad-names-reads.Asked,
-  bad-names-reads.Learnt,
   object-below t,
   object.Post,
   array-below t,
@@ -298,67 +346,9 @@ fault-byte-requires : (t : ℕ) → fault-lts.Need-byte-requires (
 ) (fault-at t) fault.Post
 fault-byte-requires t c κs = search needs
 
-fault-bad-names-requires : (t : ℕ) → fault-lts.Need-bad-names-requires (
-  byte-reads.Asked,
-  byte-reads.Learnt,
-  bad-names-reads.Asked,
-  bad-names-reads.Learnt,
-  object-below t,
-  object.Post,
-  array-below t,
-  array.Post,
-) (fault-at t) fault.Post
-fault-bad-names-requires t c κs = search needs
-
-fault-same-length : (t : ℕ) → fault-lts.Need-same-length (
-  byte-reads.Asked,
-  byte-reads.Learnt,
-  bad-names-reads.Asked,
-  bad-names-reads.Learnt,
-  object-below t,
-  object.Post,
-  array-below t,
-  array.Post,
-) (fault-at t) fault.Post
-fault-same-length t c = search needs
-
-fault-same-length-2 : (t : ℕ) → fault-lts.Need-same-length-2 (
-  byte-reads.Asked,
-  byte-reads.Learnt,
-  bad-names-reads.Asked,
-  bad-names-reads.Learnt,
-  object-below t,
-  object.Post,
-  array-below t,
-  array.Post,
-) (fault-at t) fault.Post
-fault-same-length-2 t c = search needs
-
-fault-returns-2 : (t : ℕ) → fault-lts.Need-returns-2 (
-  byte-reads.Asked,
-  byte-reads.Learnt,
-  bad-names-reads.Asked,
-  bad-names-reads.Learnt,
-  object-below t,
-  object.Post,
-  array-below t,
-  array.Post,
-) (fault-at t) fault.Post
-unfolding objectFault
-fault-returns-2 t c =
-    rw (
-      fault-step _ (c .before .before .before .before .before .before .before .before .before .before .if1 .left),
-      ← (c .before .before .before .before .before .before .before .before .before .byte .ensures .is),
-      eq-eqb _ _ (c .before .before .before .before .before .before .before .before .if2 .taken),
-      ← (c .before .before .before .before .before .bad-names .ensures),
-      c .if3 .taken,
-    )
-
 fault-sub-object : (t : ℕ) → fault-lts.Need-sub-object (
   byte-reads.Asked,
   byte-reads.Learnt,
-  bad-names-reads.Asked,
-  bad-names-reads.Learnt,
   object-below t,
   object.Post,
   array-below t,
@@ -369,65 +359,46 @@ fault-sub-object t c = search needs
 fault-object-requires : (t : ℕ) → fault-lts.Need-object-requires (
   byte-reads.Asked,
   byte-reads.Learnt,
-  bad-names-reads.Asked,
-  bad-names-reads.Learnt,
   object-below t,
   object.Post,
   array-below t,
   array.Post,
 ) (fault-at t) fault.Post
-fault-object-requires t c κs = (search needs, (search needs, search needs, search needs, search needs))
+fault-object-requires t c κs = (search needs, (search needs, search needs, search needs, search needs, search needs, search needs))
 
-fault-same-length-3 : (t : ℕ) → fault-lts.Need-same-length-3 (
+fault-same-length : (t : ℕ) → fault-lts.Need-same-length (
   byte-reads.Asked,
   byte-reads.Learnt,
-  bad-names-reads.Asked,
-  bad-names-reads.Learnt,
   object-below t,
   object.Post,
   array-below t,
   array.Post,
 ) (fault-at t) fault.Post
-fault-same-length-3 t c = search needs
+fault-same-length t c = search needs
 
-fault-same-length-4 : (t : ℕ) → fault-lts.Need-same-length-4 (
+fault-same-length-2 : (t : ℕ) → fault-lts.Need-same-length-2 (
   byte-reads.Asked,
   byte-reads.Learnt,
-  bad-names-reads.Asked,
-  bad-names-reads.Learnt,
   object-below t,
   object.Post,
   array-below t,
   array.Post,
 ) (fault-at t) fault.Post
-fault-same-length-4 t c = search needs
+fault-same-length-2 t c = search needs
 
-fault-returns-3 : (t : ℕ) → fault-lts.Need-returns-3 (
+fault-returns-2 : (t : ℕ) → fault-lts.Need-returns-2 (
   byte-reads.Asked,
   byte-reads.Learnt,
-  bad-names-reads.Asked,
-  bad-names-reads.Learnt,
   object-below t,
   object.Post,
   array-below t,
   array.Post,
 ) (fault-at t) fault.Post
-unfolding objectFault
-fault-returns-3 t c =
-    rw (
-      fault-step _ (c .before .before .before .before .before .before .before .before .before .before .before .before .before .before .before .before .before .if1 .left),
-      ← (c .before .before .before .before .before .before .before .before .before .before .before .before .before .before .before .before .byte .ensures .is),
-      eq-eqb _ _ (c .before .before .before .before .before .before .before .before .before .before .before .before .before .before .before .if2 .taken),
-      ← (c .before .before .before .before .before .before .before .before .before .before .before .before .bad-names .ensures),
-      c .before .before .before .before .before .before .before .if3 .left,
-      ← (c .before .before .before .before .object .ensures),
-    )
+fault-returns-2 t c = rw (fault-step _ (c .before .before .before .before .before .before .before .before .before .if1 .left), ← (c .before .before .before .before .before .before .before .before .byte .ensures .is), eq-eqb _ _ (c .before .before .before .before .before .before .before .if2 .taken), ← (c .before .before .before .before .object .ensures))
 
 fault-sub-array : (t : ℕ) → fault-lts.Need-sub-array (
   byte-reads.Asked,
   byte-reads.Learnt,
-  bad-names-reads.Asked,
-  bad-names-reads.Learnt,
   object-below t,
   object.Post,
   array-below t,
@@ -438,304 +409,665 @@ fault-sub-array t c = search needs
 fault-array-requires : (t : ℕ) → fault-lts.Need-array-requires (
   byte-reads.Asked,
   byte-reads.Learnt,
-  bad-names-reads.Asked,
-  bad-names-reads.Learnt,
   object-below t,
   object.Post,
   array-below t,
   array.Post,
 ) (fault-at t) fault.Post
-fault-array-requires t c κs = (search needs, (search needs, search needs, search needs, search needs))
+fault-array-requires t c κs = (search needs, (search needs, search needs, search needs, search needs, search needs, search needs))
 
-fault-same-length-5 : (t : ℕ) → fault-lts.Need-same-length-5 (
+fault-same-length-3 : (t : ℕ) → fault-lts.Need-same-length-3 (
   byte-reads.Asked,
   byte-reads.Learnt,
-  bad-names-reads.Asked,
-  bad-names-reads.Learnt,
   object-below t,
   object.Post,
   array-below t,
   array.Post,
 ) (fault-at t) fault.Post
-fault-same-length-5 t c = search needs
+fault-same-length-3 t c = search needs
 
-fault-same-length-6 : (t : ℕ) → fault-lts.Need-same-length-6 (
+fault-same-length-4 : (t : ℕ) → fault-lts.Need-same-length-4 (
   byte-reads.Asked,
   byte-reads.Learnt,
-  bad-names-reads.Asked,
-  bad-names-reads.Learnt,
   object-below t,
   object.Post,
   array-below t,
   array.Post,
 ) (fault-at t) fault.Post
-fault-same-length-6 t c = search needs
+fault-same-length-4 t c = search needs
+
+fault-returns-3 : (t : ℕ) → fault-lts.Need-returns-3 (
+  byte-reads.Asked,
+  byte-reads.Learnt,
+  object-below t,
+  object.Post,
+  array-below t,
+  array.Post,
+) (fault-at t) fault.Post
+fault-returns-3 t c = rw (fault-step _ (c .before .before .before .before .before .before .before .before .before .before .if1 .left), ← (c .before .before .before .before .before .before .before .before .before .byte .ensures .is), ne-eqb _ _ (c .before .before .before .before .before .before .before .before .if2 .left), eq-eqb _ _ (c .before .before .before .before .before .before .before .if3 .taken), ← (c .before .before .before .before .array .ensures))
 
 fault-returns-4 : (t : ℕ) → fault-lts.Need-returns-4 (
   byte-reads.Asked,
   byte-reads.Learnt,
-  bad-names-reads.Asked,
-  bad-names-reads.Learnt,
   object-below t,
   object.Post,
   array-below t,
   array.Post,
 ) (fault-at t) fault.Post
-unfolding objectFault
-fault-returns-4 t c =
-    rw (
-      fault-step _ (c .before .before .before .before .before .before .before .before .before .before .if1 .left),
-      ← (c .before .before .before .before .before .before .before .before .before .byte .ensures .is),
-      ne-eqb _ _ (c .before .before .before .before .before .before .before .before .if2 .left),
-      eq-eqb _ _ (c .before .before .before .before .before .before .before .if4 .taken),
-      ← (c .before .before .before .before .array .ensures),
-    )
-
-fault-returns-5 : (t : ℕ) → fault-lts.Need-returns-5 (
-  byte-reads.Asked,
-  byte-reads.Learnt,
-  bad-names-reads.Asked,
-  bad-names-reads.Learnt,
-  object-below t,
-  object.Post,
-  array-below t,
-  array.Post,
-) (fault-at t) fault.Post
-unfolding objectFault
-fault-returns-5 t c =
-    rw (
-      fault-step _ (c .before .before .before .if1 .left),
-      ← (c .before .before .byte .ensures .is),
-      ne-eqb _ _ (c .before .if2 .left),
-      ne-eqb _ _ (c .if4 .left),
-    )
+fault-returns-4 t c = rw (fault-step _ (c .before .before .before .if1 .left), ← (c .before .before .byte .ensures .is), ne-eqb _ _ (c .before .if2 .left), ne-eqb _ _ (c .if3 .left))
 
 abbrev object-Inv-loop : object-lts.InvT-loop
-object-Inv-loop text ends at left order₀ spare₀ step₀ n₀ order spare step n = (anyMember (λ v. faultAt left text v) (membersFrom n text step) ≡ anyMember (λ v. faultAt left text v) (membersOf text at)) × (length order ≡ length order₀) × (length spare ≡ length spare₀)
+object-Inv-loop text ends at left clean base order₀ spare₀ step₀ k₀ n₀ order spare step k n = (anyFault (λ v. faultAt left text v) text (membersFrom n text step) ≡ anyFault (λ v. faultAt left text v) text (membersOf text at)) × (length order ≡ length order₀) × (length spare ≡ length spare₀) × (base ≤ k) × (k ≤ length order)
 
 abbrev object-μ-loop : object-lts.MeasureT-loop
-object-μ-loop text ends at left order₀ spare₀ step₀ n₀ order spare step n = n
+object-μ-loop text ends at left clean base order₀ spare₀ step₀ k₀ n₀ order spare step k n = n
 
 object-first-member-requires : (t : ℕ) → object-lts.Need-first-member-requires (
   first-member-reads.Asked,
   first-member-reads.Learnt,
-  fault-below t,
-  fault.Post,
+  slash-named-reads.Asked,
+  slash-named-reads.Learnt,
+  pack-reads.Asked,
+  pack-reads.Learnt,
+  append-reads.Asked,
+  append-reads.Learnt,
   next-member-reads.Asked,
   next-member-reads.Learnt,
+  opens-reads.Asked,
+  opens-reads.Learnt,
+  fault-below t,
+  fault.Post,
+  repeated-from-reads.Asked,
+  repeated-from-reads.Learnt,
 ) (object-at t) object.Post object-Inv-loop object-μ-loop
 object-first-member-requires t c κs = search needs
 
 object-loop-holds : (t : ℕ) → object-lts.Need-loop-holds (
   first-member-reads.Asked,
   first-member-reads.Learnt,
-  fault-below t,
-  fault.Post,
+  slash-named-reads.Asked,
+  slash-named-reads.Learnt,
+  pack-reads.Asked,
+  pack-reads.Learnt,
+  append-reads.Asked,
+  append-reads.Learnt,
   next-member-reads.Asked,
   next-member-reads.Learnt,
+  opens-reads.Asked,
+  opens-reads.Learnt,
+  fault-below t,
+  fault.Post,
+  repeated-from-reads.Asked,
+  repeated-from-reads.Learnt,
 ) (object-at t) object.Post object-Inv-loop object-μ-loop
-unfolding anyMember membersOf
-object-loop-holds t c = (rw (← (c .first-member .ensures)), search needs, search needs)
+unfolding anyFault membersOf
+object-loop-holds t c = (rw (← (c .first-member .ensures)), search needs, search needs, search needs, search needs)
+
+object-sub-n : (t : ℕ) → object-lts.Need-sub-n (
+  first-member-reads.Asked,
+  first-member-reads.Learnt,
+  slash-named-reads.Asked,
+  slash-named-reads.Learnt,
+  pack-reads.Asked,
+  pack-reads.Learnt,
+  append-reads.Asked,
+  append-reads.Learnt,
+  next-member-reads.Asked,
+  next-member-reads.Learnt,
+  opens-reads.Asked,
+  opens-reads.Learnt,
+  fault-below t,
+  fault.Post,
+  repeated-from-reads.Asked,
+  repeated-from-reads.Learnt,
+) (object-at t) object.Post object-Inv-loop object-μ-loop
+object-sub-n t c = search needs
 
 object-enum-known-step : (t : ℕ) → object-lts.Need-enum-known-step (
   first-member-reads.Asked,
   first-member-reads.Learnt,
-  fault-below t,
-  fault.Post,
+  slash-named-reads.Asked,
+  slash-named-reads.Learnt,
+  pack-reads.Asked,
+  pack-reads.Learnt,
+  append-reads.Asked,
+  append-reads.Learnt,
   next-member-reads.Asked,
   next-member-reads.Learnt,
+  opens-reads.Asked,
+  opens-reads.Learnt,
+  fault-below t,
+  fault.Post,
+  repeated-from-reads.Asked,
+  repeated-from-reads.Learnt,
 ) (object-at t) object.Post object-Inv-loop object-μ-loop
 object-enum-known-step t c = search needs
 
-object-fault-requires : (t : ℕ) → object-lts.Need-fault-requires (
+object-slash-named-requires : (t : ℕ) → object-lts.Need-slash-named-requires (
   first-member-reads.Asked,
   first-member-reads.Learnt,
-  fault-below t,
-  fault.Post,
+  slash-named-reads.Asked,
+  slash-named-reads.Learnt,
+  pack-reads.Asked,
+  pack-reads.Learnt,
+  append-reads.Asked,
+  append-reads.Learnt,
   next-member-reads.Asked,
   next-member-reads.Learnt,
+  opens-reads.Asked,
+  opens-reads.Learnt,
+  fault-below t,
+  fault.Post,
+  repeated-from-reads.Asked,
+  repeated-from-reads.Learnt,
 ) (object-at t) object.Post object-Inv-loop object-μ-loop
-object-fault-requires t c κs = search needs
+object-slash-named-requires t c κs = search needs
 
 object-same-length : (t : ℕ) → object-lts.Need-same-length (
   first-member-reads.Asked,
   first-member-reads.Learnt,
-  fault-below t,
-  fault.Post,
+  slash-named-reads.Asked,
+  slash-named-reads.Learnt,
+  pack-reads.Asked,
+  pack-reads.Learnt,
+  append-reads.Asked,
+  append-reads.Learnt,
   next-member-reads.Asked,
   next-member-reads.Learnt,
+  opens-reads.Asked,
+  opens-reads.Learnt,
+  fault-below t,
+  fault.Post,
+  repeated-from-reads.Asked,
+  repeated-from-reads.Learnt,
 ) (object-at t) object.Post object-Inv-loop object-μ-loop
 object-same-length t c = search needs
 
 object-same-length-2 : (t : ℕ) → object-lts.Need-same-length-2 (
   first-member-reads.Asked,
   first-member-reads.Learnt,
-  fault-below t,
-  fault.Post,
+  slash-named-reads.Asked,
+  slash-named-reads.Learnt,
+  pack-reads.Asked,
+  pack-reads.Learnt,
+  append-reads.Asked,
+  append-reads.Learnt,
   next-member-reads.Asked,
   next-member-reads.Learnt,
+  opens-reads.Asked,
+  opens-reads.Learnt,
+  fault-below t,
+  fault.Post,
+  repeated-from-reads.Asked,
+  repeated-from-reads.Learnt,
 ) (object-at t) object.Post object-Inv-loop object-μ-loop
 object-same-length-2 t c = search needs
 
 object-returns : (t : ℕ) → object-lts.Need-returns (
   first-member-reads.Asked,
   first-member-reads.Learnt,
-  fault-below t,
-  fault.Post,
+  slash-named-reads.Asked,
+  slash-named-reads.Learnt,
+  pack-reads.Asked,
+  pack-reads.Learnt,
+  append-reads.Asked,
+  append-reads.Learnt,
   next-member-reads.Asked,
   next-member-reads.Learnt,
+  opens-reads.Asked,
+  opens-reads.Learnt,
+  fault-below t,
+  fault.Post,
+  repeated-from-reads.Asked,
+  repeated-from-reads.Learnt,
 ) (object-at t) object.Post object-Inv-loop object-μ-loop
-unfolding anyMember membersOf
-object-returns t c =
-    rw (
-      ← (c .before .before .before .before .before .before .before .before .before .before .before .before .loop .inv .0),
-      c .before .before .before .before .before .before .before .before .before .step .given .1,
-      members-one _ (c .before .before .before .before .before .before .before .before .before .before .before .loop-test .taken),
-      ← (c .before .before .before .before .before .fault .ensures),
-      c .if1 .taken,
-    )
+unfolding anyFault
+object-returns t c = rw (object-fault, ← (c .before .before .before .before .before .before .loop .inv .0), c .before .before .before .step .given .1, members-one _ (c .before .before .before .before .before .loop-test .taken), ← (c .before .slash-named .ensures), c .if1 .taken)
+
+object-pack-requires : (t : ℕ) → object-lts.Need-pack-requires (
+  first-member-reads.Asked,
+  first-member-reads.Learnt,
+  slash-named-reads.Asked,
+  slash-named-reads.Learnt,
+  pack-reads.Asked,
+  pack-reads.Learnt,
+  append-reads.Asked,
+  append-reads.Learnt,
+  next-member-reads.Asked,
+  next-member-reads.Learnt,
+  opens-reads.Asked,
+  opens-reads.Learnt,
+  fault-below t,
+  fault.Post,
+  repeated-from-reads.Asked,
+  repeated-from-reads.Learnt,
+) (object-at t) object.Post object-Inv-loop object-μ-loop
+object-pack-requires t c κs = search needs
+
+object-append-requires : (t : ℕ) → object-lts.Need-append-requires (
+  first-member-reads.Asked,
+  first-member-reads.Learnt,
+  slash-named-reads.Asked,
+  slash-named-reads.Learnt,
+  pack-reads.Asked,
+  pack-reads.Learnt,
+  append-reads.Asked,
+  append-reads.Learnt,
+  next-member-reads.Asked,
+  next-member-reads.Learnt,
+  opens-reads.Asked,
+  opens-reads.Learnt,
+  fault-below t,
+  fault.Post,
+  repeated-from-reads.Asked,
+  repeated-from-reads.Learnt,
+) (object-at t) object.Post object-Inv-loop object-μ-loop
+object-append-requires t c κs = search needs
 
 object-next-member-requires : (t : ℕ) → object-lts.Need-next-member-requires (
   first-member-reads.Asked,
   first-member-reads.Learnt,
-  fault-below t,
-  fault.Post,
+  slash-named-reads.Asked,
+  slash-named-reads.Learnt,
+  pack-reads.Asked,
+  pack-reads.Learnt,
+  append-reads.Asked,
+  append-reads.Learnt,
   next-member-reads.Asked,
   next-member-reads.Learnt,
+  opens-reads.Asked,
+  opens-reads.Learnt,
+  fault-below t,
+  fault.Post,
+  repeated-from-reads.Asked,
+  repeated-from-reads.Learnt,
 ) (object-at t) object.Post object-Inv-loop object-μ-loop
 object-next-member-requires t c κs = search needs
 
-object-enum-told : (t : ℕ) → object-lts.Need-enum-told (
+object-opens-requires : (t : ℕ) → object-lts.Need-opens-requires (
   first-member-reads.Asked,
   first-member-reads.Learnt,
-  fault-below t,
-  fault.Post,
+  slash-named-reads.Asked,
+  slash-named-reads.Learnt,
+  pack-reads.Asked,
+  pack-reads.Learnt,
+  append-reads.Asked,
+  append-reads.Learnt,
   next-member-reads.Asked,
   next-member-reads.Learnt,
+  opens-reads.Asked,
+  opens-reads.Learnt,
+  fault-below t,
+  fault.Post,
+  repeated-from-reads.Asked,
+  repeated-from-reads.Learnt,
 ) (object-at t) object.Post object-Inv-loop object-μ-loop
-object-enum-told t c = search needs
+object-opens-requires t c κs = search needs
+
+object-fault-requires : (t : ℕ) → object-lts.Need-fault-requires (
+  first-member-reads.Asked,
+  first-member-reads.Learnt,
+  slash-named-reads.Asked,
+  slash-named-reads.Learnt,
+  pack-reads.Asked,
+  pack-reads.Learnt,
+  append-reads.Asked,
+  append-reads.Learnt,
+  next-member-reads.Asked,
+  next-member-reads.Learnt,
+  opens-reads.Asked,
+  opens-reads.Learnt,
+  fault-below t,
+  fault.Post,
+  repeated-from-reads.Asked,
+  repeated-from-reads.Learnt,
+) (object-at t) object.Post object-Inv-loop object-μ-loop
+object-fault-requires t c κs = (
+  search needs,
+  (
+    omega (arith, c .before .before .before .before .before .before .before .before .before .before .before .before .before .before .before .before .loop .inv .1, c .before .before .before .before .before .before .before .before .before .before .before .before .before .before .before .before .before .before .before .before .before .before .pre .1 .1),
+    omega (arith, c .before .before .before .before .before .before .before .before .before .before .before .before .before .before .before .before .loop .inv .1, c .before .before .before .before .before .before .before .before .before .before .before .before .before .before .before .before .loop .inv .2, c .before .before .before .before .before .before .before .before .before .before .before .before .before .before .before .before .before .before .before .before .before .before .pre .1 .2),
+    search needs,
+    c .before .before .before .before .before .before .before .before .before .before .before .before .before .before .before .before .before .before .before .before .before .before .pre .1 .4,
+    c .before .before .before .before .before .before .before .before .before .before .before .before .before .before .before .before .before .before .before .before .before .before .pre .1 .5,
+  ),
+)
 
 object-same-length-3 : (t : ℕ) → object-lts.Need-same-length-3 (
   first-member-reads.Asked,
   first-member-reads.Learnt,
-  fault-below t,
-  fault.Post,
+  slash-named-reads.Asked,
+  slash-named-reads.Learnt,
+  pack-reads.Asked,
+  pack-reads.Learnt,
+  append-reads.Asked,
+  append-reads.Learnt,
   next-member-reads.Asked,
   next-member-reads.Learnt,
+  opens-reads.Asked,
+  opens-reads.Learnt,
+  fault-below t,
+  fault.Post,
+  repeated-from-reads.Asked,
+  repeated-from-reads.Learnt,
 ) (object-at t) object.Post object-Inv-loop object-μ-loop
 object-same-length-3 t c = search needs
 
 object-same-length-4 : (t : ℕ) → object-lts.Need-same-length-4 (
   first-member-reads.Asked,
   first-member-reads.Learnt,
-  fault-below t,
-  fault.Post,
+  slash-named-reads.Asked,
+  slash-named-reads.Learnt,
+  pack-reads.Asked,
+  pack-reads.Learnt,
+  append-reads.Asked,
+  append-reads.Learnt,
   next-member-reads.Asked,
   next-member-reads.Learnt,
+  opens-reads.Asked,
+  opens-reads.Learnt,
+  fault-below t,
+  fault.Post,
+  repeated-from-reads.Asked,
+  repeated-from-reads.Learnt,
 ) (object-at t) object.Post object-Inv-loop object-μ-loop
 object-same-length-4 t c = search needs
 
 object-returns-2 : (t : ℕ) → object-lts.Need-returns-2 (
   first-member-reads.Asked,
   first-member-reads.Learnt,
-  fault-below t,
-  fault.Post,
+  slash-named-reads.Asked,
+  slash-named-reads.Learnt,
+  pack-reads.Asked,
+  pack-reads.Learnt,
+  append-reads.Asked,
+  append-reads.Learnt,
   next-member-reads.Asked,
   next-member-reads.Learnt,
-) (object-at t) object.Post object-Inv-loop object-μ-loop
-unfolding anyMember membersOf
-object-returns-2 t c =
-    rw (
-      ← (c .before .before .before .loop .inv .0),
-      c .enum-told .given .1,
-      members-end,
-    )
-
-object-sub-n : (t : ℕ) → object-lts.Need-sub-n (
-  first-member-reads.Asked,
-  first-member-reads.Learnt,
+  opens-reads.Asked,
+  opens-reads.Learnt,
   fault-below t,
   fault.Post,
-  next-member-reads.Asked,
-  next-member-reads.Learnt,
+  repeated-from-reads.Asked,
+  repeated-from-reads.Learnt,
 ) (object-at t) object.Post object-Inv-loop object-μ-loop
-object-sub-n t c = search needs
+unfolding anyFault
+object-returns-2 t c = rw (object-fault, ← (c .before .before .before .before .before .before .before .before .before .before .before .before .before .before .before .before .before .before .before .before .before .before .loop .inv .0), c .before .before .before .before .before .before .before .before .before .before .before .before .before .before .before .before .before .before .before .step .given .1, members-one _ (c .before .before .before .before .before .before .before .before .before .before .before .before .before .before .before .before .before .before .before .before .before .loop-test .taken), ← (c .before .before .before .before .before .before .before .before .before .before .before .before .before .before .before .before .before .slash-named .ensures), c .before .before .before .before .before .before .before .before .before .before .before .before .before .before .before .before .if1 .left, ← (c .before .before .before .before .before .fault .ensures), c .if3 .taken)
 
 object-loop-less : (t : ℕ) → object-lts.Need-loop-less (
   first-member-reads.Asked,
   first-member-reads.Learnt,
-  fault-below t,
-  fault.Post,
+  slash-named-reads.Asked,
+  slash-named-reads.Learnt,
+  pack-reads.Asked,
+  pack-reads.Learnt,
+  append-reads.Asked,
+  append-reads.Learnt,
   next-member-reads.Asked,
   next-member-reads.Learnt,
+  opens-reads.Asked,
+  opens-reads.Learnt,
+  fault-below t,
+  fault.Post,
+  repeated-from-reads.Asked,
+  repeated-from-reads.Learnt,
 ) (object-at t) object.Post object-Inv-loop object-μ-loop
 object-loop-less t c = search needs
 
 object-loop-again : (t : ℕ) → object-lts.Need-loop-again (
   first-member-reads.Asked,
   first-member-reads.Learnt,
-  fault-below t,
-  fault.Post,
+  slash-named-reads.Asked,
+  slash-named-reads.Learnt,
+  pack-reads.Asked,
+  pack-reads.Learnt,
+  append-reads.Asked,
+  append-reads.Learnt,
   next-member-reads.Asked,
   next-member-reads.Learnt,
+  opens-reads.Asked,
+  opens-reads.Learnt,
+  fault-below t,
+  fault.Post,
+  repeated-from-reads.Asked,
+  repeated-from-reads.Learnt,
 ) (object-at t) object.Post object-Inv-loop object-μ-loop
-unfolding anyMember membersOf
-object-loop-again t c = (
-  rw (
-    ← (c .before .before .before .before .before .before .before .before .before .before .before .before .before .loop .inv .0),
-    c .before .before .before .before .before .before .before .before .before .before .step .given .1,
-    members-one _ (c .before .before .before .before .before .before .before .before .before .before .before .before .loop-test .taken),
-    ← (c .before .before .before .before .before .before .fault .ensures),
-    c .before .if1 .left,
-    ← (c .next-member .ensures),
-  ),
-  search needs,
-  search needs,
-)
+unfolding anyFault
+object-loop-again t c = (rw (← (c .before .before .before .before .before .before .before .before .before .before .before .before .before .before .before .before .before .before .before .before .before .before .loop .inv .0), c .before .before .before .before .before .before .before .before .before .before .before .before .before .before .before .before .before .before .before .step .given .1, members-one _ (c .before .before .before .before .before .before .before .before .before .before .before .before .before .before .before .before .before .before .before .before .before .loop-test .taken), ← (c .before .before .before .before .before .before .before .before .before .before .before .before .before .before .before .before .before .slash-named .ensures), c .before .before .before .before .before .before .before .before .before .before .before .before .before .before .before .before .if1 .left, ← (c .before .before .before .before .before .fault .ensures), c .if3 .left, ← (c .before .before .before .before .before .before .before .before .before .before .next-member .ensures)), search needs, search needs, search needs, search needs)
+
+object-loop-less-2 : (t : ℕ) → object-lts.Need-loop-less-2 (
+  first-member-reads.Asked,
+  first-member-reads.Learnt,
+  slash-named-reads.Asked,
+  slash-named-reads.Learnt,
+  pack-reads.Asked,
+  pack-reads.Learnt,
+  append-reads.Asked,
+  append-reads.Learnt,
+  next-member-reads.Asked,
+  next-member-reads.Learnt,
+  opens-reads.Asked,
+  opens-reads.Learnt,
+  fault-below t,
+  fault.Post,
+  repeated-from-reads.Asked,
+  repeated-from-reads.Learnt,
+) (object-at t) object.Post object-Inv-loop object-μ-loop
+object-loop-less-2 t c = search needs
+
+object-loop-again-2 : (t : ℕ) → object-lts.Need-loop-again-2 (
+  first-member-reads.Asked,
+  first-member-reads.Learnt,
+  slash-named-reads.Asked,
+  slash-named-reads.Learnt,
+  pack-reads.Asked,
+  pack-reads.Learnt,
+  append-reads.Asked,
+  append-reads.Learnt,
+  next-member-reads.Asked,
+  next-member-reads.Learnt,
+  opens-reads.Asked,
+  opens-reads.Learnt,
+  fault-below t,
+  fault.Post,
+  repeated-from-reads.Asked,
+  repeated-from-reads.Learnt,
+) (object-at t) object.Post object-Inv-loop object-μ-loop
+unfolding anyFault
+object-loop-again-2 t c = (rw (← (c .before .before .before .before .before .before .before .before .before .before .before .before .before .before .loop .inv .0), c .before .before .before .before .before .before .before .before .before .before .before .step .given .1, members-one _ (c .before .before .before .before .before .before .before .before .before .before .before .before .before .loop-test .taken), ← (c .before .before .before .before .before .before .before .before .before .slash-named .ensures), c .before .before .before .before .before .before .before .before .if1 .left, closed _ _ (sym (c .before .opens .ensures) ∙ c .if2 .left), ← (c .before .before .next-member .ensures)), search needs, search needs, search needs, search needs)
+
+object-enum-told : (t : ℕ) → object-lts.Need-enum-told (
+  first-member-reads.Asked,
+  first-member-reads.Learnt,
+  slash-named-reads.Asked,
+  slash-named-reads.Learnt,
+  pack-reads.Asked,
+  pack-reads.Learnt,
+  append-reads.Asked,
+  append-reads.Learnt,
+  next-member-reads.Asked,
+  next-member-reads.Learnt,
+  opens-reads.Asked,
+  opens-reads.Learnt,
+  fault-below t,
+  fault.Post,
+  repeated-from-reads.Asked,
+  repeated-from-reads.Learnt,
+) (object-at t) object.Post object-Inv-loop object-μ-loop
+object-enum-told t c = search needs
+
+object-repeated-from-requires : (t : ℕ) → object-lts.Need-repeated-from-requires (
+  first-member-reads.Asked,
+  first-member-reads.Learnt,
+  slash-named-reads.Asked,
+  slash-named-reads.Learnt,
+  pack-reads.Asked,
+  pack-reads.Learnt,
+  append-reads.Asked,
+  append-reads.Learnt,
+  next-member-reads.Asked,
+  next-member-reads.Learnt,
+  opens-reads.Asked,
+  opens-reads.Learnt,
+  fault-below t,
+  fault.Post,
+  repeated-from-reads.Asked,
+  repeated-from-reads.Learnt,
+) (object-at t) object.Post object-Inv-loop object-μ-loop
+object-repeated-from-requires t c κs = search needs
 
 object-same-length-5 : (t : ℕ) → object-lts.Need-same-length-5 (
   first-member-reads.Asked,
   first-member-reads.Learnt,
-  fault-below t,
-  fault.Post,
+  slash-named-reads.Asked,
+  slash-named-reads.Learnt,
+  pack-reads.Asked,
+  pack-reads.Learnt,
+  append-reads.Asked,
+  append-reads.Learnt,
   next-member-reads.Asked,
   next-member-reads.Learnt,
+  opens-reads.Asked,
+  opens-reads.Learnt,
+  fault-below t,
+  fault.Post,
+  repeated-from-reads.Asked,
+  repeated-from-reads.Learnt,
 ) (object-at t) object.Post object-Inv-loop object-μ-loop
 object-same-length-5 t c = search needs
 
 object-same-length-6 : (t : ℕ) → object-lts.Need-same-length-6 (
   first-member-reads.Asked,
   first-member-reads.Learnt,
-  fault-below t,
-  fault.Post,
+  slash-named-reads.Asked,
+  slash-named-reads.Learnt,
+  pack-reads.Asked,
+  pack-reads.Learnt,
+  append-reads.Asked,
+  append-reads.Learnt,
   next-member-reads.Asked,
   next-member-reads.Learnt,
+  opens-reads.Asked,
+  opens-reads.Learnt,
+  fault-below t,
+  fault.Post,
+  repeated-from-reads.Asked,
+  repeated-from-reads.Learnt,
 ) (object-at t) object.Post object-Inv-loop object-μ-loop
 object-same-length-6 t c = search needs
 
 object-returns-3 : (t : ℕ) → object-lts.Need-returns-3 (
   first-member-reads.Asked,
   first-member-reads.Learnt,
-  fault-below t,
-  fault.Post,
+  slash-named-reads.Asked,
+  slash-named-reads.Learnt,
+  pack-reads.Asked,
+  pack-reads.Learnt,
+  append-reads.Asked,
+  append-reads.Learnt,
   next-member-reads.Asked,
   next-member-reads.Learnt,
+  opens-reads.Asked,
+  opens-reads.Learnt,
+  fault-below t,
+  fault.Post,
+  repeated-from-reads.Asked,
+  repeated-from-reads.Learnt,
 ) (object-at t) object.Post object-Inv-loop object-μ-loop
-unfolding anyMember membersOf
-object-returns-3 t c =
-    rw (
-      ← (c .before .loop .inv .0),
-      members-none _ (c .loop-test .left),
-    )
+unfolding anyFault
+object-returns-3 t c = rw (object-fault, ← (c .before .before .before .before .before .before .before .before .before .before .loop .inv .0), c .before .before .before .before .before .before .before .enum-told .given .1, members-end, ← (c .before .before .before .before .repeated-from .ensures))
+
+object-repeated-from-requires-2 : (t : ℕ) → object-lts.Need-repeated-from-requires-2 (
+  first-member-reads.Asked,
+  first-member-reads.Learnt,
+  slash-named-reads.Asked,
+  slash-named-reads.Learnt,
+  pack-reads.Asked,
+  pack-reads.Learnt,
+  append-reads.Asked,
+  append-reads.Learnt,
+  next-member-reads.Asked,
+  next-member-reads.Learnt,
+  opens-reads.Asked,
+  opens-reads.Learnt,
+  fault-below t,
+  fault.Post,
+  repeated-from-reads.Asked,
+  repeated-from-reads.Learnt,
+) (object-at t) object.Post object-Inv-loop object-μ-loop
+object-repeated-from-requires-2 t c κs = search needs
+
+object-same-length-7 : (t : ℕ) → object-lts.Need-same-length-7 (
+  first-member-reads.Asked,
+  first-member-reads.Learnt,
+  slash-named-reads.Asked,
+  slash-named-reads.Learnt,
+  pack-reads.Asked,
+  pack-reads.Learnt,
+  append-reads.Asked,
+  append-reads.Learnt,
+  next-member-reads.Asked,
+  next-member-reads.Learnt,
+  opens-reads.Asked,
+  opens-reads.Learnt,
+  fault-below t,
+  fault.Post,
+  repeated-from-reads.Asked,
+  repeated-from-reads.Learnt,
+) (object-at t) object.Post object-Inv-loop object-μ-loop
+object-same-length-7 t c = search needs
+
+object-same-length-8 : (t : ℕ) → object-lts.Need-same-length-8 (
+  first-member-reads.Asked,
+  first-member-reads.Learnt,
+  slash-named-reads.Asked,
+  slash-named-reads.Learnt,
+  pack-reads.Asked,
+  pack-reads.Learnt,
+  append-reads.Asked,
+  append-reads.Learnt,
+  next-member-reads.Asked,
+  next-member-reads.Learnt,
+  opens-reads.Asked,
+  opens-reads.Learnt,
+  fault-below t,
+  fault.Post,
+  repeated-from-reads.Asked,
+  repeated-from-reads.Learnt,
+) (object-at t) object.Post object-Inv-loop object-μ-loop
+object-same-length-8 t c = search needs
+
+object-returns-4 : (t : ℕ) → object-lts.Need-returns-4 (
+  first-member-reads.Asked,
+  first-member-reads.Learnt,
+  slash-named-reads.Asked,
+  slash-named-reads.Learnt,
+  pack-reads.Asked,
+  pack-reads.Learnt,
+  append-reads.Asked,
+  append-reads.Learnt,
+  next-member-reads.Asked,
+  next-member-reads.Learnt,
+  opens-reads.Asked,
+  opens-reads.Learnt,
+  fault-below t,
+  fault.Post,
+  repeated-from-reads.Asked,
+  repeated-from-reads.Learnt,
+) (object-at t) object.Post object-Inv-loop object-μ-loop
+unfolding anyFault
+object-returns-4 t c = rw (object-fault, ← (c .before .before .before .before .before .before .before .before .loop .inv .0), members-none _ (c .before .before .before .before .before .before .before .loop-test .left), ← (c .before .before .before .before .repeated-from2 .ensures))
 
 pub +array+fault+object-spec : {M : Type 1} → statement M
 +array+fault+object-spec = close μ-array μ-fault μ-object (λ t. array-lts.spec (
   first-element-reads.Asked,
   first-element-reads.Learnt,
-  fault-below t,
-  fault.Post,
   next-element-reads.Asked,
   next-element-reads.Learnt,
+  opens-reads.Asked,
+  opens-reads.Learnt,
+  fault-below t,
+  fault.Post,
 )
     (array-at t)
     array.Post
@@ -743,27 +1075,28 @@ pub +array+fault+object-spec : {M : Type 1} → statement M
     array-μ-loop
     (array-first-element-requires t)
     (array-loop-holds t)
+    (array-sub-n t)
     (array-enum-known-step t)
+    (array-next-element-requires t)
+    (array-opens-requires t)
     (array-fault-requires t)
     (array-same-length t)
     (array-same-length-2 t)
     (array-returns t)
-    (array-next-element-requires t)
+    (array-loop-less t)
+    (array-loop-again t)
+    (array-loop-less-2 t)
+    (array-loop-again-2 t)
     (array-enum-told t)
     (array-same-length-3 t)
     (array-same-length-4 t)
     (array-returns-2 t)
-    (array-sub-n t)
-    (array-loop-less t)
-    (array-loop-again t)
     (array-same-length-5 t)
     (array-same-length-6 t)
     (array-returns-3 t))
     (λ t. fault-lts.spec (
       byte-reads.Asked,
       byte-reads.Learnt,
-      bad-names-reads.Asked,
-      bad-names-reads.Learnt,
       object-below t,
       object.Post,
       array-below t,
@@ -773,28 +1106,34 @@ pub +array+fault+object-spec : {M : Type 1} → statement M
     fault.Post
     (fault-returns t)
     (fault-byte-requires t)
-    (fault-bad-names-requires t)
+    (fault-sub-object t)
+    (fault-object-requires t)
     (fault-same-length t)
     (fault-same-length-2 t)
     (fault-returns-2 t)
-    (fault-sub-object t)
-    (fault-object-requires t)
+    (fault-sub-array t)
+    (fault-array-requires t)
     (fault-same-length-3 t)
     (fault-same-length-4 t)
     (fault-returns-3 t)
-    (fault-sub-array t)
-    (fault-array-requires t)
-    (fault-same-length-5 t)
-    (fault-same-length-6 t)
-    (fault-returns-4 t)
-    (fault-returns-5 t))
+    (fault-returns-4 t))
     λ t. object-lts.spec (
       first-member-reads.Asked,
       first-member-reads.Learnt,
-      fault-below t,
-      fault.Post,
+      slash-named-reads.Asked,
+      slash-named-reads.Learnt,
+      pack-reads.Asked,
+      pack-reads.Learnt,
+      append-reads.Asked,
+      append-reads.Learnt,
       next-member-reads.Asked,
       next-member-reads.Learnt,
+      opens-reads.Asked,
+      opens-reads.Learnt,
+      fault-below t,
+      fault.Post,
+      repeated-from-reads.Asked,
+      repeated-from-reads.Learnt,
     )
     (object-at t)
     object.Post
@@ -802,19 +1141,30 @@ pub +array+fault+object-spec : {M : Type 1} → statement M
     object-μ-loop
     (object-first-member-requires t)
     (object-loop-holds t)
+    (object-sub-n t)
     (object-enum-known-step t)
-    (object-fault-requires t)
+    (object-slash-named-requires t)
     (object-same-length t)
     (object-same-length-2 t)
     (object-returns t)
+    (object-pack-requires t)
+    (object-append-requires t)
     (object-next-member-requires t)
-    (object-enum-told t)
+    (object-opens-requires t)
+    (object-fault-requires t)
     (object-same-length-3 t)
     (object-same-length-4 t)
     (object-returns-2 t)
-    (object-sub-n t)
     (object-loop-less t)
     (object-loop-again t)
+    (object-loop-less-2 t)
+    (object-loop-again-2 t)
+    (object-enum-told t)
+    (object-repeated-from-requires t)
     (object-same-length-5 t)
     (object-same-length-6 t)
     (object-returns-3 t)
+    (object-repeated-from-requires-2 t)
+    (object-same-length-7 t)
+    (object-same-length-8 t)
+    (object-returns-4 t)

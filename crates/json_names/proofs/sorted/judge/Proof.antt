@@ -6,9 +6,6 @@ use borrow.Author.Needs.{needs}
 use Rattle.json_names.proofs.sorted.judge.Statement.{statement}
 use Rattle.json_names.proofs.sorted.judge.Tie as tie
 
-rising-requires : tie.Need-rising-requires
-rising-requires c κs = search needs
-
 minus-requires : tie.Need-minus-requires
 minus-requires c κs = search needs
 
@@ -50,8 +47,8 @@ covered-requires c κs = search needs
 
 returns-4 : tie.Need-returns-4
 returns-4 c =
-    let q : c .before .before .before .before .before .before .before .before .before .args .k ≤ c .before .before .before .before .rising .result + 1 = omega arith in
-    sym (distinct _ _ (c .before .before .before .before .rising .result) (c .before .before .before .before .before .before .before .before .before .args .k) (c .before .before .before .before .rising .ensures) q _ _ (c .before .covered .ensures (c .if4 .taken)))
+    let q : c .before .before .before .before .before .before .before .before .args .k ≤ c .before .before .before .before .before .before .before .before .args .r + 1 = omega arith in
+    sym (distinct _ _ (c .before .before .before .before .before .before .before .before .args .r) (c .before .before .before .before .before .before .before .before .args .k) (c .before .before .before .before .before .before .before .before .pre .1) q _ _ (c .before .covered .ensures (c .if4 .taken)))
 
 repeated-requires-2 : tie.Need-repeated-requires-2
 repeated-requires-2 c κs = search needs
@@ -63,7 +60,6 @@ pub judge-spec : {M : Type 1} → statement M
 judge-spec =
     tie.close
     (tie.spec
-    rising-requires
     minus-requires
     entry-requires
     name-of-requires

@@ -3,10 +3,10 @@ use mathlib.Core.Bool.{true, false}
 use mathlib.Core.Path.{_≡_}
 use borrow.Author.Needs.{needs}
 use lib.ListN.{length}
-use Rattle.json.specs.Slashes.{NoSlash}
-use Rattle.json.proofs.Free.{free-none, free-more, free-all, not-both}
-use Rattle.json.proofs.slashes.slash_free.Statement.{statement}
-use Rattle.json.proofs.slashes.slash_free.Tie as tie
+use Rattle.json_names.specs.Slashes.{NoSlash}
+use Rattle.json_names.proofs.Clean.{clean-none, clean-more, clean-all, not-clean}
+use Rattle.json_names.proofs.slashes.slash_free.Statement.{statement}
+use Rattle.json_names.proofs.slashes.slash_free.Tie as tie
 
 abbrev Inv-loop : tie.InvT-loop
 Inv-loop text any₀ i₀ any i = (i ≤ length text) × (any ≡ 0 → NoSlash text i)
@@ -15,7 +15,7 @@ abbrev μ-loop : tie.MeasureT-loop
 μ-loop text any₀ i₀ any i = length text - i
 
 loop-holds : tie.Need-loop-holds Inv-loop μ-loop
-loop-holds c = (search needs, λ e. free-none _)
+loop-holds c = (search needs, λ e. clean-none _)
 
 shared-slice-read-seen : tie.Need-shared-slice-read-seen Inv-loop μ-loop
 shared-slice-read-seen c = search needs
@@ -32,14 +32,14 @@ loop-less c = search needs
 loop-again : tie.Need-loop-again Inv-loop μ-loop
 loop-again c = (
   search needs,
-  λ e. free-more _ _ (c .before .before .before .loop .inv .1 (c .seen .ensures e .0)) (c .seen .ensures e .1),
+  λ e. clean-more _ _ (c .before .before .before .loop .inv .1 (c .seen .ensures e .0)) (c .seen .ensures e .1),
 )
 
 returns : tie.Need-returns Inv-loop μ-loop
-returns c = λ e. free-all _ _ _ (c .before .loop-test .left) (c .before .before .loop .inv .1 (c .if1 .taken))
+returns c = clean-all _ _ (c .before .loop-test .left) (c .before .before .loop .inv .1 (c .if1 .taken))
 
 returns-2 : tie.Need-returns-2 Inv-loop μ-loop
-returns-2 c = λ e. not-both e
+returns-2 c = not-clean _
 
 pub slash-free-spec : {M : Type 1} → statement M
 slash-free-spec = tie.close (tie.spec Inv-loop μ-loop loop-holds shared-slice-read-seen seen-requires add-i loop-less loop-again returns returns-2)
