@@ -1,2 +1,3 @@
 pub mod SheetLaws
 pub mod EventLaws
+pub mod ChunkLaws

@@ -1,3 +1,4 @@
 // The table of occurrences, written into a lent buffer: its records and its trailer, or nothing where the buffer is too short.
+pub mod chunk;
 pub mod nothing;
 pub mod whole;

@@ -12,6 +12,8 @@ ghost use Rattle.writing.specs.Details.{detailsBy, rowBy};
 ghost use Rattle.writing.specs.Runs.{Overridden, Timed};
 ghost use Rattle.table.specs.Results.{Gives};
 ghost use Rattle.tables.specs.Sheet.{sheetBy, fitted};
+use crate::chunk::is_one_chunk;
+use crate::chunk::put_chunk;
 use dates::Tracks;
 use override_text::Own;
 use record::rows::put_trailer;
@@ -75,8 +77,8 @@ fn put_all(
     put_trailer(buffer, behind, count);
 }
 
-// The table of the window: 0 and its length, or 13 and no byte changed.
-pub fn put_table(
+// The table of a window of several chunks, which are marked twice.
+fn put_chunks(
     buffer: &mut [u8],
     length: &mut u64,
     text: &[u8],
@@ -145,4 +147,80 @@ pub fn put_table(
     );
     *length = need;
     0
+}
+
+// The table of the window: 0 and its length, or 13 and no byte changed.
+pub fn put_table(
+    buffer: &mut [u8],
+    length: &mut u64,
+    text: &[u8],
+    ends: &[u32],
+    own: Own,
+    ids: &[u64],
+    gone: &[bool],
+    places: &[usize],
+    floating: bool,
+    initial: i64,
+    instants: &[i64],
+    offsets: &[i64],
+    rules: Tracks,
+    rulerows: &[bool],
+    excluded: Tracks,
+    excludedrows: &[bool],
+    hits: &mut [bool],
+    from: u64,
+    to: u64,
+) -> u32
+    requires { ⌜ Ends (now text) (now ends) × (Ready rules (List·length (now rulerows)) excluded (List·length (now excludedrows)) (List·length (now ids)) (List·length (now gone)) (List·length (now hits))
+        × (Window (own .start) from to × (Overridden (List·length (now ids)) (List·length (now gone)) (List·length (now places))
+        × Timed initial (now instants) (now offsets) (detailsBy (now text) (detailsIn (now text) own) (now ids) (now places))))) ⌝ }
+    ensures { λ r. ⌜ Gives (fitted (sheetBy
+        (rowBy floating initial (now (instants .entry)) (now (offsets .entry)) (detailsBy (now (text .entry)) (detailsIn (now (text .entry)) own) (now (ids .entry)) (now (places .entry))))
+        (isIn (loaded (own .start) rules (now (rulerows .entry)) excluded (now (excludedrows .entry)) (now (ids .entry)) (now (gone .entry)))) from to)
+        (now (buffer .entry))) r (now (length .exit)) (now (buffer .exit)) ⌝ }
+{
+    if is_one_chunk(from, to, hits.len()) {
+        return put_chunk(
+            buffer,
+            length,
+            text,
+            ends,
+            own,
+            ids,
+            gone,
+            places,
+            floating,
+            initial,
+            instants,
+            offsets,
+            rules,
+            rulerows,
+            excluded,
+            excludedrows,
+            hits,
+            from,
+            to,
+        );
+    }
+    put_chunks(
+        buffer,
+        length,
+        text,
+        ends,
+        own,
+        ids,
+        gone,
+        places,
+        floating,
+        initial,
+        instants,
+        offsets,
+        rules,
+        rulerows,
+        excluded,
+        excludedrows,
+        hits,
+        from,
+        to,
+    )
 }

@@ -11,19 +11,11 @@ use borrow.Author.Tests.{ltb-true, ltb-false, leb-true, leb-false, eqb-true, eqb
 use Rattle.signed.specs.Choose.{if_then_else_}
 use Rattle.rule.specs.Gives.{endDay}
 use Rattle.rule.proofs.Bools.{by}
-use Rattle.window.proofs.FirstLaws.{First, first-is, first-none, first-here, first-later}
-use Rattle.window.specs.Next.{firstFrom, nextOf, isHit, dayFrom, Stretch}
+use Rattle.window.proofs.FirstLaws.{First, first-is, first-none, first-here, first-later, first-passed}
+use Rattle.window.specs.Next.{firstFrom, noneIn, nextOf, atHit, TrueAt, isHit, dayFrom, Stretch}
 use Rattle.window.proofs.NextLaws.{Next, next-made}
 
-abbrev pub atHit : List Bool → ℕ → Bool
-atHit hits i = getD hits i false
-
 -- ---- the walk through the hits
-
-pub record TrueAt (hits : List Bool) (from i : ℕ) : Type 0 where
-  pub low : from ≤ i
-  pub within : i ≤ length hits
-  pub same : firstFrom (atHit hits) (length hits - i) i ≡ firstFrom (atHit hits) (length hits - from) from
 
 module _ (hits : List Bool) (from : ℕ) where
   pub true-starts : from ≤ length hits → TrueAt hits from from
@@ -47,6 +39,20 @@ module _ (hits : List Bool) (from : ℕ) where
     true-none over =
         let none : length hits - i ≡ 0 = omega arith in
         sym (ap (λ (n : ℕ). firstFrom (atHit hits) n i) none ∙ first-none (atHit hits) i) ∙ a .same
+
+  pub true-then : (i j : ℕ) → TrueAt hits from i → TrueAt hits i j → TrueAt hits from j
+  true-then i j a b = record { low = omega (arith, a .low, b .low); within = b .within; same = b .same ∙ a .same }
+
+-- days without a hit are passed
+pub true-passed : (hits : List Bool) (i k : ℕ) → i + k ≤ length hits → (none : Bool) → none ≡ noneIn (atHit hits) i (i + k - i) → none ≡ true → TrueAt hits i (i + k)
+true-passed hits i k fits none is yes-it-is =
+    let less : length hits - (i + k) ≡ length hits - i - k = omega arith in
+    let days : i + k - i ≡ k = omega arith in
+    record {
+      low = omega arith;
+      within = fits;
+      same = rw less (sym (first-passed (atHit hits) k (length hits - i) i (omega arith) (ap (noneIn (atHit hits) i) (sym days) ∙ (sym is ∙ yes-it-is))));
+    }
 
 -- ---- the day that a second asks for first
 

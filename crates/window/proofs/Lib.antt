@@ -5,3 +5,4 @@ pub mod HitLaws
 pub mod RunLaws
 pub mod ChunkLaws
 pub mod ListLaws
+pub mod CountLaws

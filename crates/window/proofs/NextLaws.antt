@@ -75,7 +75,7 @@ next-later p a b to r h k f = record { low = k; high = f .high; passes = f .pass
 
 -- ---- counting by what is next
 
-count-nothing : (p : ℕ → Bool) (a n : ℕ) → ((j : ℕ) → a ≤ j → j < a + n → p j ≡ false) → countIn p a n ≡ 0
+pub count-nothing : (p : ℕ → Bool) (a n : ℕ) → ((j : ℕ) → a ≤ j → j < a + n → p j ≡ false) → countIn p a n ≡ 0
 count-nothing p a zero h = count-none p a
 count-nothing p a (suc n) h =
     count-less p a n (h a (omega arith) (omega arith)) ∙ count-nothing p (suc a) n (λ j low high. h j (omega arith) (omega arith))

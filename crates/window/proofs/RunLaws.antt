@@ -131,7 +131,7 @@ module _ (l : Loaded) (hits : List Bool) (first n : ℕ) (is : hits ≡ run (isO
 
 -- what is counted and what is next in a run that is filled
 module _ (l : Loaded) (hits : List Bool) (first n : ℕ) (is : hits ≡ run (isOn l) first n) (at to : ℕ) (s : Stretch first n at to) where
-  same-there : (j : ℕ) → at ≤ j → j < to → isThere hits first (l .start) (l .ids) (l .gone) j ≡ isIn l j
+  pub same-there : (j : ℕ) → at ≤ j → j < to → isThere hits first (l .start) (l .ids) (l .gone) j ≡ isIn l j
   same-there j low high =
       let below = s .low in
       let above = s .high in

@@ -16,11 +16,27 @@ firstFrom p (suc n) d =
     let later = firstFrom p n (suc d) in
     if p d then d else later
 
+-- None of n days from d on passes.
+unfoldable pub noneIn : (ℕ → Bool) → ℕ → ℕ → Bool
+noneIn p d zero = true
+noneIn p d (suc n) =
+    let later = noneIn p (suc d) n in
+    if p d then false else later
+
 -- The first second from a on, and before `to`, that passes; `to` where none does.
 unfoldable pub nextOf : (ℕ → Bool) → ℕ → ℕ → ℕ
 nextOf p a to = firstFrom p (to - a) a
 
 -- ---- in the hits of a run
+
+abbrev pub atHit : List Bool → ℕ → Bool
+atHit hits i = getD hits i false
+
+-- From i on the first hit is the one from `from` on: none was passed.
+pub record TrueAt (hits : List Bool) (from i : ℕ) : Type 0 where
+  pub low : from ≤ i
+  pub within : i ≤ length hits
+  pub same : firstFrom (atHit hits) (length hits - i) i ≡ firstFrom (atHit hits) (length hits - from) from
 
 -- x has the start's time of day and its day's hit is set.
 unfoldable pub isHit : List Bool → ℕ → ℕ → ℕ → Bool

@@ -34,8 +34,8 @@ pub fn chunk_end(at: u64, to: u64, k: usize) -> u64
     to
 }
 
-// How many date-times of the set a run that is filled has from `at` on and before `to`.
-pub fn count_run(
+// The date-times of a run that is filled, counted one after the other.
+fn count_each(
     hits: &[bool],
     first: u32,
     start: u64,
@@ -60,6 +60,25 @@ pub fn count_run(
         pending = super::next::renew(ids, gone, pending, x + 1, to);
     }
     found
+}
+
+// How many date-times of the set a run that is filled has from `at` on and before `to`: without overrides, as many as it has hits.
+pub fn count_run(
+    hits: &[bool],
+    first: u32,
+    start: u64,
+    ids: &[u64],
+    gone: &[bool],
+    at: u64,
+    to: u64,
+) -> u64
+    requires { ⌜ Stretch first (length (now hits)) at to × (length (now ids) ≡ length (now gone)) ⌝ }
+    ensures { λ r. ⌜ r ≡ countIn (isThere (now (hits .entry)) first start (now (ids .entry)) (now (gone .entry))) at (to - at) ⌝ }
+{
+    if ids.len() == 0 {
+        return super::hits::count_hits(hits, first, start, at, to);
+    }
+    count_each(hits, first, start, ids, gone, at, to)
 }
 
 // The first date-time of the set that a run that is filled has from `at` on and before `to`; `to` where there is none.

@@ -1,10 +1,11 @@
 // The next date-time of the set within a run of days that is filled.
-ghost use mathlib.Core.Bool.{true, false};
+ghost use mathlib.Core.Bool.{false};
 ghost use mathlib.Core.Path.{_≡_};
 ghost use Prim.Native.Nat.{_+_, _-_, _≤_};
-ghost use lib.ListN.{length, getD};
+ghost use lib.ListN.{length};
+ghost use Rattle.signed.specs.Choose.{if_then_else_};
 ghost use Rattle.dates.specs.Overrides.{isNamed, isKept};
-ghost use Rattle.window.specs.Next.{firstFrom, nextOf, isHit, dayFrom, nearer, leastOf, lower, renewed, Stretch};
+ghost use Rattle.window.specs.Next.{firstFrom, noneIn, nextOf, atHit, TrueAt, isHit, dayFrom, nearer, leastOf, lower, renewed, Stretch};
 
 // Whether an override names x: any, or one that is excluded.
 pub fn is_named(only: bool, ids: &[u64], gone: &[bool], x: u64) -> bool
@@ -84,21 +85,59 @@ pub fn renew(ids: &[u64], gone: &[bool], pending: u64, at: u64, to: u64) -> u64
     pending
 }
 
+fn still(none: bool, hit: bool) -> bool
+    ensures { λ r. ⌜ r ≡ (if hit then false else none) ⌝ }
+{
+    if hit {
+        return false;
+    }
+    none
+}
+
+// Is none of some days hit? It looks at all of them, so that the machine looks at many at once.
+fn none_in(hits: &[bool], low: usize, high: usize) -> bool
+    requires { ⌜ (low ≤ high) × (high ≤ length (now hits)) ⌝ }
+    ensures { λ r. ⌜ r ≡ noneIn (atHit (now (hits .entry))) low (high - low) ⌝ }
+{
+    let mut none = true;
+    let mut i = low;
+    while i < high {
+        none = still(none, hits[i]);
+        i += 1;
+    }
+    none
+}
+
+// Sixteen days without a hit are passed at once.
+fn past_quiet(hits: &[bool], i: usize) -> usize
+    requires { ⌜ i ≤ length (now hits) ⌝ }
+    ensures { λ r. ⌜ TrueAt (now (hits .entry)) i r ⌝ }
+{
+    if hits.len() - i < 16 {
+        return i;
+    }
+    if none_in(hits, i, i + 16) {
+        return i + 16;
+    }
+    i
+}
+
 fn next_true(hits: &[bool], from: usize) -> usize
     requires { ⌜ from ≤ length (now hits) ⌝ }
-    ensures { λ r. ⌜ r ≡ firstFrom (λ i. getD (now (hits .entry)) i false) (length (now (hits .entry)) - from) from ⌝ }
+    ensures { λ r. ⌜ r ≡ firstFrom (atHit (now (hits .entry))) (length (now (hits .entry)) - from) from ⌝ }
 {
     let mut i = from;
     while i < hits.len() {
         if hits[i] {
             return i;
         }
-        i += 1;
+        i = past_quiet(hits, i + 1);
     }
     i
 }
 
-fn day_from(start: u64, at: u64) -> u64
+// The first day that has the start's time of day not before a second.
+pub fn day_from(start: u64, at: u64) -> u64
     ensures { λ r. ⌜ r ≡ dayFrom start at ⌝ }
 {
     if at % 86400 <= start % 86400 {

@@ -1,78 +1,57 @@
--- `tables::whole::put_table` meets its contract: the records are counted, and written only where they and the trailer fit.
-use native.Mathlib.Omega.{arith}
+-- `tables::whole::put_table` meets its contract.
 use mir.Facts.{toZ-ofZ}
-use Rattle.override_text.specs.Meaning.{detailsIn}
-use Rattle.dates.specs.Loaded.{loaded, isIn}
-use Rattle.writing.specs.Details.{detailsBy, rowBy}
-use Rattle.writing.proofs.WriteLaws.{by-length}
-use Rattle.tables.proofs.SheetLaws.{count-small, sheet-short, sheet-fits}
+use Rattle.tables.proofs.ChunkLaws.{one-chunk}
 use borrow.Author.Needs.{needs}
 use Rattle.tables.proofs.whole.put_table.Statement.{statement}
 use Rattle.tables.proofs.whole.put_table.Tie as tie
 
-count-ids-requires : tie.Need-count-ids-requires
-count-ids-requires c κs = search needs
+is-one-chunk-requires : tie.Need-is-one-chunk-requires
+is-one-chunk-requires c κs = search needs
 
-mul-need : tie.Need-mul-need
-mul-need c =
-    let q = c .before .before .before .before .before .before .before .before .before .before .before .before .before in
-    omega (arith, c .before .before .count-ids .ensures, count-small (isIn (loaded (q .args .own .start) (q .args .rules) (q .args .rulerows .now) (q .args .excluded) (q .args .excludedrows .now) (q .args .ids .now) (q .args .gone .now))) _ _ _ (q .pre .1 .1 .0))
-
-add-need : tie.Need-add-need
-add-need c =
-    let q = c .before .before .before .before .before .before .before .before .before .before .before .before .before in
-    omega (arith, c .before .before .count-ids .ensures, count-small (isIn (loaded (q .args .own .start) (q .args .rules) (q .args .rulerows .now) (q .args .excluded) (q .args .excludedrows .now) (q .args .ids .now) (q .args .gone .now))) _ _ _ (q .pre .1 .1 .0))
+put-chunk-requires : tie.Need-put-chunk-requires
+put-chunk-requires c κs =
+    let q = c .before .before .before .before .before .before .before .before .before .before .before .before .before .before in
+    let p = q .pre .1 in
+    (q .pre .0, (p .0, ((p .1 .0, one-chunk _ _ _ _ (p .1 .0) _ (c .before .before .before .before .is-one-chunk .ensures) (c .before .before .before .if1 .taken)), (p .1 .1 .0, rw (toZ-ofZ (q .fits .initial)) (p .1 .1 .1)))))
 
 same-length : tie.Need-same-length
 same-length c = search needs
 
-returns : tie.Need-returns
-returns c =
-    let q = c .before .before .before .before .before .before .before .before .before .before .before .before .before .before in
-    sheet-short (rowBy (q .args .floating) _ (q .args .instants .now) (q .args .offsets .now) (detailsBy (q .args .text .now) (detailsIn (q .args .text .now) (q .args .own)) (q .args .ids .now) (q .args .places .now))) (by-length (q .args .floating) _ (q .args .instants .now) (q .args .offsets .now) (detailsBy (q .args .text .now) (detailsIn (q .args .text .now) (q .args .own)) (q .args .ids .now) (q .args .places .now)))
-    (isIn (loaded (q .args .own .start) (q .args .rules) (q .args .rulerows .now) (q .args .excluded) (q .args .excludedrows .now) (q .args .ids .now) (q .args .gone .now))) _ _ _ (c .before .before .before .count-ids .ensures) _ (omega (arith, c .if1 .taken))
-
-put-all-requires : tie.Need-put-all-requires
-put-all-requires c κs =
-    let q = c .before .before .before .before .before .before .before .before .before .before .before .before .before .before .before .before in
-    let p = q .pre .1 in (
-      q .pre .0,
-      (
-        record {
-          rules-tracked = p .0 .rules-tracked;
-          excluded-tracked = p .0 .excluded-tracked;
-          overrides = p .0 .overrides;
-          lent = omega (arith, p .0 .lent, c .before .before .before .before .before .count-ids .kept .1 .1 .1 .1 .1 .1 .1 .0);
-        },
-        (
-          p .1 .0,
-          (p .1 .1 .0, (rw (toZ-ofZ (q .fits .initial)) (p .1 .1 .1), (c .before .before .before .before .before .count-ids .ensures, omega (arith, c .before .before .if1 .left)))),
-        ),
-      ),
-    )
-
 same-length-2 : tie.Need-same-length-2
 same-length-2 c = search needs
+
+returns : tie.Need-returns
+returns c =
+    let q = c .before .before .before .before .before .before .before .before .before .before .before .before .before .before .before .before .before .before .before in
+    rw (toZ-ofZ (q .fits .initial)) at (c .before .before .before .before .put-chunk .ensures)
+
+put-chunks-requires : tie.Need-put-chunks-requires
+put-chunks-requires c κs =
+    let q = c .before .before .before .before .before .before .before .before .before .before .before .before .before .before in
+    let p = q .pre .1 in
+    (q .pre .0, (p .0, (p .1 .0, (p .1 .1 .0, rw (toZ-ofZ (q .fits .initial)) (p .1 .1 .1)))))
 
 same-length-3 : tie.Need-same-length-3
 same-length-3 c = search needs
 
+same-length-4 : tie.Need-same-length-4
+same-length-4 c = search needs
+
 returns-2 : tie.Need-returns-2
 returns-2 c =
-    let q = c .before .before .before .before .before .before .before .before .before .before .before .before .before .before .before .before .before .before .before .before .before in
-    sheet-fits (rowBy (q .args .floating) _ (q .args .instants .now) (q .args .offsets .now) (detailsBy (q .args .text .now) (detailsIn (q .args .text .now) (q .args .own)) (q .args .ids .now) (q .args .places .now))) (by-length (q .args .floating) _ (q .args .instants .now) (q .args .offsets .now) (detailsBy (q .args .text .now) (detailsIn (q .args .text .now) (q .args .own)) (q .args .ids .now) (q .args .places .now)))
-    (isIn (loaded (q .args .own .start) (q .args .rules) (q .args .rulerows .now) (q .args .excluded) (q .args .excludedrows .now) (q .args .ids .now) (q .args .gone .now))) _ _ _ (c .before .before .before .before .before .before .before .before .before .before .count-ids .ensures) _ (omega (arith, c .before .before .before .before .before .before .before .if1 .left)) _ (rw (toZ-ofZ (q .fits .initial)) at (c .before .before .before .before .put-all .ensures))
+    let q = c .before .before .before .before .before .before .before .before .before .before .before .before .before .before .before .before .before .before .before in
+    rw (toZ-ofZ (q .fits .initial)) at (c .before .before .before .before .put-chunks .ensures)
 
 pub put-table-spec : {M : Type 1} → statement M
 put-table-spec =
     tie.close
     (tie.spec
-    count-ids-requires
-    mul-need
-    add-need
+    is-one-chunk-requires
+    put-chunk-requires
     same-length
-    returns
-    put-all-requires
     same-length-2
+    returns
+    put-chunks-requires
     same-length-3
+    same-length-4
     returns-2)

@@ -1,8 +1,7 @@
 -- `window::next::next_true` meets its contract.
-use Rattle.window.proofs.HitLaws.{TrueAt, true-starts, true-here, true-goes-on, true-none}
+use Rattle.window.specs.Next.{TrueAt}
+use Rattle.window.proofs.HitLaws.{true-starts, true-here, true-goes-on, true-then, true-none}
 use lib.ListN.{length}
-use native.Mathlib.Omega.{arith}
-use mathlib.Core.Path.{sym, _∙_}
 use Prim.Native.Nat.{_-_}
 use borrow.Author.Needs.{needs}
 use Rattle.window.proofs.next.next_true.Statement.{statement}
@@ -16,7 +15,7 @@ abbrev μ-loop : tie.MeasureT-loop
 
 loop-holds : tie.Need-loop-holds Inv-loop μ-loop
 loop-holds c =
-    true-starts _ _ (c .pre)
+    true-starts _ _ (c .before .pre)
 
 shared-slice-read-if1 : tie.Need-shared-slice-read-if1 Inv-loop μ-loop
 shared-slice-read-if1 c = search needs
@@ -25,15 +24,18 @@ returns : tie.Need-returns Inv-loop μ-loop
 returns c =
     true-here _ _ _ (c .before .before .before .loop .inv) (c .before .before .loop-test .taken) (c .if1 .taken)
 
-add-i : tie.Need-add-i Inv-loop μ-loop
-add-i c = search needs
+add-past-quiet : tie.Need-add-past-quiet Inv-loop μ-loop
+add-past-quiet c = search needs
+
+past-quiet-requires : tie.Need-past-quiet-requires Inv-loop μ-loop
+past-quiet-requires c κs = search needs
 
 loop-less : tie.Need-loop-less Inv-loop μ-loop
 loop-less c = search needs
 
 loop-again : tie.Need-loop-again Inv-loop μ-loop
 loop-again c =
-    true-goes-on _ _ _ (c .before .before .before .loop .inv) (c .before .before .loop-test .taken) (c .if1 .left)
+    true-then _ _ _ _ (true-goes-on _ _ _ (c .before .before .before .before .loop .inv) (c .before .before .before .loop-test .taken) (c .before .if1 .left)) (c .past-quiet .ensures)
 
 returns-2 : tie.Need-returns-2 Inv-loop μ-loop
 returns-2 c =
@@ -48,7 +50,8 @@ next-true-spec =
     loop-holds
     shared-slice-read-if1
     returns
-    add-i
+    add-past-quiet
+    past-quiet-requires
     loop-less
     loop-again
     returns-2)

@@ -1,0 +1,40 @@
+// How many days of a run are hit. Every day is looked at, so that the machine looks at many at once.
+ghost use mathlib.Core.Path.{_≡_};
+ghost use Prim.Native.Nat.{_-_, _≤_};
+ghost use lib.ListN.{length};
+ghost use Rattle.signed.specs.Choose.{if_then_else_};
+ghost use Rattle.rule.specs.Lists.{countIn};
+ghost use Rattle.window.specs.Next.{atHit, isHit, Stretch};
+use super::next::day_from;
+
+fn one(hit: bool) -> u64
+    ensures { λ r. ⌜ r ≡ (if hit then 1 else 0) ⌝ }
+{
+    if hit {
+        return 1;
+    }
+    0
+}
+
+fn count_true(hits: &[bool], low: usize, high: usize) -> u64
+    requires { ⌜ (low ≤ high) × (high ≤ length (now hits)) ⌝ }
+    ensures { λ r. ⌜ r ≡ countIn (atHit (now (hits .entry))) low (high - low) ⌝ }
+{
+    let mut found: u64 = 0;
+    let mut i = low;
+    while i < high {
+        found += one(hits[i]);
+        i += 1;
+    }
+    found
+}
+
+// How many date-times from `at` on and before `to` have their hit set.
+pub fn count_hits(hits: &[bool], first: u32, start: u64, at: u64, to: u64) -> u64
+    requires { ⌜ Stretch first (length (now hits)) at to ⌝ }
+    ensures { λ r. ⌜ r ≡ countIn (isHit (now (hits .entry)) first start) at (to - at) ⌝ }
+{
+    let low = day_from(start, at) - first as u64;
+    let high = day_from(start, to) - first as u64;
+    count_true(hits, low as usize, high as usize)
+}
