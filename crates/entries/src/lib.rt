@@ -21,7 +21,7 @@ fn limit(n: usize) -> usize
     n
 }
 
-// The entries' numbers go to the first places of both runs; the result says to how many.
+// The entries' numbers go to the first places of both runs; the result says to how many. The runs are the caller's, so that no table is copied for an entry.
 pub fn gather(entries: &[Transition], instants: &mut [i64], offsets: &mut [i64]) -> usize
     requires { ⌜ (1025 ≤ length (now instants)) × (1025 ≤ length (now offsets)) ⌝ }
     ensures { λ r. ⌜ Gathers (now (entries .entry)) (now (instants .entry)) (now (offsets .entry)) r (now (instants .exit)) (now (offsets .exit)) ⌝ }

@@ -35,6 +35,7 @@ fn with_numbers(
     )
 }
 
+// The arrays stay where they are: they are lent to be filled, and then to be read.
 #[no_mangle]
 pub extern "C" fn smocurant_expand_entries(
     text: &[u8],

@@ -290,7 +290,7 @@ module _ {M : Type 1} (𝓤 : URA M) (H : Heap 𝓤) (A : Atoms 𝓤) (W : Given
         use1 W (later (some (λ (γ : GName). ‵ (Own-run 1 (α ∷ []) a₉ zeros γ) ⊛ ‵ (flent (α ∷ []) (Held i64 1025 a₉ 0 γ))))) (lent-mut 𝓤 H A W i64 a₉ tt (named 1) (α ∷ []) zeros 1025 zeros-long roomy) $ await ! tt $ pick ! (λ γ. split ! $
         lft-new ! tt (λ β. move ! (28 ∷ []) $ use1 W (‵ (partAt (Array i64 1025) fullShare zeros a₁₀ 0)) (zeros-at 𝓤 H A W a₁₀) $
         use1 W (later (some (λ (δ : GName). ‵ (Own-run 2 (β ∷ []) a₁₀ zeros δ) ⊛ ‵ (flent (β ∷ []) (Held i64 1025 a₁₀ 0 δ))))) (lent-mut 𝓤 H A W i64 a₁₀ tt (named 2) (β ∷ []) zeros 1025 zeros-long roomy) $ await ! tt $ pick ! (λ δ. split ! $
-        -- `gather`, with a copy of what entries owns
+        -- `gather`, with a copy of what entries owns: [the offsets' loan; what gives them back; β's token; the same of the instants; _22; …, but for both arrays; _0; …; the five tokens; length; buffer; entries; zone_name; text]
         move ! (57 ∷ []) $ use1 W (‵ OwnLent ⊛ ‵ OwnLent) (shr-slice-copy 𝓤 H A W (named 2) κ₂ T.the-row .twice lent _) $ split ! $ move ! (54 ∷ 7 ∷ 4 ∷ 1 ∷ 5 ∷ 2 ∷ []) $ group ! 6 $ use1 W (raw (Gather 𝓤 H A mem run .pre (to-gather α β a₉ a₁₀ γ δ zeros zeros))) (goes-gather α β a₉ a₁₀ γ δ zeros zeros enough) $
         calls-at ! fm (Gather 𝓤 H A mem run) known-gather (to-gather α β a₉ a₁₀ γ δ zeros zeros) (and-then ! (load ! (from ! (stop !)) (look ! 38 refl)) (and-then ! (load ! (from ! (stop !)) (look ! 22 refl)) (and-then ! (load ! (from ! (stop !)) (look ! 18 refl)) (no-more !)))) (λ v.
         use1 W (later (some (λ (n : ℕ). ((‵ (flft κ₂ q₂) ⊛ ‵ (flft (α ∷ []) fullShare) ⊛ ‵ (flft (β ∷ []) fullShare) ⊛ ‵ ftrue) ⊛ ‵ (usize .own n (v ∷ []))) ⊛ raw (ensured 𝓤 H A gather.ended (gather.clauses 𝓤 H A mem run) (κ₂, (α ∷ [], (β ∷ [], tt))) (gather-args a₉ a₁₀ γ δ zeros zeros) tt n)))) (id⊢ 𝓤 _) $ await ! tt $ pick ! (λ n.
@@ -298,10 +298,10 @@ module _ {M : Type 1} (𝓤 : URA M) (H : Heap 𝓤) (A : Atoms 𝓤) (W : Given
         split ! $ move ! (1 ∷ []) $ heard ! (Gathers (now lent) zeros zeros n (ls .1 .0) (ls .1 .1 .0)) (λ is-gathered. fsplit ! $ leave ! $ fsplit ! $ fsplit ! $ move ! (1 ∷ []) $ feqL ! (λ long-l. move ! (1 ∷ []) $ fsplit ! $ fsplit ! $ move ! (1 ∷ []) $ feqL ! (λ long-m.
         move ! (3 ∷ []) $ split ! $ move ! (1 ∷ []) $ facts ! usize (Is usize) (shows 𝓤 H A usize) n (v ∷ []) (λ is-n. split ! $ move ! (1 ∷ []) $ split ! $ move ! (1 ∷ []) $ split ! $
         land ! (from ! (stop !)) (init ! 32 refl (uint-lawful 𝓤 H A W w64 .typed n _ is-n .0)) $ rewrite ! 32 (λ (y : Val). ‵ (fat fullShare (tyInt w64) a₁₁ 0 y)) (ap only (is-n .0)) refl $
-        -- the lifetimes are over, and the arrays are back
+        -- the lifetimes are over, and the arrays are back: [β's token; true; α's token; entries' token; the last offsets; true; the last instants; entries; what gives the offsets back; what gives the instants back; _22; …]
         move ! (2 ∷ []) $ lft-end ! tt $ move ! (0 ∷ 9 ∷ 6 ∷ []) $ use3 W (later (‵ (Arr (mem-of i64) 1025 .lies (ls .1 .0) a₉ 0))) (slice-back 𝓤 H A W i64 (α ∷ []) γ (ls .1 .0) 1025 a₉ 0) $ await ! tt $
         move ! (1 ∷ []) $ lft-end ! tt $ move ! (0 ∷ 7 ∷ 4 ∷ []) $ use3 W (later (‵ (Arr (mem-of i64) 1025 .lies (ls .1 .1 .0) a₁₀ 0))) (slice-back 𝓤 H A W i64 (β ∷ []) δ (ls .1 .1 .0) 1025 a₁₀ 0) $ await ! tt $
-        -- they are lent for the call of `with_numbers`, shared
+        -- they are lent for the call of `with_numbers`, shared: [the offsets; the instants; true; entries' token; true; entries; _22; …]
         assigns ! (addr ! (from ! (stop !))) (from ! (stop !)) (init ! 18 refl (tt, tt)) $ assigns ! (agg ! (and-then ! (load ! (from ! (stop !)) (look ! 18 refl)) (and-then ! (large ! (record { fits = lit< tt })) (no-more !)))) (from ! (stop !)) (init ! 16 refl (tt, (tt, (record { fits = lit< tt }, tt)))) $
         assigns ! (addr ! (from ! (stop !))) (from ! (stop !)) (init ! 14 refl (tt, tt)) $ assigns ! (agg ! (and-then ! (load ! (from ! (stop !)) (look ! 14 refl)) (and-then ! (large ! (record { fits = lit< tt })) (no-more !)))) (from ! (stop !)) (init ! 12 refl (tt, (tt, (record { fits = lit< tt }, tt)))) $
         assigns ! (addr ! (from ! (fld ! refl (hop ! (look-in ! 34 (sub ! 0 refl (whole !))) (stop !))))) (from ! (stop !)) (init ! 10 refl (tt, tt)) $
@@ -309,7 +309,7 @@ module _ {M : Type 1} (𝓤 : URA M) (H : Heap 𝓤) (A : Atoms 𝓤) (W : Given
         assigns ! (addr ! (from ! (hop ! (look ! 32 refl) (stop !)))) (from ! (stop !)) (init ! 6 refl (tt, tt)) $
         lft-new ! tt (λ α′. move ! (2 ∷ []) $ use1 W (later (some (λ (γ′ : GName). ‵ (Own-shared 2 (α′ ∷ []) a₉ (ls .1 .0) γ′) ⊛ ‵ (flent (α′ ∷ []) (arr-parts (shares i64) 1025 .part fullShare (ls .1 .0) a₉ 0))))) (lent-shared 𝓤 H A W i64 a₉ (named 2) (α′ ∷ []) (ls .1 .0) 1025 (long-l ∙ zeros-long) roomy) $ await ! tt $ pick ! (λ γ′. split ! $
         lft-new ! tt (λ β′. move ! (4 ∷ []) $ use1 W (later (some (λ (δ′ : GName). ‵ (Own-shared 3 (β′ ∷ []) a₁₀ (ls .1 .1 .0) δ′) ⊛ ‵ (flent (β′ ∷ []) (arr-parts (shares i64) 1025 .part fullShare (ls .1 .1 .0) a₁₀ 0))))) (lent-shared 𝓤 H A W i64 a₁₀ (named 3) (β′ ∷ []) (ls .1 .1 .0) 1025 (long-m ∙ zeros-long) roomy) $ await ! tt $ pick ! (λ δ′. split ! $
-        -- `with_numbers`, with copies of what text and zone_name own
+        -- `with_numbers`, with copies of what text and zone_name own: [the offsets' loan; what gives them back; β′'s token; the same of the instants; …; _22; …]
         move ! (61 ∷ []) $ use1 W (‵ OwnText ⊛ ‵ OwnText) (shr-slice-copy 𝓤 H A W (named 0) κ₀ u8 .twice text _) $ split ! $
         move ! (62 ∷ []) $ use1 W (‵ OwnName ⊛ ‵ OwnName) (shr-slice-copy 𝓤 H A W (named 1) κ₁ u8 .twice name _) $ split ! $
         move ! (58 ∷ 59 ∷ 9 ∷ 6 ∷ 60 ∷ 61 ∷ 3 ∷ 1 ∷ 7 ∷ 4 ∷ 63 ∷ 62 ∷ []) $ group ! 12 $ use1 W (raw (With 𝓤 H A mem run .pre (to-with α′ β′ a₉ a₁₀ γ′ δ′ (ls .1 .0) (ls .1 .1 .0) n))) (goes-with α′ β′ a₉ a₁₀ γ′ δ′ (ls .1 .0) (ls .1 .1 .0) n (is-n .1) (reaching (ls .1 .0) (ls .1 .1 .0) n is-gathered long-l long-m)) $
@@ -320,7 +320,7 @@ module _ {M : Type 1} (𝓤 : URA M) (H : Heap 𝓤) (A : Atoms 𝓤) (W : Given
         fsplit ! $ leave ! $ fsplit ! $ leave ! $ fsplit ! $ leave ! $ fsplit ! $ leave ! $ fsplit ! $ leave ! $ fsplit ! $ leave ! $ fsplit ! $ leave ! $ fsplit ! $ leave ! $ fsplit ! $ fsplit ! $ move ! (1 ∷ []) $ feqL ! (λ l. move ! (1 ∷ []) $ fsplit ! $
         move ! (3 ∷ []) $ split ! $ move ! (1 ∷ []) $ peeks ! u32 (Is u32) (shows 𝓤 H A u32) r (w ∷ []) (λ is-r.
         land ! (from ! (stop !)) (init ! 55 refl (uint-lawful 𝓤 H A W w32 .typed r _ is-r .0)) $
-        -- the lifetimes are over, and the arrays are room again
+        -- the lifetimes are over, and the arrays are room again: [the result; the callee's tokens; the last length; true; the last bytes; zone_name; text; what gives the offsets back; what gives the instants back; …]
         move ! (1 ∷ []) $ split ! $ move ! (1 ∷ []) $ split ! $ move ! (1 ∷ []) $ split ! $ move ! (1 ∷ []) $ split ! $ move ! (1 ∷ []) $ split ! $ move ! (1 ∷ []) $ split ! $
         move ! (4 ∷ []) $ lft-end ! tt $ move ! (0 ∷ 14 ∷ []) $ lent-back ! tt $ use1 W (‵ (froom (tyArray (tyInt w64) 1025) a₉ 0)) (room-back 𝓤 H A W i64 a₉ (ls .1 .0) 1025) $
         move ! (4 ∷ []) $ lft-end ! tt $ move ! (0 ∷ 13 ∷ []) $ lent-back ! tt $ use1 W (‵ (froom (tyArray (tyInt w64) 1025) a₁₀ 0)) (room-back 𝓤 H A W i64 a₁₀ (ls .1 .1 .0) 1025) $
