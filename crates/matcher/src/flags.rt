@@ -19,7 +19,7 @@ pub fn is_named(flags: &[bool], on: usize, back: usize, place: u32, count: u32) 
 }
 
 // The day has `before` days of `count` before it, of a month or a year.
-fn is_nth(flags: &[bool], weekday: u32, before: u32, count: u32) -> bool
+pub fn is_nth(flags: &[bool], weekday: u32, before: u32, count: u32) -> bool
     requires { ⌜ Row (length (now flags)) × ((weekday < 7) × ((before < count) × (count ≤ 366))) ⌝ }
     ensures { λ r. ⌜ r ≡ nthBy (now (flags .entry)) weekday before count ⌝ }
 {

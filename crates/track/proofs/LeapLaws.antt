@@ -1,16 +1,17 @@
--- The first day of the year that follows the year of a day.
-use Prim.Native.Nat.{ℕ, zero, suc, _+_, _-_, _*_, _%_, _<_, _≤_}
-use mathlib.Core.Path.{_≡_, refl, sym, ap, _∙_}
+-- The first day of the year that follows the year of a day, and the first day of its month.
+use Prim.Native.Nat.{ℕ, suc, _+_, _-_, _%_, _<_, _≤_}
+use mathlib.Core.Path.{_≡_, refl, sym, ap, _∙_, subst}
 use native.Mathlib.Omega.{arith}
 use lib.Dec.{ltb}
 use borrow.Author.Tests.{ltb-true, ltb-false}
 use Rattle.gregorian.specs.declared.Date.{Date}
 use Rattle.gregorian.specs.Days.{dayCount, dayOf, dateOf, weekdayOf}
 use Rattle.gregorian.specs.Year.{yearLength, firstOfYear}
-use Rattle.gregorian.specs.Month.{monthStart}
+use Rattle.gregorian.specs.Month.{monthStart, monthLength}
 use Rattle.gregorian.proofs.YearLaws.{first-suc, first-cycle, first-zero}
+use Rattle.gregorian.proofs.MonthLaws.{month-most}
 use Rattle.gregorian.proofs.DayLaws.{Parts, is-date}
-use Rattle.gregorian.proofs.RoundTrips.{date-day-date}
+use Rattle.gregorian.proofs.RoundTrips.{date-parts, day-date-day, date-day-date}
 use Rattle.rule.specs.declared.Day.{Day}
 use Rattle.rule.specs.Day.{onDate, dayAt}
 use Rattle.rule.proofs.Bools.{by}
@@ -107,3 +108,68 @@ module _ (x : Day) (is : x ≡ dayAt (x .number)) (h : x .number + (x .yeardays 
       let low = facts .year-low in
       let after : x .year + 1 - 1600 ≡ suc (x .year - 1600) = omega arith in
       first-day (x .year + 1) _ _ (omega arith) not-last (sym next ∙ ap firstOfYear (sym after)) weekday-is
+
+-- ---- the first day of a day's month
+
+abbrev pub firstOf : Day → Day
+firstOf x =
+    record {
+      number = x .number - (x .monthday - 1);
+      weekday = (x .weekday + 36 - x .monthday) % 7;
+      year = x .year;
+      yearday = x .yearday - (x .monthday - 1);
+      yeardays = x .yeardays;
+      month = x .month;
+      monthday = 1;
+      monthdays = x .monthdays;
+    }
+
+abbrev monthDate : Date → Date
+monthDate t = record { year = t .year; month = t .month; day = 1 }
+
+module _ (n : ℕ) (h : n < dayCount) where
+  month-number : dayOf (monthDate (dateOf n)) ≡ n - (dateOf n .day - 1)
+  unfolding dayOf
+  month-number = omega (arith, day-date-day n h)
+
+  month-early : dateOf n .day - 1 ≤ n
+  unfolding dayOf
+  month-early = omega (arith, day-date-day n h)
+
+  month-date : dateOf (n - (dateOf n .day - 1)) ≡ monthDate (dateOf n)
+  month-date =
+      let p = date-parts n h in
+      ap dateOf (sym month-number)
+      ∙ date-day-date (monthDate (dateOf n))
+      (is-date (monthDate (dateOf n)) (record { low = p .low; high = p .high; first = omega arith; last = omega (arith, p .first, p .last) }))
+
+  month-weekday : (weekdayOf n + 36 - dateOf n .day) % 7 ≡ weekdayOf (n - (dateOf n .day - 1))
+  unfolding weekdayOf
+  month-weekday =
+      let p = date-parts n h in
+      omega (arith, p .first, p .last, month-most (dateOf n .year) (dateOf n .month), month-early)
+
+  first-of-number : firstOf (dayAt n) ≡ dayAt (n - (dayAt n .monthday - 1))
+  unfolding dayAt onDate
+  first-of-number =
+      let t = dateOf n in
+      let yearday : monthStart (t .year) (t .month) + (t .day - 1) - (t .day - 1) ≡ monthStart (t .year) (t .month) + (1 - 1) = omega arith in
+      rw month-date
+      (λ i.
+      record {
+        number = n - (t .day - 1);
+        weekday = month-weekday i;
+        year = t .year;
+        yearday = yearday i;
+        yeardays = yearLength (t .year);
+        month = t .month;
+        monthday = 1;
+        monthdays = monthLength (t .year) (t .month);
+      })
+
+pub first-of-month : (x : Day) → x ≡ dayAt (x .number) → x .number < dayCount → firstOf x ≡ dayAt (x .number - (x .monthday - 1))
+first-of-month x is h = ap firstOf is ∙ (first-of-number (x .number) h ∙ ap (λ (d : Day). dayAt (x .number - (d .monthday - 1))) (sym is))
+
+pub month-not-early : (x : Day) → x ≡ dayAt (x .number) → x .number < dayCount → x .monthday - 1 ≤ x .number
+unfolding dayAt onDate
+month-not-early x is h = subst (λ (d : Day). d .monthday - 1 ≤ x .number) (sym is) (month-early (x .number) h)

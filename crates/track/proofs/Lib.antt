@@ -8,4 +8,5 @@ pub mod SpanLaws
 pub mod PlaceLaws
 pub mod PlainLaws
 pub mod AheadLaws
-pub mod PlacedLaws
+pub mod AlikeLaws
+pub mod ClipLaws

@@ -18,7 +18,7 @@ use Rattle.matcher.proofs.WalkLaws.{picks-on, in-calendar, number-is, day-again
 use Rattle.rule.specs.Gives.{endDay}
 use Rattle.track.specs.declared.Track.{Track}
 use Rattle.track.specs.Runs.{hasDay, marked}
-use Rattle.track.specs.Skips.{Without, toMonthEnd}
+use Rattle.track.specs.Skips.{toMonthEnd}
 use Rattle.track.specs.Plain.{InMonth}
 use Rattle.track.proofs.RunLaws.{MarkAt, marked-length}
 
@@ -40,15 +40,6 @@ module _ (t : Track) (row : List Bool) (begin : ℕ) where
   pub has-picked : (d : ℕ) → begin ≤ d → d < t .last → (b : Bool) → picksOnBy (t .terms) row d ≡ b → b ≡ hasDay t row begin d
   unfolding hasDay
   has-picked d low high b e = rw (le-ltb d begin low, lt-ltb d (t .last) high) (sym e)
-
-  pub run-without : (d n : ℕ) → Without (picksOnBy (t .terms) row) d n → (j : ℕ) → d ≤ j → j < d + n → hasDay t row begin j ≡ false
-  unfolding hasDay
-  run-without d n w j low high = rw (w .none j low high) (go (ltb j begin) (ltb j (t .last)))
-    where
-      go : (a c : Bool) → (if a then false else if c then false else false) ≡ false
-      go true c = refl
-      go false true = refl
-      go false false = refl
 
 -- picked by its own by-lists and its interval
 module _ (t : Terms) (row : List Bool) (x : Day) (is : x ≡ dayAt (x .number)) where

@@ -7,13 +7,8 @@ use native.Mathlib.Omega.{arith}
 use native.Mathlib.Numerals.{add-one}
 use lib.ListN.{length, take, drop, getD, set, length-set}
 use lib.Seq.{drop-cons, take-suc, take-suc-set, drop-set-lt, append-snoc, take-all, drop-length}
-use lib.Dec.{ltb}
-use borrow.Author.Tests.{le-ltb}
 use Rattle.signed.specs.Choose.{if_then_else_}
-use Rattle.track.specs.declared.Track.{Track}
-use Rattle.matcher.specs.Walk.{picksOnBy}
-use Rattle.track.specs.Runs.{hasDay, marked, run}
-use Rattle.track.specs.Skips.{Between}
+use Rattle.track.specs.Runs.{marked, run}
 
 -- ---- the loop that marks: what is marked, and what is left to mark, make the whole
 
@@ -146,6 +141,17 @@ unfolding marked
 marked-same p q value d [] h = refl
 marked-same p q value d (x ∷ l) h = rw (h d, marked-same p q value (suc d) l h)
 
+pub marked-shift : (p q : ℕ → Bool) (value : Bool) (a b : ℕ) (l : List Bool) → ((i : ℕ) → i < length l → p (a + i) ≡ q (b + i))
+    → marked p value a l ≡ marked q value b l
+unfolding marked
+marked-shift p q value a b [] h = refl
+marked-shift p q value a b (x ∷ l) h =
+    let here : p a ≡ q b = ap p (omega arith) ∙ (h 0 (omega arith) ∙ ap q (omega arith)) in
+    rw (
+      here,
+      marked-shift p q value (suc a) (suc b) l (λ i less. ap p (omega arith) ∙ (h (suc i) (omega arith) ∙ ap q (omega arith))),
+    )
+
 pub marked-none : (p : ℕ → Bool) (value : Bool) (d : ℕ) (l : List Bool) → ((e : ℕ) → d ≤ e → e < d + length l → p e ≡ false) → marked p value d l ≡ l
 unfolding marked
 marked-none p value d [] h = refl
@@ -166,25 +172,3 @@ marked-one p value d (x ∷ l) (suc i) h yes-it-is no-other =
       no-other d (λ same. omega arith),
       marked-one p value (suc d) l i (omega arith) (ap p here ∙ yes-it-is) (λ e other. no-other e (λ same. other (omega arith))),
     )
-
--- a rule that ended before the run marks nothing
-pub run-ended : (t : Track) (row : List Bool) (begin : ℕ) (value : Bool) (first : ℕ) (hits : List Bool) → t .last ≤ first
-    → hits ≡ marked (hasDay t row begin) value first hits
-unfolding hasDay
-run-ended t row begin value first hits h =
-    sym (marked-none (hasDay t row begin) value first hits (λ e low high. rw (le-ltb e (t .last) (omega arith)) (go (ltb e begin))))
-  where
-    go : (b : Bool) → (if b then false else false) ≡ false
-    go true = refl
-    go false = refl
-
--- a rule has none of the days that it does not pick
-pub run-between : (t : Track) (row : List Bool) (begin d n : ℕ) → Between (picksOnBy (t .terms) row) d n → Between (hasDay t row begin) d n
-unfolding hasDay
-run-between t row begin d n b =
-    record { none = λ j low high. rw (b .none j low high) (go (ltb j begin) (ltb j (t .last))); more = b .more; few = b .few }
-  where
-    go : (a c : Bool) → (if a then false else if c then false else false) ≡ false
-    go true c = refl
-    go false true = refl
-    go false false = refl

@@ -5,4 +5,5 @@ pub mod Settle
 pub mod Skips
 pub mod Places
 pub mod Plain
+pub mod Alike
 pub mod Ahead

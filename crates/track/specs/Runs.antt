@@ -6,6 +6,7 @@ use mathlib.Core.Path.{_≡_}
 use lib.Dec.{ltb}
 use Rattle.signed.specs.Choose.{if_then_else_}
 use Rattle.rule.specs.Gives.{endDay}
+use Rattle.matcher.specs.declared.Terms.{Terms}
 use Rattle.matcher.specs.Walk.{picksOnBy}
 use Rattle.track.specs.declared.Track.{Track}
 
@@ -24,8 +25,25 @@ run p d zero = []
 run p d (suc n) = p d ∷ run p (suc d) n
 
 -- A run of n days from `first` on lies in the profile, and the rule has a row of flags and a first day of the week.
+pub record Run (t : Terms) (row first n : ℕ) : Type 0 where
+  pub row-length : row ≡ 1574
+  pub week : t .first < 7
+  pub low : 366 ≤ first
+  pub high : first + n ≤ endDay
+
 pub record Marking (t : Track) (row first n : ℕ) : Type 0 where
   pub row-length : row ≡ 1574
   pub week : t .terms .first < 7
   pub low : 366 ≤ first
   pub high : first + n ≤ endDay
+
+-- The later of two days, and the earlier.
+pub record LaterOf (a b r : ℕ) : Type 0 where
+  pub first : a ≤ r
+  pub second : b ≤ r
+  pub before : (d : ℕ) → a ≤ d → d < r → d < b
+
+pub record EarlierOf (a b r : ℕ) : Type 0 where
+  pub first : r ≤ a
+  pub second : r ≤ b
+  pub behind : (d : ℕ) → r ≤ d → d < a → b ≤ d

@@ -1,0 +1,3 @@
+// What a month has of a rule, by its length and the weekday of its first day: months alike have the same days.
+pub mod kinds;
+mod rows;

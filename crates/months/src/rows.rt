@@ -1,0 +1,103 @@
+// The days of a month that stay, and those of them that set positions choose, written into a row of answers.
+ghost use mathlib.Core.Bool.{true, false};
+ghost use mathlib.Core.Path.{_≡_};
+ghost use Prim.Native.Nat.{_+_, _<_, _≤_};
+ghost use lib.ListN.{length};
+ghost use Rattle.signed.specs.Choose.{if_then_else_};
+ghost use Rattle.rule.specs.Lists.{countIn};
+ghost use Rattle.matcher.specs.Flags.{Row, Places, named};
+ghost use Rattle.months.specs.Kinds.{Kind, staysIn, chosenIn, picksIn};
+ghost use Rattle.months.specs.Rows.{answerAt, Wrote};
+
+// Day k, from 0, of a month with that many days and with its first on that weekday.
+fn stays_in(flags: &[bool], weekday: u32, days: u32, k: u32) -> bool
+    requires { ⌜ Row (length (now flags)) × (Kind weekday days × (k < days)) ⌝ }
+    ensures { λ r. ⌜ r ≡ staysIn (now (flags .entry)) weekday days k ⌝ }
+{
+    if !matcher::flags::is_named(flags, 13, 45, k + 1, days) {
+        return false;
+    }
+    let here = (weekday + k) % 7;
+    if flags[77 + here as usize] {
+        return true;
+    }
+    matcher::flags::is_nth(flags, here, k, days)
+}
+
+fn write_days(flags: &[bool], weekday: u32, days: u32, rows: &mut [bool], at: usize)
+    requires { ⌜ Row (length (now flags)) × (Kind weekday days × (at + days ≤ length (now rows))) ⌝ }
+    ensures { λ r. ⌜ Wrote (staysIn (now (flags .entry)) weekday days) (now (rows .entry)) at days (now (rows .exit)) ⌝ }
+{
+    let mut k = 0;
+    while k < days {
+        rows[at + k as usize] = stays_in(flags, weekday, days, k);
+        k += 1;
+    }
+}
+
+fn one_more(n: u32, yes: bool) -> u32
+    requires { ⌜ n < 31 ⌝ }
+    ensures { λ r. ⌜ r ≡ n + (if yes then 1 else 0) ⌝ }
+{
+    if yes {
+        return n + 1;
+    }
+    n
+}
+
+fn count_days(rows: &[bool], at: usize, days: u32) -> u32
+    requires { ⌜ (days ≤ 31) × (at + days ≤ length (now rows)) ⌝ }
+    ensures { λ r. ⌜ r ≡ countIn (answerAt (now (rows .entry)) at) 0 days ⌝ }
+{
+    let mut k = 0;
+    let mut found: u32 = 0;
+    while k < days {
+        found = one_more(found, rows[at + k as usize]);
+        k += 1;
+    }
+    found
+}
+
+// A day that stays has a place among those that do.
+fn is_chosen(flags: &[bool], stays: bool, seen: u32, total: u32) -> bool
+    requires { ⌜ (stays ≡ true → Places (length (now flags)) 840 1207 (seen + 1) total) ⌝ }
+    ensures { λ r. ⌜ r ≡ (if stays then named (now (flags .entry)) 840 1207 (seen + 1) total else false) ⌝ }
+{
+    if !stays {
+        return false;
+    }
+    matcher::flags::is_named(flags, 840, 1207, seen + 1, total)
+}
+
+fn choose_days(flags: &[bool], days: u32, rows: &mut [bool], at: usize)
+    requires { ⌜ Row (length (now flags)) × ((days ≤ 31) × (at + days ≤ length (now rows))) ⌝ }
+    ensures { λ r. ⌜ Wrote (chosenIn (now (flags .entry)) (answerAt (now (rows .entry)) at) days) (now (rows .entry)) at days (now (rows .exit)) ⌝ }
+{
+    let total = count_days(rows, at, days);
+    let mut seen: u32 = 0;
+    let mut k = 0;
+    while k < days {
+        let stays = rows[at + k as usize];
+        rows[at + k as usize] = is_chosen(flags, stays, seen, total);
+        seen = one_more(seen, stays);
+        k += 1;
+    }
+}
+
+pub fn write_row(
+    flags: &[bool],
+    placed: bool,
+    weekday: u32,
+    days: u32,
+    rows: &mut [bool],
+    at: usize,
+)
+    requires { ⌜ Row (length (now flags)) × (Kind weekday days × (at + days ≤ length (now rows))) ⌝ }
+    ensures { λ r. ⌜ Wrote (picksIn placed (now (flags .entry)) weekday days) (now (rows .entry)) at days (now (rows .exit)) ⌝ }
+{
+    write_days(flags, weekday, days, rows, at);
+    if placed {
+        choose_days(flags, days, rows, at);
+        return;
+    }
+}
