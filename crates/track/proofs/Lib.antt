@@ -9,3 +9,7 @@ pub mod PlaceLaws
 pub mod PlainLaws
 pub mod AheadLaws
 pub mod PlacedLaws
+pub mod AlikeLaws
+pub mod KindLaws
+pub mod NeighbourLaws
+pub mod YearLaws

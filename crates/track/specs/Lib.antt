@@ -6,3 +6,4 @@ pub mod Skips
 pub mod Places
 pub mod Plain
 pub mod Ahead
+pub mod Years
