@@ -10,15 +10,24 @@ use Rattle.signed.specs.Choose.{if_then_else_}
 use Rattle.rule.specs.declared.End.{End}
 use Rattle.rule.specs.Lists.{countIn}
 use Rattle.rule.proofs.Bools.{by}
-use Rattle.rule.proofs.Counting.{count-more, count-less, count-none}
+use Rattle.rule.proofs.Counting.{count-more, count-less, count-none, count-split}
+use Rattle.rule.specs.declared.Day.{Day}
 use Rattle.matcher.specs.declared.Terms.{Terms}
+use Rattle.matcher.proofs.WalkLaws.{number-is, day-again}
 use Rattle.matcher.specs.Walk.{picksOnBy}
 use Rattle.matcher.specs.Member.{isFirst, fallsOnBy}
-use Rattle.track.specs.Last.{endOf}
-use Rattle.track.specs.Ahead.{EndAt, OutAfter}
+use Rattle.track.specs.Last.{endOf, Ending}
+use Rattle.rule.specs.Day.{dayAt}
+use Rattle.track.specs.declared.Rest.{Rest}
+use Rattle.track.specs.Ahead.{EndAt, AheadAt, AheadOf, Resting, OutAfter}
 use Rattle.track.proofs.LastLaws.{end-yes, end-no, end-leaps, falls-by}
 
--- ---- how many of a month's days pass
+-- ---- how many of some days pass
+
+count-zero : (p : ℕ → Bool) (d g : ℕ) → ((j : ℕ) → d ≤ j → j < d + g → p j ≡ false) → countIn p d g ≡ 0
+count-zero p d zero out = count-none p d
+count-zero p d (suc g) out =
+    count-less p d g (out d (omega arith) (omega arith)) ∙ count-zero p (suc d) g (λ j low high. out j (omega arith) (omega arith))
 
 pub record CountAt (p : ℕ → Bool) (d n k found : ℕ) : Type 0 where
   pub within : k ≤ n
@@ -51,11 +60,67 @@ module _ (p : ℕ → Bool) (d n : ℕ) where
         ap (countIn p (d + k)) one-less ∙ (count-less p (d + k) (n - (k + 1)) e ∙ ap (λ (j : ℕ). countIn p j (n - (k + 1))) next) in
         record { within = omega arith; few = omega (arith, i .few); sum = omega (arith, i .sum, here) }
 
+  -- none of some days passes
+  pub count-passes : (k found g : ℕ) → CountAt p d n k found → k + g ≤ n → ((j : ℕ) → d + k ≤ j → j < d + k + g → p j ≡ false)
+      → CountAt p d n (k + g) found
+  count-passes k found g i h out =
+      let rest : g + (n - (k + g)) ≡ n - k = omega arith in
+      let there : d + k + g ≡ d + (k + g) = omega arith in
+      let split : countIn p (d + k) (n - k) ≡ countIn p (d + k) g + countIn p (d + (k + g)) (n - (k + g)) =
+      sym (ap (countIn p (d + k)) rest)
+      ∙ (count-split p (d + k) g (n - (k + g)) ∙ ap (λ (j : ℕ). countIn p (d + k) g + countIn p j (n - (k + g))) there) in
+      record { within = h; few = omega (arith, i .few); sum = omega (arith, i .sum, split, count-zero p (d + k) g out) }
+
   pub count-ends : (k found : ℕ) → CountAt p d n k found → n ≤ k → found ≡ countIn p d n
   count-ends k found i over =
       let none : n - k ≡ 0 = omega arith in
       let nothing : countIn p (d + k) (n - k) ≡ 0 = ap (countIn p (d + k)) none ∙ count-none p (d + k) in
       omega (arith, i .sum)
+
+-- from day to day, with the days that are left
+
+pub record Tally (p : ℕ → Bool) (first n d left found : ℕ) : Type 0 where
+  pub low : first ≤ d
+  pub ends : d + left ≡ first + n
+  pub count : CountAt p first n (d - first) found
+
+module _ (p : ℕ → Bool) (first n : ℕ) where
+  pub tally-starts : (d : ℕ) → d ≡ first → Tally p first n d n 0
+  tally-starts d e =
+      let none : d - first ≡ 0 = omega arith in
+      record { low = omega arith; ends = omega arith; count = rw none (count-starts p first n) }
+
+  module _ (d left found : ℕ) (i : Tally p first n d left found) where
+    here : first + (d - first) ≡ d
+    here = omega (arith, i .low)
+
+    pub tally-yes : (next : ℕ) → next ≡ d + 1 → 0 < left → p d ≡ true → Tally p first n next (left - 1) (found + 1)
+    tally-yes next f h e =
+        let on : next - first ≡ d - first + 1 = omega (arith, i .low) in
+        record {
+          low = omega (arith, i .low);
+          ends = omega (arith, i .ends);
+          count = rw on (count-yes p first n (d - first) found (i .count) (omega (arith, i .ends, i .low)) (ap p here ∙ e));
+        }
+
+    module _ (g : ℕ) (out : (j : ℕ) → d ≤ j → j < d + g → p j ≡ false) where
+      pub tally-leaps : (next : ℕ) → next ≡ d + g → g < left → Tally p first n next (left - g) found
+      tally-leaps next f h =
+          let on : next - first ≡ d - first + g = omega (arith, i .low) in
+          record {
+            low = omega (arith, i .low);
+            ends = omega (arith, i .ends);
+            count = rw on (count-passes p first n (d - first) found g (i .count) (omega (arith, i .ends, i .low)) (λ j low high. out j (omega (arith, here)) (omega (arith, here))));
+          }
+
+      pub tally-nowhere : left ≤ g → found ≡ countIn p first n
+      tally-nowhere h =
+          count-ends p first n (d - first + left) found
+          (count-passes p first n (d - first) found left (i .count) (omega (arith, i .ends, i .low)) (λ j low high. out j (omega (arith, here)) (omega (arith, here))))
+          (omega (arith, i .ends, i .low))
+
+    pub tally-over : left ≤ 0 → found ≡ countIn p first n
+    tally-over h = count-ends p first n (d - first) found (i .count) (omega (arith, i .ends, i .low))
 
 -- ---- days that do not use the count up
 
@@ -114,3 +179,54 @@ falls-without excluded end t row start d n o j low high =
     go : (x : Bool) → (if (if x then false else false) then true else false) ≡ false
     go true = refl
     go false = refl
+
+-- ---- from one rest to the next
+
+pub end-begins : (p : ℕ → Bool) (d left more : ℕ) → EndAt p d (d + left) more d left more
+end-begins p d left more =
+    let all : d + left - d ≡ left = omega arith in
+    record { low = omega arith; ends = refl; same = rw all }
+
+pub ahead-begins : (p : ℕ → Bool) (a : Rest) → a .day ≡ dayAt (a .day .number) → AheadOf p a a
+ahead-begins p a day = record { day = day; walk = end-begins p (a .day .number) (a .left) (a .more) }
+
+pub ahead-joins : (p : ℕ → Bool) (first limit count : ℕ) (a b : Rest) → AheadAt p first limit count a → AheadOf p a b → AheadAt p first limit count b
+ahead-joins p first limit count a b u v =
+    let all : a .day .number + a .left - a .day .number ≡ a .left = omega arith in
+    record {
+      day = v .day;
+      walk =
+          record {
+            low = omega (arith, u .walk .low, v .walk .low);
+            ends = v .walk .ends ∙ u .walk .ends;
+            same = v .walk .same ∙ (ap (λ (k : ℕ). endOf p k (a .day .number) (a .more)) all ∙ u .walk .same);
+          };
+    }
+
+pub resting-begins : (t : Terms) (row start limit : ℕ) → Ending t row start limit → start / 86400 < limit
+    → (x : Day) → x ≡ dayAt (start / 86400) → (count : ℕ) → Resting t row start (record { day = x; left = limit - start / 86400; more = count })
+resting-begins t row start limit a h x e count =
+    let at = number-is x (start / 86400) e in
+    record {
+      row-length = a .row-length;
+      week = a .week;
+      low = a .low;
+      day = day-again x (start / 86400) e;
+      after = omega arith;
+      within = omega (arith, a .within);
+      starts = a .high;
+      begun = a .begun;
+    }
+
+pub resting-on : (p : ℕ → Bool) (t : Terms) (row start : ℕ) (a b : Rest) → Resting t row start a → AheadOf p a b → Resting t row start b
+resting-on p t row start a b r v =
+    record {
+      row-length = r .row-length;
+      week = r .week;
+      low = r .low;
+      day = v .day;
+      after = omega (arith, r .after, v .walk .low);
+      within = omega (arith, r .within, v .walk .ends);
+      starts = r .starts;
+      begun = r .begun;
+    }

@@ -10,3 +10,7 @@ pub mod PlainLaws
 pub mod AheadLaws
 pub mod AlikeLaws
 pub mod ClipLaws
+pub mod YearDayLaws
+pub mod KindLaws
+pub mod NeighbourLaws
+pub mod YearLaws

@@ -15,6 +15,8 @@ use Rattle.rule.specs.declared.End.the-variants.{Never, Until, Count}
 use Rattle.rule.specs.declared.Rule.{Rule}
 use Rattle.rule.specs.Day.{dayAt}
 use Rattle.rule.specs.Lists.{countIn, within, notAfter}
+use Rattle.rule.specs.Period.{periodOf}
+use Rattle.rule.specs.Written.{RecurrenceRule}
 use Rattle.rule.specs.Gives.{endDay, onDay, picks, falls, gives}
 use Rattle.rule.specs.Read.{untilFrom, countFrom, written}
 use Rattle.rule.proofs.Counting.{count-same}
@@ -29,6 +31,13 @@ use Rattle.track.specs.Runs.{hasDay}
 use Rattle.track.specs.Last.{untilDay, endOf, lastBy}
 use Rattle.track.specs.Settle.{cleared, SettledBy, Settled}
 use Rattle.track.proofs.LastLaws.{count-ends, until-ends}
+
+-- the terms' own period is that of the start
+pub termed-begun : (r : RecurrenceRule) (t : Terms) (x : Day) (n : ℕ) → Termed r x t → x ≡ dayAt n → t .period ≤ periodOf (t .frequency) (t .first) (dayAt n)
+termed-begun r t x n e is =
+    let same : t .period ≡ periodOf (t .frequency) (t .first) (dayAt n) =
+    rw (e .frequency, e .first) (e .period ∙ ap (periodOf (r .frequency) (r .firstDayOfWeek)) is) in
+    omega arith
 
 module _ (excluded : Bool) (r : Rule) (start limit : ℕ) (t : Terms) (row : List Bool) (low : 366 ≤ start / 86400)
     (e : Termed (written r) (dayAt (start / 86400)) t) (m : Marked (written r) (dayAt (start / 86400)) row)

@@ -7,6 +7,8 @@ use lib.Dec.{eqb, leb, ltb}
 use Rattle.signed.specs.Choose.{if_then_else_}
 use Rattle.rule.specs.declared.End.{End}
 use Rattle.rule.specs.declared.End.the-variants.{Never, Until, Count}
+use Rattle.rule.specs.Day.{dayAt}
+use Rattle.rule.specs.Period.{periodOf}
 use Rattle.rule.specs.Gives.{endDay}
 use Rattle.matcher.specs.declared.Terms.{Terms}
 use Rattle.matcher.specs.Member.{fallsOnBy}
@@ -40,3 +42,4 @@ pub record Ending (t : Terms) (row start limit : ℕ) : Type 0 where
   pub low : 366 ≤ start / 86400
   pub high : start / 86400 < endDay
   pub within : limit ≤ endDay
+  pub begun : t .period ≤ periodOf (t .frequency) (t .first) (dayAt (start / 86400))

@@ -7,3 +7,4 @@ pub mod Places
 pub mod Plain
 pub mod Alike
 pub mod Ahead
+pub mod Years

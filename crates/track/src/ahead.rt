@@ -1,16 +1,17 @@
-// A count of a rule without set positions: months that do not use it up are passed whole.
+// A count on its way: years and, without set positions, months that do not use it up are passed whole.
 ghost use mathlib.Core.Bool.{false};
+ghost use mathlib.Core.Option.{none};
 ghost use mathlib.Core.Path.{_≡_};
 ghost use Prim.Native.Nat.{_/_, _<_, _≤_};
 ghost use lib.ListN.{length};
-ghost use Rattle.rule.specs.Day.{dayAt};
 ghost use Rattle.rule.specs.Gives.{endDay};
 ghost use Rattle.rule.specs.Lists.{countIn};
+ghost use Rattle.rule.specs.Read.{untilFrom};
 ghost use Rattle.matcher.specs.Walk.{Asked};
 ghost use Rattle.matcher.specs.Member.{fallsOnBy};
 ghost use Rattle.track.specs.Last.{Ending};
 ghost use Rattle.track.specs.Plain.{InMonth};
-ghost use Rattle.track.specs.Ahead.{OutAfter, AheadAt};
+ghost use Rattle.track.specs.Ahead.{OutAfter, AheadAt, AheadOf, Resting};
 use super::Rest;
 use matcher::Terms;
 use rule::Day;
@@ -74,17 +75,15 @@ fn pass_months(
     terms: Terms,
     flags: &[bool],
     start: u64,
-    limit: u32,
-    count: u64,
-    from: Day,
+    from: Rest,
 ) -> Rest
-    requires { ⌜ (terms .placed ≡ false) × (Ending terms (length (now flags)) start limit × ((start / 86400 < limit) × (from ≡ dayAt (start / 86400)))) ⌝ }
-    ensures { λ r. ⌜ AheadAt (fallsOnBy excluded end terms (now (flags .entry)) start) (start / 86400) limit count r ⌝ }
+    requires { ⌜ (terms .placed ≡ false) × Resting terms (length (now flags)) start from ⌝ }
+    ensures { λ r. ⌜ AheadOf (fallsOnBy excluded end terms (now (flags .entry)) start) from r ⌝ }
 {
     let first = (start / 86400) as u32;
-    let mut x = from;
-    let mut left = limit - first;
-    let mut more = count;
+    let mut x = from.day;
+    let mut left = from.left;
+    let mut more = from.more;
     while 0 < left {
         let d = x;
         if more == 0 {
@@ -121,18 +120,19 @@ pub fn count_from(
     limit: u32,
     count: u64,
 ) -> Rest
-    requires { ⌜ Ending terms (length (now flags)) start limit × (start / 86400 < limit) ⌝ }
+    requires { ⌜ (Ending terms (length (now flags)) start limit × (untilFrom end ≡ none)) × (start / 86400 < limit) ⌝ }
     ensures { λ r. ⌜ AheadAt (fallsOnBy excluded end terms (now (flags .entry)) start) (start / 86400) limit count r ⌝ }
 {
     let first = (start / 86400) as u32;
-    let x = rule::days::day_of(first);
+    let begin = Rest {
+        day: rule::days::day_of(first),
+        left: limit - first,
+        more: count,
+    };
+    let far = super::years::pass_far(excluded, end, terms, flags, start, begin);
     let placed = terms.placed;
     if placed {
-        return Rest {
-            day: x,
-            left: limit - first,
-            more: count,
-        };
+        return far;
     }
-    pass_months(excluded, end, terms, flags, start, limit, count, x)
+    pass_months(excluded, end, terms, flags, start, far)
 }

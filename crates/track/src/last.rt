@@ -1,4 +1,5 @@
 // The first day that is not a rule's own any more.
+ghost use mathlib.Core.Option.{none};
 ghost use mathlib.Core.Path.{_≡_};
 ghost use Prim.Native.Nat.{_-_, _/_, _%_, _<_, _≤_};
 ghost use lib.ListN.{length};
@@ -47,7 +48,7 @@ pub fn not_after(end: End, at: u64) -> bool
 }
 
 // Whether the rule has a day, its `count` apart.
-fn falls(excluded: bool, end: End, terms: Terms, flags: &[bool], start: u64, c: Cursor) -> bool
+pub fn falls(excluded: bool, end: End, terms: Terms, flags: &[bool], start: u64, c: Cursor) -> bool
     requires { ⌜ Holding terms (now flags) (length (now flags)) c × (start / 86400 < endDay) ⌝ }
     ensures { λ r. ⌜ r ≡ fallsOnBy excluded end terms (now (flags .entry)) start (c .day .number) ⌝ }
 {
@@ -72,7 +73,7 @@ fn walk_count(
     limit: u32,
     count: u64,
 ) -> u32
-    requires { ⌜ Ending terms (length (now flags)) start limit × (start / 86400 < limit) ⌝ }
+    requires { ⌜ (Ending terms (length (now flags)) start limit × (untilFrom end ≡ none)) × (start / 86400 < limit) ⌝ }
     ensures { λ r. ⌜ r ≡ endOf (fallsOnBy excluded end terms (now (flags .entry)) start) (limit - start / 86400) (start / 86400) count ⌝ }
 {
     let need = super::places::least_days(terms, flags);
@@ -111,7 +112,7 @@ fn count_day(
     limit: u32,
     count: u64,
 ) -> u32
-    requires { ⌜ Ending terms (length (now flags)) start limit ⌝ }
+    requires { ⌜ Ending terms (length (now flags)) start limit × (untilFrom end ≡ none) ⌝ }
     ensures { λ r. ⌜ r ≡ endOf (fallsOnBy excluded end terms (now (flags .entry)) start) (limit - start / 86400) (start / 86400) count ⌝ }
 {
     let first = (start / 86400) as u32;

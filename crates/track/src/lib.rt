@@ -14,6 +14,7 @@ pub mod runs;
 pub mod settle;
 pub mod skips;
 pub mod steps;
+mod years;
 
 // A rule that is settled for one call: what it has besides its row of flags, and the first day that is not its own any more, which its
 // `count` and its `until` have become.

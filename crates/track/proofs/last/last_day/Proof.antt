@@ -1,5 +1,6 @@
 -- `track::last::last_day` meets its contract.
 use Rattle.track.specs.Last.{lastBy}
+use Rattle.track.proofs.YearLaws.{counted-endless}
 use borrow.Author.Needs.{needs}
 use Rattle.track.proofs.last.last_day.Statement.{statement}
 use Rattle.track.proofs.last.last_day.Tie as tie
@@ -17,7 +18,7 @@ enum-known-end-2 : tie.Need-enum-known-end-2
 enum-known-end-2 c = search needs
 
 count-day-requires : tie.Need-count-day-requires
-count-day-requires c κs = search needs
+count-day-requires c κs = (search needs, counted-endless _)
 
 returns : tie.Need-returns
 unfolding lastBy

@@ -20,7 +20,7 @@ abbrev μ-loop : tie.MeasureT-loop
 μ-loop excluded end terms flags start limit count need c₀ left₀ more₀ c left more = left
 
 least-days-requires : tie.Need-least-days-requires Inv-loop μ-loop
-least-days-requires c κs = c .before .pre .0 .row-length
+least-days-requires c κs = c .before .pre .0 .0 .row-length
 
 count-from-requires : tie.Need-count-from-requires Inv-loop μ-loop
 count-from-requires c κs = c .before .before .pre
@@ -28,7 +28,7 @@ count-from-requires c κs = c .before .before .pre
 cursor-on-requires : tie.Need-cursor-on-requires Inv-loop μ-loop
 cursor-on-requires c κs =
     let r = c .before .count-from .ensures in
-    let a = c .before .before .before .before .pre .0 in
+    let a = c .before .before .before .before .pre .0 .0 in
     (r .day, record { row-length = a .row-length; week = a .week; low = omega (arith, r .walk .low, a .low); high = omega (arith, r .walk .ends, a .within) })
 
 loop-holds : tie.Need-loop-holds Inv-loop μ-loop
@@ -48,7 +48,7 @@ returns c =
 falls-requires : tie.Need-falls-requires Inv-loop μ-loop
 falls-requires c κs =
     let w = c .before .before .loop .inv in
-    let a = c .before .before .before .before .before .before .before .before .pre .0 in
+    let a = c .before .before .before .before .before .before .before .before .pre .0 .0 in
     let held = held-here _ _ _ _ (a .row-length) (a .week) (omega (arith, w .1 .low, a .low)) (omega (arith, w .1 .ends, a .within, c .before .loop-test .taken)) (w .0) in
     (held, a .high)
 
@@ -61,7 +61,7 @@ sub-left c = search needs
 advance-requires : tie.Need-advance-requires Inv-loop μ-loop
 advance-requires c κs =
     let w = c .before .before .before .before .loop .inv in
-    let a = c .before .before .before .before .before .before .before .before .before .before .pre .0 in
+    let a = c .before .before .before .before .before .before .before .before .before .before .pre .0 .0 in
     let held = held-here _ _ _ _ (a .row-length) (a .week) (omega (arith, w .1 .low, a .low)) (omega (arith, w .1 .ends, a .within, c .before .before .before .loop-test .taken)) (w .0) in
     held
 
@@ -77,7 +77,7 @@ loop-again c =
 gap-requires : tie.Need-gap-requires Inv-loop μ-loop
 gap-requires c κs =
     let w = c .before .before .before .before .loop .inv in
-    let a = c .before .before .before .before .before .before .before .before .before .before .pre .0 in
+    let a = c .before .before .before .before .before .before .before .before .before .before .pre .0 .0 in
     let held = held-here _ _ _ _ (a .row-length) (a .week) (omega (arith, w .1 .low, a .low)) (omega (arith, w .1 .ends, a .within, c .before .before .before .loop-test .taken)) (w .0) in
     (held, c .before .before .before .before .before .before .before .before .least-days .ensures)
 
@@ -93,7 +93,7 @@ sub-left-2 c = search needs
 leap-requires : tie.Need-leap-requires Inv-loop μ-loop
 leap-requires c κs =
     let w = c .before .before .before .before .before .before .loop .inv in
-    let a = c .before .before .before .before .before .before .before .before .before .before .before .before .pre .0 in
+    let a = c .before .before .before .before .before .before .before .before .before .before .before .before .pre .0 .0 in
     let held = held-here _ _ _ _ (a .row-length) (a .week) (omega (arith, w .1 .low, a .low)) (omega (arith, w .1 .ends, a .within, c .before .before .before .before .before .loop-test .taken)) (w .0) in
     (held, (c .before .gap .ensures .more, omega (arith, w .1 .ends, a .within, c .if3 .left)))
 

@@ -1,5 +1,6 @@
 -- `track::settle::settle` meets its contract.
 use Rattle.matcher.proofs.WalkLaws.{number-is, in-calendar}
+use Rattle.track.proofs.SettleLaws.{termed-begun}
 use Rattle.matcher.specs.Marks.{markRow}
 use Rattle.matcher.specs.Rows.{Termed}
 use Rattle.rule.specs.Read.{written}
@@ -26,7 +27,9 @@ mark-row-requires : tie.Need-mark-row-requires
 mark-row-requires c κs = search needs
 
 last-day-requires : tie.Need-last-day-requires
-last-day-requires c κs = search needs
+last-day-requires c κs =
+    let begun = termed-begun _ _ _ _ (c .before .before .before .before .before .terms-of .ensures) (c .before .before .before .before .before .before .day-of .ensures) in
+    search needs
 
 same-length : tie.Need-same-length
 same-length c = search needs
