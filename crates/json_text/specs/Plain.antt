@@ -1,8 +1,10 @@
 -- Runs of plain bytes: chars of one byte that stand for themselves. Only the code asks for them; what a string is says `Strings`.
-use Prim.Native.Nat.{ℕ}
-use mathlib.Core.Bool.{Bool, false}
+use Prim.Native.Nat.{ℕ, _+_, _<_}
+use mathlib.Core.Bool.{Bool, true, false}
 use mathlib.Core.List.{List}
+use mathlib.Core.Path.{_≡_}
 use lib.Dec.{eqb, ltb}
+use lib.ListN.{getD}
 use Rattle.json_text.specs.Choice.{if_then_else_}
 use Rattle.json_text.specs.Bytes.{past}
 
@@ -17,3 +19,7 @@ isPlain b =
 -- Plain bytes at a place end here.
 unfoldable pub plainAt : List ℕ → ℕ → ℕ
 plainAt s i = past isPlain s i
+
+-- So many bytes at a place are plain.
+unfoldable pub PlainRun : List ℕ → ℕ → ℕ → Type 0
+PlainRun s i n = (k : ℕ) → k < n → isPlain (getD s (i + k) 0) ≡ true

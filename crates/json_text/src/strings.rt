@@ -115,7 +115,7 @@ pub fn string(text: &[u8], at: usize) -> Read
     let mut n = text.len();
     while 0 < n {
         if is_plain(byte(text, i)) {
-            let e = plain(text, i);
+            let e = plain(text, i + 1);
             let k = e - i;
             if n <= k {
                 return Read::Bad;

@@ -1,6 +1,7 @@
 -- `string` meets its contract: what is left to read, from here with n chars, stays what there was at the start. A turn is either
 -- a run of plain bytes, which is stepped over at once, or one char.
 use Rattle.json_text.proofs.Laws.{chars-none, chars-step}
+use Rattle.json_text.proofs.Blocks.{plain-front}
 use Rattle.json_text.proofs.Skip.{some-plain, plain-on, plain-some, chars-skip, chars-quote, chars-short}
 use Rattle.json_text.specs.Strings.{charsAt, stringAt}
 use borrow.Author.Needs.{needs}
@@ -44,26 +45,30 @@ byte-requires-2 c κs = search needs
 is-plain-requires : tie.Need-is-plain-requires Inv-loop μ-loop
 is-plain-requires c κs = search needs
 
+add-plain : tie.Need-add-plain Inv-loop μ-loop
+add-plain c =
+    omega (arith, some-plain _ _ (c .before .is-plain .ensures) (c .if2 .taken))
+
 plain-requires : tie.Need-plain-requires Inv-loop μ-loop
 plain-requires c κs = search needs
 
 sub-k : tie.Need-sub-k Inv-loop μ-loop
-sub-k c = rw (c .plain .ensures) (plain-on _ _)
+sub-k c = rw (plain-front _ _ _ (c .plain .ensures) (omega (arith, some-plain _ _ (c .before .before .is-plain .ensures) (c .before .if2 .taken))) (rw (← (c .before .before .before .byte2 .ensures .is), ← (c .before .before .is-plain .ensures)) (c .before .if2 .taken))) (plain-on _ _)
 
 returns-2 : tie.Need-returns-2 Inv-loop μ-loop
 returns-2 c =
-    rw (← (c .before .before .before .before .before .before .loop .inv)) (sym (chars-short _ _ _ _ (c .before .plain .ensures) (c .if3 .taken)))
+    rw (← (c .before .before .before .before .before .before .loop .inv)) (sym (chars-short _ _ _ _ (plain-front _ _ _ (c .before .plain .ensures) (omega (arith, some-plain _ _ (c .before .before .before .is-plain .ensures) (c .before .before .if2 .taken))) (rw (← (c .before .before .before .before .byte2 .ensures .is), ← (c .before .before .before .is-plain .ensures)) (c .before .before .if2 .taken))) (c .if3 .taken)))
 
 byte-requires-3 : tie.Need-byte-requires-3 Inv-loop μ-loop
 byte-requires-3 c κs = search needs
 
-add-t15 : tie.Need-add-t15 Inv-loop μ-loop
-add-t15 c = search needs
+add-t16 : tie.Need-add-t16 Inv-loop μ-loop
+add-t16 c = search needs
 
 returns-3 : tie.Need-returns-3 Inv-loop μ-loop
 returns-3 c =
     rw (← (c .before .before .before .before .before .before .before .before .loop .inv))
-    (sym (chars-quote _ _ _ _ (c .before .before .before .plain .ensures) (c .before .before .if3 .left) (rw (← (c .before .byte3 .ensures .is)) (eq-eqb _ _ (c .if4 .taken)))))
+    (sym (chars-quote _ _ _ _ (plain-front _ _ _ (c .before .before .before .plain .ensures) (omega (arith, some-plain _ _ (c .before .before .before .before .before .is-plain .ensures) (c .before .before .before .before .if2 .taken))) (rw (← (c .before .before .before .before .before .before .byte2 .ensures .is), ← (c .before .before .before .before .before .is-plain .ensures)) (c .before .before .before .before .if2 .taken))) (c .before .before .if3 .left) (rw (← (c .before .byte3 .ensures .is)) (eq-eqb _ _ (c .if4 .taken)))))
 
 sub-n : tie.Need-sub-n Inv-loop μ-loop
 sub-n c = search needs
@@ -72,20 +77,20 @@ loop-less : tie.Need-loop-less Inv-loop μ-loop
 loop-less c =
     omega (
       arith,
-      plain-some _ _ _ (c .before .before .before .plain .ensures)
+      plain-some _ _ _ (plain-front _ _ _ (c .before .before .before .plain .ensures) (omega (arith, some-plain _ _ (c .before .before .before .before .before .is-plain .ensures) (c .before .before .before .before .if2 .taken))) (rw (← (c .before .before .before .before .before .before .byte2 .ensures .is), ← (c .before .before .before .before .before .is-plain .ensures)) (c .before .before .before .before .if2 .taken)))
           (omega (arith, some-plain _ _ (c .before .before .before .before .before .is-plain .ensures) (c .before .before .before .before .if2 .taken)))
           (rw (← (c .before .before .before .before .before .before .byte2 .ensures .is), ← (c .before .before .before .before .before .is-plain .ensures)) (c .before .before .before .before .if2 .taken)),
     )
 
 loop-again : tie.Need-loop-again Inv-loop μ-loop
 loop-again c =
-    rw (← (c .before .before .before .before .before .before .before .before .loop .inv)) (sym (chars-skip _ _ _ _ (c .before .before .before .plain .ensures) (c .before .before .if3 .left)))
+    rw (← (c .before .before .before .before .before .before .before .before .loop .inv)) (sym (chars-skip _ _ _ _ (plain-front _ _ _ (c .before .before .before .plain .ensures) (omega (arith, some-plain _ _ (c .before .before .before .before .before .is-plain .ensures) (c .before .before .before .before .if2 .taken))) (rw (← (c .before .before .before .before .before .before .byte2 .ensures .is), ← (c .before .before .before .before .before .is-plain .ensures)) (c .before .before .before .before .if2 .taken))) (c .before .before .if3 .left)))
 
 byte-requires-4 : tie.Need-byte-requires-4 Inv-loop μ-loop
 byte-requires-4 c κs = search needs
 
-add-t16 : tie.Need-add-t16 Inv-loop μ-loop
-add-t16 c = search needs
+add-t17 : tie.Need-add-t17 Inv-loop μ-loop
+add-t17 c = search needs
 
 returns-4 : tie.Need-returns-4 Inv-loop μ-loop
 returns-4 c =
@@ -166,17 +171,18 @@ string-spec =
     loop-holds
     byte-requires-2
     is-plain-requires
+    add-plain
     plain-requires
     sub-k
     returns-2
     byte-requires-3
-    add-t15
+    add-t16
     returns-3
     sub-n
     loop-less
     loop-again
     byte-requires-4
-    add-t16
+    add-t17
     returns-4
     character-requires
     enum-known-j
