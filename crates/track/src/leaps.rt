@@ -2,7 +2,10 @@
 ghost use mathlib.Core.Path.{_≡_};
 ghost use Prim.Native.Nat.{_+_, _-_, _<_, _≤_};
 ghost use lib.ListN.{length};
+ghost use Rattle.gregorian.specs.Year.{yearLength};
+ghost use Rattle.gregorian.specs.Month.{monthStart};
 ghost use Rattle.gregorian.specs.Days.{dayCount};
+ghost use Rattle.calendar.specs.Within.{HoldsDayOfYear};
 ghost use Rattle.rule.specs.Day.{dayAt};
 ghost use Rattle.rule.specs.Gives.{endDay};
 ghost use Rattle.track.specs.Steps.{Holding, cursorAt};
@@ -47,7 +50,40 @@ fn new_year(x: Day) -> Day
     }
 }
 
-// Most leaps end behind their month or their year: then nothing is looked up.
+// The month of the day that has r days of its year before it, from an earlier month on.
+fn month_from(year: u32, month: u32, r: u32) -> u32
+    requires { ⌜ ((1 ≤ month) × (month ≤ 12)) × ((monthStart year month ≤ r) × (r < yearLength year)) ⌝ }
+    ensures { λ m. ⌜ HoldsDayOfYear year m r ⌝ }
+{
+    let mut m = month;
+    while calendar::month::month_start(year, m + 1) <= r {
+        m += 1;
+    }
+    m
+}
+
+// k days later in the same year.
+fn in_year(x: Day, k: u32) -> Day
+    requires { ⌜ (x ≡ dayAt (x .number)) × ((x .number + k < dayCount) × (x .yearday + k < x .yeardays)) ⌝ }
+    ensures { λ r. ⌜ r ≡ dayAt (x .number + k) ⌝ }
+{
+    let year = x.year;
+    let yearday = x.yearday + k;
+    let month = month_from(year, x.month, yearday);
+    let monthdays = calendar::month::month_length(year, month);
+    Day {
+        number: x.number + k,
+        weekday: (x.weekday + k) % 7,
+        year,
+        yearday,
+        yeardays: x.yeardays,
+        month,
+        monthday: yearday - calendar::month::month_start(year, month) + 1,
+        monthdays,
+    }
+}
+
+// Most leaps end in their year or behind it: then no year is looked up.
 pub fn days_later(x: Day, k: u32) -> Day
     requires { ⌜ (x ≡ dayAt (x .number)) × ((1 ≤ k) × (x .number + k < dayCount)) ⌝ }
     ensures { λ r. ⌜ r ≡ dayAt (x .number + k) ⌝ }
@@ -56,6 +92,9 @@ pub fn days_later(x: Day, k: u32) -> Day
     if x.monthdays < x.monthday + near {
         if x.yearday + k == x.yeardays {
             return new_year(x);
+        }
+        if x.yearday + k < x.yeardays {
+            return in_year(x, k);
         }
         return rule::days::day_of(x.number + k);
     }
