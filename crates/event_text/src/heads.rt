@@ -3,8 +3,8 @@ ghost use Prim.Native.Nat.{ℕ};
 ghost use mathlib.Core.List.{List};
 ghost use mathlib.Core.Path.{_≡_};
 ghost use Rattle.json_ends.specs.Ends.{Ends};
-ghost use Rattle.property.specs.From.{valueIn, fieldsIn};
-ghost use Rattle.event.specs.Values.{member};
+ghost use Rattle.property.specs.From.{fieldsIn};
+ghost use Rattle.property.specs.Rows.{RowTo};
 ghost use Rattle.override_text.specs.Meaning.{detailsIn};
 ghost use Rattle.event_text.specs.Held.{fromHead};
 ghost use Rattle.event_text.specs.Front.{frontIn, frontOf, inner};
@@ -18,38 +18,29 @@ use crate::spots::zone;
 use fault::lower;
 use json_text::bytes::byte;
 use json_text::bytes::space;
-use json_tree::Found;
 use override_text::Own;
-use property::Place;
-use property::members::member;
+use property::rows::fill;
+use property::rows::place;
+use property::vocabulary::EXCLUDED_RULES;
+use property::vocabulary::OVERRIDES;
+use property::vocabulary::RULES;
 
-// The place of the value of a member.
-pub fn place(text: &[u8], ends: &[u32], at: usize, name: &[u8]) -> Place
-    requires { ⌜ Ends (now text) (now ends) ⌝ }
-    ensures { λ r. ⌜ ((l : ℕ) → valueIn l (now (text .entry)) r ≡ member (now (name .entry)) (fieldsIn l (now (text .entry)) at)) ⌝ }
-{
-    match member(text, ends, at, name) {
-        Found::Here(m) => Place::At(m.value),
-        Found::Missing => Place::None,
-    }
-}
-
-// The head of the object at a place.
-pub fn head_at(text: &[u8], ends: &[u32], at: usize) -> Head
-    requires { ⌜ Ends (now text) (now ends) ⌝ }
+// The head of the object at a place, with the row of its members.
+fn head_by(text: &[u8], at: usize, row: &[usize]) -> Head
+    requires { ⌜ RowTo 18 (now text) at (now row) ⌝ }
     ensures { λ r. ⌜ ((l : ℕ) → fromHead l (now (text .entry)) r ≡ frontIn (fieldsIn l (now (text .entry)) at)) ⌝ }
 {
-    let zone = zone(text, ends, at);
-    let access = privacy(text, ends, at);
-    let own = own_details(text, ends, at);
-    let rules = place(text, ends, at, b"recurrenceRules");
-    let excluded = place(text, ends, at, b"excludedRecurrenceRules");
-    let overrides = place(text, ends, at, b"recurrenceOverrides");
-    let details = lower(own.fault, id_fault(text, ends, at));
+    let zone = zone(text, at, row);
+    let access = privacy(text, at, row);
+    let own = own_details(text, at, row);
+    let rules = place(text, at, row, RULES);
+    let excluded = place(text, at, row, EXCLUDED_RULES);
+    let overrides = place(text, at, row, OVERRIDES);
+    let details = lower(own.fault, id_fault(text, at, row));
     let named = lower(zone.fault, lower(access.fault, details));
     let fault = lower(
-        uid_fault(text, ends, at),
-        lower(updated_fault(text, ends, at), named),
+        uid_fault(text, at, row),
+        lower(updated_fault(text, at, row), named),
     );
     let name = zone.place;
     let privacy = access.privacy;
@@ -70,6 +61,16 @@ pub fn head_at(text: &[u8], ends: &[u32], at: usize) -> Head
         overrides,
         fault,
     }
+}
+
+// The head of the object at a place.
+pub fn head_at(text: &[u8], ends: &[u32], at: usize) -> Head
+    requires { ⌜ Ends (now text) (now ends) ⌝ }
+    ensures { λ r. ⌜ ((l : ℕ) → fromHead l (now (text .entry)) r ≡ frontIn (fieldsIn l (now (text .entry)) at)) ⌝ }
+{
+    let mut row = [0usize; 18];
+    fill(text, ends, at, &mut row);
+    head_by(text, at, &row)
 }
 
 // The head of the event of a text. A value that is no object has no members; the end of the text has none either.

@@ -12,43 +12,49 @@ ghost use Rattle.event.specs.Reading.{unsupported};
 ghost use Rattle.event.specs.Rules.{required};
 ghost use Rattle.event.specs.Values.{string, member};
 ghost use Rattle.property.specs.From.{fieldsIn};
+ghost use Rattle.property.specs.Rows.{RowTo};
 use json_text::bytes::byte;
 use json_tree::Found;
+use property::Place;
 use property::dates::read_updated;
 use property::members::member;
 use property::names::read_uid;
+use property::rows::place;
 use property::strings::word;
+use property::vocabulary::RECURRENCE_ID;
+use property::vocabulary::UID;
+use property::vocabulary::UPDATED;
 
 // The fault of `uid`, 0 where there is none.
-pub fn uid_fault(text: &[u8], ends: &[u32], at: usize) -> u32
-    requires { ⌜ Ends (now text) (now ends) ⌝ }
+pub fn uid_fault(text: &[u8], at: usize, row: &[usize]) -> u32
+    requires { ⌜ RowTo 18 (now text) at (now row) ⌝ }
     ensures { λ r. ⌜ ((l : ℕ) → r ≡ required [] readUid (member (ascii "uid") (fieldsIn l (now (text .entry)) at)) .fault) ⌝ }
 {
-    match member(text, ends, at, b"uid") {
-        Found::Here(m) => read_uid(text, m.value),
-        Found::Missing => 6,
+    match place(text, at, row, UID) {
+        Place::At(i) => read_uid(text, i),
+        Place::None => 6,
     }
 }
 
 // The fault of `updated`, 0 where there is none.
-pub fn updated_fault(text: &[u8], ends: &[u32], at: usize) -> u32
-    requires { ⌜ Ends (now text) (now ends) ⌝ }
+pub fn updated_fault(text: &[u8], at: usize, row: &[usize]) -> u32
+    requires { ⌜ RowTo 18 (now text) at (now row) ⌝ }
     ensures { λ r. ⌜ ((l : ℕ) → r ≡ required true readUpdated (member (ascii "updated") (fieldsIn l (now (text .entry)) at)) .fault) ⌝ }
 {
-    match member(text, ends, at, b"updated") {
-        Found::Here(m) => read_updated(text, m.value),
-        Found::Missing => 6,
+    match place(text, at, row, UPDATED) {
+        Place::At(i) => read_updated(text, i),
+        Place::None => 6,
     }
 }
 
 // 8 where there is a `recurrenceId`, else 0.
-pub fn id_fault(text: &[u8], ends: &[u32], at: usize) -> u32
-    requires { ⌜ Ends (now text) (now ends) ⌝ }
+pub fn id_fault(text: &[u8], at: usize, row: &[usize]) -> u32
+    requires { ⌜ RowTo 18 (now text) at (now row) ⌝ }
     ensures { λ r. ⌜ ((l : ℕ) → r ≡ unsupported (member (ascii "recurrenceId") (fieldsIn l (now (text .entry)) at))) ⌝ }
 {
-    match member(text, ends, at, b"recurrenceId") {
-        Found::Here(_) => 8,
-        Found::Missing => 0,
+    match place(text, at, row, RECURRENCE_ID) {
+        Place::At(_) => 8,
+        Place::None => 0,
     }
 }
 

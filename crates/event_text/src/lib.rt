@@ -1,5 +1,5 @@
 // The event of a text that is past answers 1 to 4: what stands in its own members, and the lowest of 5 to 9 that applies.
-// Each member is looked up by its own walk; a table of the ends of the text's values keeps these walks short.
+// One walk over the members finds all that are read; a table of the ends of the text's values keeps it short.
 pub mod heads;
 pub mod judged;
 pub mod marks;

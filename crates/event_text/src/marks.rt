@@ -3,22 +3,25 @@ ghost use Prim.Native.Nat.{ℕ};
 ghost use mathlib.Core.Bool.{true, false};
 ghost use mathlib.Core.Path.{_≡_};
 ghost use Rattle.words.specs.declared.Privacy.the-variants.{Public};
-ghost use Rattle.json_ends.specs.Ends.{Ends};
 ghost use Rattle.property.specs.From.{fromFlag, fromSetting, fieldsIn};
 ghost use Rattle.event.specs.Ascii.{ascii};
 ghost use Rattle.event.specs.Properties.{fromStatus, readBusy, readBoolean, readPrivacy};
 ghost use Rattle.event.specs.Reading.{optional};
 ghost use Rattle.event.specs.Values.{member};
 ghost use Rattle.event_text.specs.Held.{fromMark, fromAccess};
+ghost use Rattle.property.specs.Rows.{RowTo};
 use crate::Access;
 use crate::Mark;
-use json_tree::Found;
 use property::Flag;
+use property::Place;
 use property::Setting;
 use property::marks::read_boolean;
 use property::marks::read_busy;
 use property::marks::read_privacy;
-use property::members::member;
+use property::rows::place;
+use property::vocabulary::ALL_DAY;
+use property::vocabulary::PRIVACY;
+use property::vocabulary::STATUS;
 use words::FreeBusy;
 use words::Privacy;
 
@@ -38,13 +41,13 @@ fn status(read: FreeBusy) -> Mark
     }
 }
 
-pub fn busy(text: &[u8], ends: &[u32], at: usize) -> Mark
-    requires { ⌜ Ends (now text) (now ends) ⌝ }
+pub fn busy(text: &[u8], at: usize, row: &[usize]) -> Mark
+    requires { ⌜ RowTo 18 (now text) at (now row) ⌝ }
     ensures { λ r. ⌜ ((l : ℕ) → fromMark r ≡ optional true readBusy (member (ascii "freeBusyStatus") (fieldsIn l (now (text .entry)) at))) ⌝ }
 {
-    match member(text, ends, at, b"freeBusyStatus") {
-        Found::Here(m) => status(read_busy(text, m.value)),
-        Found::Missing => Mark {
+    match place(text, at, row, STATUS) {
+        Place::At(i) => status(read_busy(text, i)),
+        Place::None => Mark {
             value: true,
             fault: 0,
         },
@@ -63,13 +66,13 @@ fn mark(read: Flag) -> Mark
     }
 }
 
-pub fn all_day(text: &[u8], ends: &[u32], at: usize) -> Mark
-    requires { ⌜ Ends (now text) (now ends) ⌝ }
+pub fn all_day(text: &[u8], at: usize, row: &[usize]) -> Mark
+    requires { ⌜ RowTo 18 (now text) at (now row) ⌝ }
     ensures { λ r. ⌜ ((l : ℕ) → fromMark r ≡ optional false readBoolean (member (ascii "showWithoutTime") (fieldsIn l (now (text .entry)) at))) ⌝ }
 {
-    match member(text, ends, at, b"showWithoutTime") {
-        Found::Here(m) => mark(read_boolean(text, m.value)),
-        Found::Missing => Mark {
+    match place(text, at, row, ALL_DAY) {
+        Place::At(i) => mark(read_boolean(text, i)),
+        Place::None => Mark {
             value: false,
             fault: 0,
         },
@@ -88,13 +91,13 @@ fn access(read: Setting) -> Access
     }
 }
 
-pub fn privacy(text: &[u8], ends: &[u32], at: usize) -> Access
-    requires { ⌜ Ends (now text) (now ends) ⌝ }
+pub fn privacy(text: &[u8], at: usize, row: &[usize]) -> Access
+    requires { ⌜ RowTo 18 (now text) at (now row) ⌝ }
     ensures { λ r. ⌜ ((l : ℕ) → fromAccess r ≡ optional Public readPrivacy (member (ascii "privacy") (fieldsIn l (now (text .entry)) at))) ⌝ }
 {
-    match member(text, ends, at, b"privacy") {
-        Found::Here(m) => access(read_privacy(text, m.value)),
-        Found::Missing => Access {
+    match place(text, at, row, PRIVACY) {
+        Place::At(i) => access(read_privacy(text, i)),
+        Place::None => Access {
             privacy: Privacy::Public,
             fault: 0,
         },

@@ -1,9 +1,9 @@
 // The event's own details.
 ghost use Prim.Native.Nat.{ℕ};
 ghost use mathlib.Core.Path.{_≡_};
-ghost use Rattle.json_ends.specs.Ends.{Ends};
 ghost use Rattle.event.specs.Event.{detailsIn};
 ghost use Rattle.property.specs.From.{fieldsIn};
+ghost use Rattle.property.specs.Rows.{RowTo};
 ghost use Rattle.event_text.specs.Held.{fromDetails};
 use crate::Details;
 use crate::marks::all_day;
@@ -12,17 +12,19 @@ use crate::spots::words;
 use crate::times::length;
 use crate::times::start;
 use fault::lower;
+use property::vocabulary::DESCRIPTION;
+use property::vocabulary::TITLE;
 
-pub fn own_details(text: &[u8], ends: &[u32], at: usize) -> Details
-    requires { ⌜ Ends (now text) (now ends) ⌝ }
+pub fn own_details(text: &[u8], at: usize, row: &[usize]) -> Details
+    requires { ⌜ RowTo 18 (now text) at (now row) ⌝ }
     ensures { λ r. ⌜ ((l : ℕ) → fromDetails (now (text .entry)) r ≡ detailsIn (fieldsIn l (now (text .entry)) at)) ⌝ }
 {
-    let start = start(text, ends, at);
-    let length = length(text, ends, at);
-    let busy = busy(text, ends, at);
-    let allday = all_day(text, ends, at);
-    let title = words(text, ends, at, b"title");
-    let description = words(text, ends, at, b"description");
+    let start = start(text, at, row);
+    let length = length(text, at, row);
+    let busy = busy(text, at, row);
+    let allday = all_day(text, at, row);
+    let title = words(text, at, row, TITLE);
+    let description = words(text, at, row, DESCRIPTION);
     let texts = lower(title.fault, description.fault);
     let marks = lower(busy.fault, lower(allday.fault, texts));
     let fault = lower(start.fault, lower(length.fault, marks));

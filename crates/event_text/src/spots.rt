@@ -1,22 +1,23 @@
 // Strings that are kept by their places: the zone's name, the texts.
-ghost use Prim.Native.Nat.{ℕ};
+ghost use Prim.Native.Nat.{ℕ, _+_};
 ghost use mathlib.Core.Option.{none};
 ghost use mathlib.Core.Path.{_≡_};
-ghost use Rattle.json_ends.specs.Ends.{Ends};
 ghost use Rattle.property.specs.From.{fromZone, fromPassage, fieldsIn};
 ghost use Rattle.event.specs.Ascii.{ascii};
 ghost use Rattle.event.specs.Properties.{readZone, readText};
 ghost use Rattle.event.specs.Reading.{optional};
 ghost use Rattle.event.specs.Values.{member};
 ghost use Rattle.event_text.specs.Held.{fromName, fromText};
+ghost use Rattle.property.specs.Rows.{RowTo};
+ghost use Rattle.property.specs.Vocabulary.{wordOf};
 use crate::Spot;
-use json_tree::Found;
 use property::Passage;
 use property::Place;
 use property::Zone;
-use property::members::member;
 use property::names::read_zone;
+use property::rows::place;
 use property::texts::read_text;
+use property::vocabulary::ZONE;
 
 fn named(text: &[u8], read: Zone) -> Spot
     ensures { λ r. ⌜ fromName (now (text .entry)) r ≡ fromZone (now (text .entry)) read ⌝ }
@@ -37,13 +38,13 @@ fn named(text: &[u8], read: Zone) -> Spot
     }
 }
 
-pub fn zone(text: &[u8], ends: &[u32], at: usize) -> Spot
-    requires { ⌜ Ends (now text) (now ends) ⌝ }
+pub fn zone(text: &[u8], at: usize, row: &[usize]) -> Spot
+    requires { ⌜ RowTo 18 (now text) at (now row) ⌝ }
     ensures { λ r. ⌜ ((l : ℕ) → fromName (now (text .entry)) r ≡ optional none readZone (member (ascii "timeZone") (fieldsIn l (now (text .entry)) at))) ⌝ }
 {
-    match member(text, ends, at, b"timeZone") {
-        Found::Here(m) => named(text, read_zone(text, m.value)),
-        Found::Missing => Spot {
+    match place(text, at, row, ZONE) {
+        Place::At(i) => named(text, read_zone(text, i)),
+        Place::None => Spot {
             place: Place::None,
             fault: 0,
         },
@@ -66,13 +67,13 @@ fn passage(text: &[u8], read: Passage) -> Spot
 }
 
 // `title` or `description`.
-pub fn words(text: &[u8], ends: &[u32], at: usize, name: &[u8]) -> Spot
-    requires { ⌜ Ends (now text) (now ends) ⌝ }
-    ensures { λ r. ⌜ ((l : ℕ) → fromText (now (text .entry)) r ≡ optional none readText (member (now (name .entry)) (fieldsIn l (now (text .entry)) at))) ⌝ }
+pub fn words(text: &[u8], at: usize, row: &[usize], word: usize) -> Spot
+    requires { ⌜ RowTo (word + 1) (now text) at (now row) ⌝ }
+    ensures { λ r. ⌜ ((l : ℕ) → fromText (now (text .entry)) r ≡ optional none readText (member (wordOf word) (fieldsIn l (now (text .entry)) at))) ⌝ }
 {
-    match member(text, ends, at, name) {
-        Found::Here(m) => passage(text, read_text(text, m.value)),
-        Found::Missing => Spot {
+    match place(text, at, row, word) {
+        Place::At(i) => passage(text, read_text(text, i)),
+        Place::None => Spot {
             place: Place::None,
             fault: 0,
         },

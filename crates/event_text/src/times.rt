@@ -1,7 +1,6 @@
 // When the event starts and how long it lasts.
 ghost use Prim.Native.Nat.{ℕ};
 ghost use mathlib.Core.Path.{_≡_};
-ghost use Rattle.json_ends.specs.Ends.{Ends};
 ghost use Rattle.event.specs.Ascii.{ascii};
 ghost use Rattle.event.specs.Properties.{fromLocal, fromSpan, noLength, readStart, readLength};
 ghost use Rattle.event.specs.Reading.{optional};
@@ -9,14 +8,17 @@ ghost use Rattle.event.specs.Rules.{required};
 ghost use Rattle.event.specs.Values.{member};
 ghost use Rattle.property.specs.From.{fieldsIn};
 ghost use Rattle.event_text.specs.Held.{fromMoment, fromLasting};
+ghost use Rattle.property.specs.Rows.{RowTo};
 use crate::Lasting;
 use crate::Moment;
 use date_time::DateTime;
 use duration::Span;
-use json_tree::Found;
+use property::Place;
 use property::dates::read_start;
 use property::lengths::read_length;
-use property::members::member;
+use property::rows::place;
+use property::vocabulary::DURATION;
+use property::vocabulary::START;
 
 fn moment(read: DateTime) -> Moment
     ensures { λ r. ⌜ fromMoment r ≡ fromLocal read ⌝ }
@@ -27,13 +29,13 @@ fn moment(read: DateTime) -> Moment
     }
 }
 
-pub fn start(text: &[u8], ends: &[u32], at: usize) -> Moment
-    requires { ⌜ Ends (now text) (now ends) ⌝ }
+pub fn start(text: &[u8], at: usize, row: &[usize]) -> Moment
+    requires { ⌜ RowTo 18 (now text) at (now row) ⌝ }
     ensures { λ r. ⌜ ((l : ℕ) → fromMoment r ≡ required 0 readStart (member (ascii "start") (fieldsIn l (now (text .entry)) at))) ⌝ }
 {
-    match member(text, ends, at, b"start") {
-        Found::Here(m) => moment(read_start(text, m.value)),
-        Found::Missing => Moment { value: 0, fault: 6 },
+    match place(text, at, row, START) {
+        Place::At(i) => moment(read_start(text, i)),
+        Place::None => Moment { value: 0, fault: 6 },
     }
 }
 
@@ -54,13 +56,13 @@ fn lasting(read: Span) -> Lasting
     }
 }
 
-pub fn length(text: &[u8], ends: &[u32], at: usize) -> Lasting
-    requires { ⌜ Ends (now text) (now ends) ⌝ }
+pub fn length(text: &[u8], at: usize, row: &[usize]) -> Lasting
+    requires { ⌜ RowTo 18 (now text) at (now row) ⌝ }
     ensures { λ r. ⌜ ((l : ℕ) → fromLasting r ≡ optional noLength readLength (member (ascii "duration") (fieldsIn l (now (text .entry)) at))) ⌝ }
 {
-    match member(text, ends, at, b"duration") {
-        Found::Here(m) => lasting(read_length(text, m.value)),
-        Found::Missing => Lasting {
+    match place(text, at, row, DURATION) {
+        Place::At(i) => lasting(read_length(text, i)),
+        Place::None => Lasting {
             days: 0,
             seconds: 0,
             fault: 0,

@@ -1,4 +1,4 @@
--- A member of a patch by what was found, and a patched property by its member.
+-- A patched property by its member.
 use Prim.Native.Nat.{ℕ, zero, suc}
 use mathlib.Core.Bool.{Bool, true, false, not, _&&_}
 use mathlib.Core.List.{List}
@@ -8,12 +8,7 @@ use lib.Dec.{eqb}
 use Rattle.signed.specs.Choose.{if_then_else_}
 use Rattle.fault.specs.Fault.{lower}
 use Rattle.json_text.specs.Bytes.{byte}
-use Rattle.json_walk.specs.Walk.{membersOf}
-use Rattle.json_walk.specs.declared.Member.{Member}
-use Rattle.json_tree.specs.Finds.{findIn}
 use Rattle.json_tree.specs.Tree.{Json, Fields, treeAt, treeBy, scalarTree}
-use Rattle.json_tree.specs.declared.Found.{Found}
-use Rattle.json_tree.specs.declared.Found.the-variants.{Here, Missing}
 use Rattle.json_tree.proofs.Trees.{choose, always, object-tree}
 use Rattle.event.specs.Ascii.{ascii}
 use Rattle.event.specs.Types.{Text, Length, Details, Override}
@@ -21,20 +16,8 @@ use Rattle.event.specs.Values.{isNull, member, object}
 use Rattle.event.specs.Reading.{Reading, right, wrong, orWrong}
 use Rattle.event.specs.Properties.{noLength, readStart, readLength, readBusy, readBoolean, readText}
 use Rattle.event.specs.Overrides.{patched, patchedStart, patchIn, excludedFault, nameFaults, alone}
-use Rattle.property.proofs.Fields.{foundIn, member-tree}
 use Rattle.property.specs.From.{fieldsIn}
 use Rattle.override_text.specs.Patched.{patchAt}
-
--- ---- the member, by what was found
-
-module _ (s name : List ℕ) (at : ℕ) (f : Found) (p : f ≡ findIn s name (membersOf s at)) where
-  pub here : (m : Member) → f ≡ Here m → (l : ℕ) → member name (fieldsIn l s at) ≡ some (treeAt l s (m .value))
-  here m q l = member-tree l s name (membersOf s at) ∙ ap (foundIn l s) (sym p ∙ q)
-
-  pub missing : f ≡ Missing → (l : ℕ) → member name (fieldsIn l s at) ≡ none
-  missing q l = member-tree l s name (membersOf s at) ∙ ap (foundIn l s) (sym p ∙ q)
-
--- ---- a patched property, by its member
 
 module _ (id : ℕ) (o : Option Json) where
   pub start-own : o ≡ none → right id ≡ patchedStart id o

@@ -15,7 +15,6 @@ ghost use Rattle.override_text.specs.Meaning.{whenIn, detailsIn};
 ghost use Rattle.override_text.specs.Entries.{entriesIn};
 use crate::Own;
 use crate::When;
-use crate::names::first;
 use crate::patches::patch;
 use crate::readings::when;
 use date_time::local::local;
@@ -23,6 +22,7 @@ use fault::lower;
 use json_ends::objects::next_member;
 use json_text::bytes::byte;
 use json_walk::MemberStep;
+use property::rows::first;
 use property::strings::word;
 
 // The date-time that an override is named by.

@@ -11,11 +11,12 @@ ghost use Rattle.override_text.specs.Entries.{entriesIn};
 ghost use Rattle.override_text.specs.Lists.{Filled, placesOf, placesAt};
 ghost use Rattle.override_text.specs.Patched.{patchAt};
 use crate::entries::date;
-use crate::names::first;
 use crate::patched::flag;
 use json_ends::objects::next_member;
 use json_text::bytes::byte;
 use json_walk::MemberStep;
+use property::rows::first;
+use property::vocabulary::EXCLUDED;
 
 // Does the patch at a place exclude its occurrence?
 pub fn is_excluded(text: &[u8], ends: &[u32], at: usize) -> bool
@@ -23,7 +24,9 @@ pub fn is_excluded(text: &[u8], ends: &[u32], at: usize) -> bool
     ensures { λ r. ⌜ ((l : ℕ) (own : Details) (id : ℕ) → r ≡ patchAt l own id (now (text .entry)) at .value .excluded) ⌝ }
 {
     if byte(text, at) == 0x7B {
-        let mark = flag(text, ends, at, b"excluded", false);
+        let mut row = [0usize; 10];
+        property::rows::fill(text, ends, at, &mut row);
+        let mark = flag(text, at, &row, EXCLUDED, false);
         return mark.value;
     }
     false

@@ -1,29 +1,18 @@
 // The names of a patch's members: which of them no patch may have, and whether there is more than one.
 ghost use mathlib.Core.Path.{_≡_};
-ghost use Rattle.json_walk.specs.Walk.{firstMemberAt, membersOf};
+ghost use Rattle.json_walk.specs.Walk.{membersOf};
 ghost use Rattle.json_walk.specs.Strings.{bytesAt, rawAt};
 ghost use Rattle.json_ends.specs.Ends.{Ends};
 ghost use Rattle.event.specs.Overrides.{hasMark, nameFault};
 ghost use Rattle.override_text.specs.Names.{lowest, ofName, single};
 use fault::lower;
-use json_ends::objects::first_member;
 use json_ends::objects::next_member;
 use json_text::bytes::byte;
 use json_walk::MemberStep;
 use json_walk::strings::inside;
 use json_walk::strings::raw_is;
 use json_walk::strings::step;
-
-// The first member of the object at a place. There is none past the end of the text.
-pub fn first(text: &[u8], ends: &[u32], at: usize) -> MemberStep
-    requires { ⌜ Ends (now text) (now ends) ⌝ }
-    ensures { λ r. ⌜ r ≡ firstMemberAt (now (text .entry)) at ⌝ }
-{
-    if at < text.len() {
-        return first_member(text, ends, at);
-    }
-    MemberStep::End
-}
+use property::rows::first;
 
 // Is one of the n bytes at a place `/` or `~`?
 fn mark_in(text: &[u8], at: usize, count: usize) -> bool

@@ -1,10 +1,11 @@
 // One property of the patch at a place: the event's own where the patch does not name it, the default where it is null.
-ghost use Prim.Native.Nat.{ℕ};
+ghost use Prim.Native.Nat.{ℕ, _+_};
 ghost use mathlib.Core.Path.{_≡_};
-ghost use Rattle.json_ends.specs.Ends.{Ends};
 ghost use Rattle.property.specs.From.{textIn};
 ghost use Rattle.override_text.specs.Meaning.{span, whenIn, lastingIn, markIn, shownIn};
 ghost use Rattle.override_text.specs.Patched.{startIn, lengthIn, busyIn, flagIn, textFor};
+ghost use Rattle.property.specs.Rows.{RowTo};
+ghost use Rattle.property.specs.Vocabulary.{wordOf};
 use crate::Lasting;
 use crate::Mark;
 use crate::Shown;
@@ -14,46 +15,48 @@ use crate::readings::mark;
 use crate::readings::shown;
 use crate::readings::status;
 use crate::readings::when;
-use json_tree::Found;
 use property::Place;
 use property::dates::read_start;
 use property::lengths::read_length;
 use property::marks::read_boolean;
 use property::marks::read_busy;
-use property::members::member;
 use property::nulls::is_null;
+use property::rows::place;
 use property::texts::read_text;
+use property::vocabulary::DURATION;
+use property::vocabulary::START;
+use property::vocabulary::STATUS;
 
 // A null is no date-time.
-pub fn start(text: &[u8], ends: &[u32], at: usize, id: u64) -> When
-    requires { ⌜ Ends (now text) (now ends) ⌝ }
+pub fn start(text: &[u8], at: usize, row: &[usize], id: u64) -> When
+    requires { ⌜ RowTo 10 (now text) at (now row) ⌝ }
     ensures { λ r. ⌜ ((l : ℕ) → whenIn r ≡ startIn l id (now (text .entry)) at) ⌝ }
 {
-    match member(text, ends, at, b"start") {
-        Found::Here(m) => when(read_start(text, m.value)),
-        Found::Missing => When {
+    match place(text, at, row, START) {
+        Place::At(i) => when(read_start(text, i)),
+        Place::None => When {
             value: id,
             fault: 0,
         },
     }
 }
 
-pub fn length(text: &[u8], ends: &[u32], at: usize, days: u64, seconds: u64) -> Lasting
-    requires { ⌜ Ends (now text) (now ends) ⌝ }
+pub fn length(text: &[u8], at: usize, row: &[usize], days: u64, seconds: u64) -> Lasting
+    requires { ⌜ RowTo 10 (now text) at (now row) ⌝ }
     ensures { λ r. ⌜ ((l : ℕ) → lastingIn r ≡ lengthIn l (span days seconds) (now (text .entry)) at) ⌝ }
 {
-    match member(text, ends, at, b"duration") {
-        Found::Here(m) => {
-            if is_null(text, m.value) {
+    match place(text, at, row, DURATION) {
+        Place::At(i) => {
+            if is_null(text, i) {
                 return Lasting {
                     days: 0,
                     seconds: 0,
                     fault: 0,
                 };
             }
-            lasting(read_length(text, m.value))
+            lasting(read_length(text, i))
         }
-        Found::Missing => Lasting {
+        Place::None => Lasting {
             days,
             seconds,
             fault: 0,
@@ -61,21 +64,21 @@ pub fn length(text: &[u8], ends: &[u32], at: usize, days: u64, seconds: u64) -> 
     }
 }
 
-pub fn busy(text: &[u8], ends: &[u32], at: usize, own: bool) -> Mark
-    requires { ⌜ Ends (now text) (now ends) ⌝ }
+pub fn busy(text: &[u8], at: usize, row: &[usize], own: bool) -> Mark
+    requires { ⌜ RowTo 10 (now text) at (now row) ⌝ }
     ensures { λ r. ⌜ ((l : ℕ) → markIn r ≡ busyIn l own (now (text .entry)) at) ⌝ }
 {
-    match member(text, ends, at, b"freeBusyStatus") {
-        Found::Here(m) => {
-            if is_null(text, m.value) {
+    match place(text, at, row, STATUS) {
+        Place::At(i) => {
+            if is_null(text, i) {
                 return Mark {
                     value: true,
                     fault: 0,
                 };
             }
-            status(read_busy(text, m.value))
+            status(read_busy(text, i))
         }
-        Found::Missing => Mark {
+        Place::None => Mark {
             value: own,
             fault: 0,
         },
@@ -83,42 +86,42 @@ pub fn busy(text: &[u8], ends: &[u32], at: usize, own: bool) -> Mark
 }
 
 // A boolean that is false by default.
-pub fn flag(text: &[u8], ends: &[u32], at: usize, name: &[u8], own: bool) -> Mark
-    requires { ⌜ Ends (now text) (now ends) ⌝ }
-    ensures { λ r. ⌜ ((l : ℕ) → markIn r ≡ flagIn l (now (name .entry)) own (now (text .entry)) at) ⌝ }
+pub fn flag(text: &[u8], at: usize, row: &[usize], word: usize, own: bool) -> Mark
+    requires { ⌜ RowTo (word + 1) (now text) at (now row) ⌝ }
+    ensures { λ r. ⌜ ((l : ℕ) → markIn r ≡ flagIn l (wordOf word) own (now (text .entry)) at) ⌝ }
 {
-    match member(text, ends, at, name) {
-        Found::Here(m) => {
-            if is_null(text, m.value) {
+    match place(text, at, row, word) {
+        Place::At(i) => {
+            if is_null(text, i) {
                 return Mark {
                     value: false,
                     fault: 0,
                 };
             }
-            mark(read_boolean(text, m.value))
+            mark(read_boolean(text, i))
         }
-        Found::Missing => Mark {
+        Place::None => Mark {
             value: own,
             fault: 0,
         },
     }
 }
 
-pub fn passage(text: &[u8], ends: &[u32], at: usize, name: &[u8], own: Place) -> Shown
-    requires { ⌜ Ends (now text) (now ends) ⌝ }
-    ensures { λ r. ⌜ ((l : ℕ) → shownIn (now (text .entry)) r ≡ textFor l (now (name .entry)) (textIn (now (text .entry)) own) (now (text .entry)) at) ⌝ }
+pub fn passage(text: &[u8], at: usize, row: &[usize], word: usize, own: Place) -> Shown
+    requires { ⌜ RowTo (word + 1) (now text) at (now row) ⌝ }
+    ensures { λ r. ⌜ ((l : ℕ) → shownIn (now (text .entry)) r ≡ textFor l (wordOf word) (textIn (now (text .entry)) own) (now (text .entry)) at) ⌝ }
 {
-    match member(text, ends, at, name) {
-        Found::Here(m) => {
-            if is_null(text, m.value) {
+    match place(text, at, row, word) {
+        Place::At(i) => {
+            if is_null(text, i) {
                 return Shown {
                     place: Place::None,
                     fault: 0,
                 };
             }
-            shown(text, read_text(text, m.value))
+            shown(text, read_text(text, i))
         }
-        Found::Missing => Shown {
+        Place::None => Shown {
             place: own,
             fault: 0,
         },

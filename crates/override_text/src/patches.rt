@@ -7,6 +7,7 @@ ghost use Rattle.fault.specs.Fault.{lower as Fault·lower};
 ghost use Rattle.json_ends.specs.Ends.{Ends};
 ghost use Rattle.event.specs.Overrides.{patchIn};
 ghost use Rattle.property.specs.From.{fieldsIn};
+ghost use Rattle.property.specs.Rows.{RowTo};
 ghost use Rattle.override_text.specs.Meaning.{detailsIn, overrideIn};
 ghost use Rattle.override_text.specs.Patched.{patchAt};
 use crate::Own;
@@ -20,6 +21,11 @@ use crate::patched::passage;
 use crate::patched::start;
 use fault::lower;
 use json_text::bytes::byte;
+use property::rows::fill;
+use property::vocabulary::ALL_DAY;
+use property::vocabulary::DESCRIPTION;
+use property::vocabulary::EXCLUDED;
+use property::vocabulary::TITLE;
 
 // The lowest of the faults of a patch.
 fn join(
@@ -51,20 +57,20 @@ fn excluded_fault(excluded: bool, single: bool) -> u32
     0
 }
 
-// The patch object at a place.
-fn patch_in(text: &[u8], ends: &[u32], at: usize, own: Own, id: u64) -> Patch
-    requires { ⌜ Ends (now text) (now ends) ⌝ }
+// The patch object at a place, with the row of its members.
+fn patch_by(text: &[u8], ends: &[u32], at: usize, row: &[usize], own: Own, id: u64) -> Patch
+    requires { ⌜ Ends (now text) (now ends) × RowTo 10 (now text) at (now row) ⌝ }
     ensures { λ r. ⌜ ((l : ℕ) → overrideIn (now (text .entry)) id r ≡ patchIn (detailsIn (now (text .entry)) own) id (fieldsIn l (now (text .entry)) at)) ⌝ }
 {
     let shown = own.title;
     let told = own.description;
-    let when = start(text, ends, at, id);
-    let lasting = length(text, ends, at, own.days, own.seconds);
-    let status = busy(text, ends, at, own.busy);
-    let allday = flag(text, ends, at, b"showWithoutTime", own.allday);
-    let title = passage(text, ends, at, b"title", shown);
-    let description = passage(text, ends, at, b"description", told);
-    let excluded = flag(text, ends, at, b"excluded", false);
+    let when = start(text, at, row, id);
+    let lasting = length(text, at, row, own.days, own.seconds);
+    let status = busy(text, at, row, own.busy);
+    let allday = flag(text, at, row, ALL_DAY, own.allday);
+    let title = passage(text, at, row, TITLE, shown);
+    let description = passage(text, at, row, DESCRIPTION, told);
+    let excluded = flag(text, at, row, EXCLUDED, false);
     let rest = lower(
         excluded_fault(excluded.value, alone(text, ends, at)),
         names_fault(text, ends, at),
@@ -92,6 +98,16 @@ fn patch_in(text: &[u8], ends: &[u32], at: usize, own: Own, id: u64) -> Patch
         description: described,
         fault,
     }
+}
+
+// The patch object at a place.
+fn patch_in(text: &[u8], ends: &[u32], at: usize, own: Own, id: u64) -> Patch
+    requires { ⌜ Ends (now text) (now ends) ⌝ }
+    ensures { λ r. ⌜ ((l : ℕ) → overrideIn (now (text .entry)) id r ≡ patchIn (detailsIn (now (text .entry)) own) id (fieldsIn l (now (text .entry)) at)) ⌝ }
+{
+    let mut row = [0usize; 10];
+    fill(text, ends, at, &mut row);
+    patch_by(text, ends, at, &row, own, id)
 }
 
 // The occurrence id after the patch at a place. A value that is no object answers 6.

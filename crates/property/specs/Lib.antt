@@ -1,2 +1,4 @@
 pub mod Words
 pub mod From
+pub mod Vocabulary
+pub mod Rows

@@ -6,8 +6,10 @@ pub mod marks;
 pub mod members;
 pub mod names;
 pub mod nulls;
+pub mod rows;
 pub mod strings;
 pub mod texts;
+pub mod vocabulary;
 
 // A boolean, or the fault.
 pub enum Flag {

@@ -1,6 +1,5 @@
 pub mod ReadLaws
 pub mod IntegerLaws
-pub mod FieldLaws
 pub mod EntryLaws
 pub mod ListLaws
 pub mod DayLaws

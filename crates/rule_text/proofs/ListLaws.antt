@@ -15,9 +15,11 @@ use Rattle.json_walk.specs.Walk.{membersOf, elementsOf}
 use Rattle.json_tree.specs.Tree.{Json, scalarTree, treeBy, treeAt, itemsOf}
 use Rattle.json_tree.proofs.Trees.{choose, always, object-tree, array-tree}
 use Rattle.json_tree.specs.Finds.{findIn}
-use Rattle.json_tree.specs.declared.Found.{Found}
-use Rattle.json_tree.specs.declared.Found.the-variants.{Here, Missing}
-use Rattle.property.proofs.Fields.{foundIn, member-tree}
+use Rattle.property.proofs.RowLaws.{member-place}
+use Rattle.property.specs.From.{valueIn}
+use Rattle.property.specs.Rows.{placed}
+use Rattle.property.specs.declared.Place as property
+use Rattle.property.specs.declared.Place.the-variants as place
 use Rattle.event.specs.Values.{array, object, listOf}
 use Rattle.event.specs.Reading.{Reading, right, wrong, orWrong, optional, readAll, atMost, limited}
 use Rattle.event.specs.Rules.{entriesOf, byList}
@@ -63,13 +65,13 @@ module _ {A : Type 0} (f : Json → Reading A) (l : ℕ) (s : List ℕ) where
   array-place i true e = rw (array-is l s i e)
   array-place i false e = rw (array-not l s i e)
 
-  found-place : (found : Found) → byList f (foundIn (suc l) s found) ≡ listAt f l s (listPlace s found)
+  found-place : (found : property.Place) → byList f (valueIn (suc l) s found) ≡ listAt f l s (listPlace s found)
   unfolding byList optional listPlace
-  found-place (Here m) = array-place (m .value) _ refl
-  found-place Missing = refl
+  found-place (place.At i) = array-place i _ refl
+  found-place place.None = refl
 
-  pub by-place : (i : ℕ) (name : List ℕ) → byList f (memberAt (suc l) s i name) ≡ listAt f l s (listPlace s (findIn s name (membersOf s i)))
-  by-place i name = rw (member-tree (suc l) s name (membersOf s i)) (found-place (findIn s name (membersOf s i)))
+  pub by-place : (i : ℕ) (name : List ℕ) → byList f (memberAt (suc l) s i name) ≡ listAt f l s (listPlace s (placed (findIn s name (membersOf s i))))
+  by-place i name = rw (member-place (suc l) s name (membersOf s i)) (found-place (placed (findIn s name (membersOf s i))))
 
 -- ---- an array of entries, by all its entries
 

@@ -11,25 +11,25 @@ use lib.Seq.{sets}
 use Rattle.signed.specs.Choose.{if_then_else_}
 use Rattle.fault.specs.Fault.{lower}
 use Rattle.json_text.specs.Bytes.{byte}
-use Rattle.json_tree.specs.declared.Found.{Found}
-use Rattle.json_tree.specs.declared.Found.the-variants.{Here, Missing}
 use Rattle.rule.specs.Written.{NDay}
 use Rattle.event.specs.Reading.{Reading}
 use Rattle.event.specs.Rules.{anyNth}
+use Rattle.property.specs.declared.Place as property
+use Rattle.property.specs.declared.Place.the-variants as place
 use Rattle.rule_text.specs.declared.Place.{Place}
 use Rattle.rule_text.specs.declared.Place.the-variants.{At, Absent, Wrong}
 
 -- The array that a member has, none where there is no such member, or another value.
-unfoldable pub listPlace : List ℕ → Found → Place
-listPlace s Missing = Absent
-listPlace s (Here m) = if eqb (byte s (m .value)) 0x5B then At (m .value) else Wrong
+unfoldable pub listPlace : List ℕ → property.Place → Place
+listPlace s place.None = Absent
+listPlace s (place.At i) = if eqb (byte s i) 0x5B then At i else Wrong
 
 abbrev pub Within : ℕ → Place → Type 0
 Within n (At i) = i < n
 Within n Absent = _≡_ {A = ℕ} 0 0
 Within n Wrong = _≡_ {A = ℕ} 0 0
 
-pub record Placed (s : List ℕ) (found : Found) (r : Place) : Type 0 where
+pub record Placed (s : List ℕ) (found : property.Place) (r : Place) : Type 0 where
   pub is : r ≡ listPlace s found
   pub within : Within (length s) r
 

@@ -1,6 +1,8 @@
 // The by-lists in arrays of their own.
-ghost use Prim.Native.Nat.{suc};
+ghost use Prim.Native.Nat.{suc, _+_};
 ghost use Rattle.json_ends.specs.Ends.{Ends};
+ghost use Rattle.property.specs.Rows.{RowTo};
+ghost use Rattle.property.specs.Vocabulary.{wordOf};
 ghost use Rattle.event.specs.Ascii.{ascii};
 ghost use Rattle.event.specs.Rules.{readSigned, readMonth, readNDay, byList};
 ghost use Rattle.rule_text.specs.Members.{memberAt};
@@ -12,12 +14,19 @@ use crate::lists::day_list;
 use crate::lists::month_list;
 use crate::lists::signed_list;
 
-pub fn numbers(text: &[u8], ends: &[u32], at: usize, name: &[u8], most: u32) -> NumberList
-    requires { ⌜ Ends (now text) (now ends) ⌝ }
-    ensures { λ r. ⌜ Collected (λ l. byList (readSigned most) (memberAt (suc l) (now (text .entry)) at (now (name .entry)))) (r .list) (r .count) (r .fault) ⌝ }
+pub fn numbers(
+    text: &[u8],
+    ends: &[u32],
+    at: usize,
+    row: &[usize],
+    word: usize,
+    most: u32,
+) -> NumberList
+    requires { ⌜ Ends (now text) (now ends) × RowTo (word + 1) (now text) at (now row) ⌝ }
+    ensures { λ r. ⌜ Collected (λ l. byList (readSigned most) (memberAt (suc l) (now (text .entry)) at (wordOf word))) (r .list) (r .count) (r .fault) ⌝ }
 {
     let mut list = [0i64; 64];
-    let all = signed_list(text, ends, at, name, most, &mut list);
+    let all = signed_list(text, ends, at, row, word, most, &mut list);
     NumberList {
         list,
         count: all.count,
@@ -25,12 +34,12 @@ pub fn numbers(text: &[u8], ends: &[u32], at: usize, name: &[u8], most: u32) -> 
     }
 }
 
-pub fn months(text: &[u8], ends: &[u32], at: usize) -> MonthList
-    requires { ⌜ Ends (now text) (now ends) ⌝ }
+pub fn months(text: &[u8], ends: &[u32], at: usize, row: &[usize]) -> MonthList
+    requires { ⌜ Ends (now text) (now ends) × RowTo 34 (now text) at (now row) ⌝ }
     ensures { λ r. ⌜ Collected (λ l. byList readMonth (memberAt (suc l) (now (text .entry)) at (ascii "byMonth"))) (r .list) (r .count) (r .fault) ⌝ }
 {
     let mut list = [0u32; 64];
-    let all = month_list(text, ends, at, &mut list);
+    let all = month_list(text, ends, at, row, &mut list);
     MonthList {
         list,
         count: all.count,
@@ -38,13 +47,13 @@ pub fn months(text: &[u8], ends: &[u32], at: usize) -> MonthList
     }
 }
 
-pub fn weekdays(text: &[u8], ends: &[u32], at: usize) -> DayList
-    requires { ⌜ Ends (now text) (now ends) ⌝ }
+pub fn weekdays(text: &[u8], ends: &[u32], at: usize, row: &[usize]) -> DayList
+    requires { ⌜ Ends (now text) (now ends) × RowTo 34 (now text) at (now row) ⌝ }
     ensures { λ r. ⌜ DaysCollected (λ l. byList readNDay (memberAt (suc (suc l)) (now (text .entry)) at (ascii "byDay"))) (r .weekdays) (r .nths) (r .count) (r .any) (r .fault) ⌝ }
 {
     let mut weekdays = [0u32; 64];
     let mut nths = [0i64; 64];
-    let all = day_list(text, ends, at, &mut weekdays, &mut nths);
+    let all = day_list(text, ends, at, row, &mut weekdays, &mut nths);
     DayList {
         weekdays,
         nths,

@@ -23,6 +23,7 @@ use json_ends::arrays::first_element;
 use json_ends::arrays::next_element;
 use json_text::bytes::byte;
 use json_walk::ElementStep;
+use property::rows::fill;
 use signed::negative_part;
 use signed::positive_part;
 
@@ -38,13 +39,15 @@ pub fn read_nday(text: &[u8], ends: &[u32], at: usize) -> DayRead
             fault: 6,
         };
     }
-    let day = day_in(text, ends, at);
-    let nth = nth_in(text, ends, at);
+    let mut row = [0usize; 3];
+    fill(text, ends, at, &mut row);
+    let day = day_in(text, at, &row);
+    let nth = nth_in(text, at, &row);
     let others = lower(fault_of(day), nth.fault);
     DayRead {
         weekday: number_of(day),
         nth: nth.value,
-        fault: lower(type_in(text, ends, at, b"NDay"), others),
+        fault: lower(type_in(text, at, &row, b"NDay"), others),
     }
 }
 

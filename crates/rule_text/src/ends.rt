@@ -1,15 +1,17 @@
 // What ends a rule: `until`, `count` or nothing.
 ghost use mathlib.Core.Path.{_≡_};
-ghost use Rattle.json_ends.specs.Ends.{Ends};
+ghost use Rattle.property.specs.Rows.{RowTo};
 ghost use Rattle.event.specs.Properties.{fromLocal};
 ghost use Rattle.rule_text.specs.Parts.{EndsRead};
 use crate::Ending;
 use crate::numbers::count;
 use date_time::DateTime;
 use fault::lower;
-use json_tree::Found;
+use property::Place;
 use property::dates::read_until;
-use property::members::member;
+use property::rows::place;
+use property::vocabulary::COUNT;
+use property::vocabulary::UNTIL;
 use rule::End;
 
 // The date-time of an `until` that was read, and its fault.
@@ -31,37 +33,37 @@ fn until_fault(x: DateTime) -> u32
     }
 }
 
-pub fn read_ends(text: &[u8], ends: &[u32], at: usize) -> Ending
-    requires { ⌜ Ends (now text) (now ends) ⌝ }
+pub fn read_ends(text: &[u8], at: usize, row: &[usize]) -> Ending
+    requires { ⌜ RowTo 34 (now text) at (now row) ⌝ }
     ensures { λ r. ⌜ EndsRead (now (text .entry)) at (r .end) (r .fault) ⌝ }
 {
-    let until = member(text, ends, at, b"until");
-    match member(text, ends, at, b"count") {
-        Found::Here(c) => {
-            let n = count(text, c.value);
+    let until = place(text, at, row, UNTIL);
+    match place(text, at, row, COUNT) {
+        Place::At(c) => {
+            let n = count(text, c);
             match until {
-                Found::Here(u) => {
-                    let x = until_fault(read_until(text, u.value));
+                Place::At(u) => {
+                    let x = until_fault(read_until(text, u));
                     Ending {
                         end: End::Never,
                         fault: lower(x, lower(n.fault, 7)),
                     }
                 }
-                Found::Missing => Ending {
+                Place::None => Ending {
                     end: End::Count(n.value),
                     fault: n.fault,
                 },
             }
         }
-        Found::Missing => match until {
-            Found::Here(u) => {
-                let x = read_until(text, u.value);
+        Place::None => match until {
+            Place::At(u) => {
+                let x = read_until(text, u);
                 Ending {
                     end: End::Until(until_time(x)),
                     fault: until_fault(x),
                 }
             }
-            Found::Missing => Ending {
+            Place::None => Ending {
                 end: End::Never,
                 fault: 0,
             },

@@ -1,6 +1,6 @@
 // A rule's type, frequency, interval and first day of the week.
 ghost use mathlib.Core.Path.{_≡_};
-ghost use Rattle.json_ends.specs.Ends.{Ends};
+ghost use Rattle.property.specs.Rows.{RowTo};
 ghost use Rattle.event.specs.Rules.{fromRate};
 ghost use Rattle.rule_text.specs.Parts.{HeadRead};
 use crate::Head;
@@ -38,19 +38,19 @@ fn rate_fault(x: Rate) -> u32
     }
 }
 
-pub fn read_head(text: &[u8], ends: &[u32], at: usize) -> Head
-    requires { ⌜ Ends (now text) (now ends) ⌝ }
+pub fn read_head(text: &[u8], at: usize, row: &[usize]) -> Head
+    requires { ⌜ RowTo 34 (now text) at (now row) ⌝ }
     ensures { λ r. ⌜ HeadRead (now (text .entry)) at (r .frequency) (r .interval) (r .first) (r .fault) ⌝ }
 {
-    let rate = frequency_in(text, ends, at);
-    let interval = interval_in(text, ends, at);
-    let first = first_in(text, ends, at);
+    let rate = frequency_in(text, at, row);
+    let interval = interval_in(text, at, row);
+    let first = first_in(text, at, row);
     let week = lower(interval.fault, fault_of(first));
     let rest = lower(rate_fault(rate), week);
     Head {
         frequency: frequency_of(rate),
         interval: interval.value,
         first: number_of(first),
-        fault: lower(type_in(text, ends, at, b"RecurrenceRule"), rest),
+        fault: lower(type_in(text, at, row, b"RecurrenceRule"), rest),
     }
 }

@@ -1,7 +1,9 @@
 // The by-lists of a rule, each at the member that has it.
 ghost use mathlib.Core.Path.{_≡_};
-ghost use Prim.Native.Nat.{suc};
+ghost use Prim.Native.Nat.{suc, _+_};
 ghost use Rattle.json_ends.specs.Ends.{Ends};
+ghost use Rattle.property.specs.Rows.{RowTo, placed};
+ghost use Rattle.property.specs.Vocabulary.{wordOf};
 ghost use Rattle.json_walk.specs.Walk.{membersOf};
 ghost use Rattle.json_tree.specs.Finds.{findIn};
 ghost use Rattle.event.specs.Ascii.{ascii};
@@ -17,23 +19,23 @@ use crate::entries::month_entries;
 use crate::entries::signed_entries;
 use fault::lower;
 use json_text::bytes::byte;
-use json_tree::Found;
-use property::members::member;
+use property::rows::place;
+use property::vocabulary::BY_DAY;
+use property::vocabulary::BY_MONTH;
 
 // Where the array stands that is the member of this name.
-fn list_in(text: &[u8], ends: &[u32], at: usize, name: &[u8]) -> Place
-    requires { ⌜ Ends (now text) (now ends) ⌝ }
-    ensures { λ r. ⌜ Placed (now (text .entry)) (findIn (now (text .entry)) (now (name .entry)) (membersOf (now (text .entry)) at)) r ⌝ }
+fn list_in(text: &[u8], at: usize, row: &[usize], word: usize) -> Place
+    requires { ⌜ RowTo (word + 1) (now text) at (now row) ⌝ }
+    ensures { λ r. ⌜ Placed (now (text .entry)) (placed (findIn (now (text .entry)) (wordOf word) (membersOf (now (text .entry)) at))) r ⌝ }
 {
-    match member(text, ends, at, name) {
-        Found::Here(m) => {
-            let i = m.value;
+    match place(text, at, row, word) {
+        property::Place::At(i) => {
             if byte(text, i) == 0x5B {
                 return Place::At(i);
             }
             Place::Wrong
         }
-        Found::Missing => Place::Absent,
+        property::Place::None => Place::Absent,
     }
 }
 
@@ -55,14 +57,15 @@ pub fn signed_list(
     text: &[u8],
     ends: &[u32],
     at: usize,
-    name: &[u8],
+    row: &[usize],
+    word: usize,
     most: u32,
     list: &mut [i64],
 ) -> Listed
-    requires { ⌜ Ends (now text) (now ends) ⌝ }
-    ensures { λ r. ⌜ Entries (λ l. byList (readSigned most) (memberAt (suc l) (now (text .entry)) at (now (name .entry)))) (now (list .entry)) (now (list .exit)) (r .count) (r .fault) ⌝ }
+    requires { ⌜ Ends (now text) (now ends) × RowTo (word + 1) (now text) at (now row) ⌝ }
+    ensures { λ r. ⌜ Entries (λ l. byList (readSigned most) (memberAt (suc l) (now (text .entry)) at (wordOf word))) (now (list .entry)) (now (list .exit)) (r .count) (r .fault) ⌝ }
 {
-    match list_in(text, ends, at, name) {
+    match list_in(text, at, row, word) {
         Place::At(i) => {
             let all = signed_entries(text, ends, i, most, list);
             Listed {
@@ -76,11 +79,11 @@ pub fn signed_list(
 }
 
 // byMonth
-pub fn month_list(text: &[u8], ends: &[u32], at: usize, list: &mut [u32]) -> Listed
-    requires { ⌜ Ends (now text) (now ends) ⌝ }
+pub fn month_list(text: &[u8], ends: &[u32], at: usize, row: &[usize], list: &mut [u32]) -> Listed
+    requires { ⌜ Ends (now text) (now ends) × RowTo 34 (now text) at (now row) ⌝ }
     ensures { λ r. ⌜ Entries (λ l. byList readMonth (memberAt (suc l) (now (text .entry)) at (ascii "byMonth"))) (now (list .entry)) (now (list .exit)) (r .count) (r .fault) ⌝ }
 {
-    match list_in(text, ends, at, b"byMonth") {
+    match list_in(text, at, row, BY_MONTH) {
         Place::At(i) => {
             let all = month_entries(text, ends, i, list);
             Listed {
@@ -98,13 +101,14 @@ pub fn day_list(
     text: &[u8],
     ends: &[u32],
     at: usize,
+    row: &[usize],
     weekdays: &mut [u32],
     nths: &mut [i64],
 ) -> DaysListed
-    requires { ⌜ Ends (now text) (now ends) ⌝ }
+    requires { ⌜ Ends (now text) (now ends) × RowTo 34 (now text) at (now row) ⌝ }
     ensures { λ r. ⌜ DayEntries (λ l. byList readNDay (memberAt (suc (suc l)) (now (text .entry)) at (ascii "byDay"))) (now (weekdays .entry)) (now (weekdays .exit)) (now (nths .entry)) (now (nths .exit)) (r .count) (r .nth) (r .fault) ⌝ }
 {
-    match list_in(text, ends, at, b"byDay") {
+    match list_in(text, at, row, BY_DAY) {
         Place::At(i) => {
             let all = day_entries(text, ends, i, weekdays, nths);
             DaysListed {

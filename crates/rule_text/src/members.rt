@@ -1,8 +1,7 @@
 // The members of a rule and of an NDay, each with its default where it is absent.
-ghost use Prim.Native.Nat.{ℕ};
+ghost use Prim.Native.Nat.{ℕ, _+_};
 ghost use mathlib.Core.Bool.{true};
 ghost use mathlib.Core.Path.{_≡_};
-ghost use Rattle.json_ends.specs.Ends.{Ends};
 ghost use Rattle.rule.specs.declared.Frequency.the-variants.{Yearly};
 ghost use Rattle.rule.specs.Read.{nthFrom};
 ghost use Rattle.event.specs.Ascii.{ascii};
@@ -10,6 +9,8 @@ ghost use Rattle.event.specs.Reading.{optional, unsupported};
 ghost use Rattle.event.specs.Rules.{typed, required, fromRate, fromNamed, readFrequency, readCount, readWeekday, readNth, readScale, readSkip};
 ghost use Rattle.rule_text.specs.Members.{memberAt};
 ghost use Rattle.rule_text.specs.Reads.{Reads};
+ghost use Rattle.property.specs.Rows.{RowTo};
+ghost use Rattle.property.specs.Vocabulary.{wordOf};
 use crate::Number;
 use crate::Signed;
 use crate::numbers::count;
@@ -19,100 +20,108 @@ use crate::spelled::read_scale;
 use crate::spelled::read_skip;
 use crate::spelled::read_type;
 use crate::spelled::read_weekday;
-use json_tree::Found;
-use property::members::member;
+use property::Place;
+use property::rows::place;
+use property::vocabulary::DAY;
+use property::vocabulary::FIRST_DAY;
+use property::vocabulary::FREQUENCY;
+use property::vocabulary::INTERVAL;
+use property::vocabulary::NTH;
+use property::vocabulary::RSCALE;
+use property::vocabulary::SKIP;
+use property::vocabulary::TYPE;
 use words::Named;
 use words::Rate;
 
 // The fault of the `@type`.
-pub fn type_in(text: &[u8], ends: &[u32], at: usize, name: &[u8]) -> u32
-    requires { ⌜ Ends (now text) (now ends) ⌝ }
+pub fn type_in(text: &[u8], at: usize, row: &[usize], name: &[u8]) -> u32
+    requires { ⌜ RowTo 3 (now text) at (now row) ⌝ }
     ensures { λ r. ⌜ ((l : ℕ) → r ≡ typed (now (name .entry)) (memberAt l (now (text .entry)) at (ascii "@type"))) ⌝ }
 {
-    match member(text, ends, at, b"@type") {
-        Found::Here(m) => read_type(text, m.value, name),
-        Found::Missing => 6,
+    match place(text, at, row, TYPE) {
+        Place::At(i) => read_type(text, i, name),
+        Place::None => 6,
     }
 }
 
-pub fn frequency_in(text: &[u8], ends: &[u32], at: usize) -> Rate
-    requires { ⌜ Ends (now text) (now ends) ⌝ }
+pub fn frequency_in(text: &[u8], at: usize, row: &[usize]) -> Rate
+    requires { ⌜ RowTo 34 (now text) at (now row) ⌝ }
     ensures { λ r. ⌜ ((l : ℕ) → fromRate r ≡ required Yearly readFrequency (memberAt l (now (text .entry)) at (ascii "frequency"))) ⌝ }
 {
-    match member(text, ends, at, b"frequency") {
-        Found::Here(m) => read_frequency(text, m.value),
-        Found::Missing => Rate::Fault(6),
+    match place(text, at, row, FREQUENCY) {
+        Place::At(i) => read_frequency(text, i),
+        Place::None => Rate::Fault(6),
     }
 }
 
-pub fn interval_in(text: &[u8], ends: &[u32], at: usize) -> Number
-    requires { ⌜ Ends (now text) (now ends) ⌝ }
+pub fn interval_in(text: &[u8], at: usize, row: &[usize]) -> Number
+    requires { ⌜ RowTo 34 (now text) at (now row) ⌝ }
     ensures { λ r. ⌜ Reads (λ l. optional 1 readCount (memberAt l (now (text .entry)) at (ascii "interval"))) (r .value) (r .fault) ⌝ }
 {
-    match member(text, ends, at, b"interval") {
-        Found::Here(m) => count(text, m.value),
-        Found::Missing => Number { value: 1, fault: 0 },
+    match place(text, at, row, INTERVAL) {
+        Place::At(i) => count(text, i),
+        Place::None => Number { value: 1, fault: 0 },
     }
 }
 
-pub fn first_in(text: &[u8], ends: &[u32], at: usize) -> Named
-    requires { ⌜ Ends (now text) (now ends) ⌝ }
+pub fn first_in(text: &[u8], at: usize, row: &[usize]) -> Named
+    requires { ⌜ RowTo 34 (now text) at (now row) ⌝ }
     ensures { λ r. ⌜ ((l : ℕ) → fromNamed r ≡ optional 0 readWeekday (memberAt l (now (text .entry)) at (ascii "firstDayOfWeek"))) ⌝ }
 {
-    match member(text, ends, at, b"firstDayOfWeek") {
-        Found::Here(m) => read_weekday(text, m.value),
-        Found::Missing => Named::Number(0),
+    match place(text, at, row, FIRST_DAY) {
+        Place::At(i) => read_weekday(text, i),
+        Place::None => Named::Number(0),
     }
 }
 
-pub fn day_in(text: &[u8], ends: &[u32], at: usize) -> Named
-    requires { ⌜ Ends (now text) (now ends) ⌝ }
+pub fn day_in(text: &[u8], at: usize, row: &[usize]) -> Named
+    requires { ⌜ RowTo 3 (now text) at (now row) ⌝ }
     ensures { λ r. ⌜ ((l : ℕ) → fromNamed r ≡ required 0 readWeekday (memberAt l (now (text .entry)) at (ascii "day"))) ⌝ }
 {
-    match member(text, ends, at, b"day") {
-        Found::Here(m) => read_weekday(text, m.value),
-        Found::Missing => Named::Wrong(6),
+    match place(text, at, row, DAY) {
+        Place::At(i) => read_weekday(text, i),
+        Place::None => Named::Wrong(6),
     }
 }
 
 // 0 where there is none.
-pub fn nth_in(text: &[u8], ends: &[u32], at: usize) -> Signed
-    requires { ⌜ Ends (now text) (now ends) ⌝ }
+pub fn nth_in(text: &[u8], at: usize, row: &[usize]) -> Signed
+    requires { ⌜ RowTo 3 (now text) at (now row) ⌝ }
     ensures { λ r. ⌜ Reads (λ l. readNth (memberAt l (now (text .entry)) at (ascii "nthOfPeriod"))) (nthFrom (r .value)) (r .fault) ⌝ }
 {
-    match member(text, ends, at, b"nthOfPeriod") {
-        Found::Here(m) => signed_up_to(text, m.value, 53),
-        Found::Missing => Signed { value: 0, fault: 0 },
+    match place(text, at, row, NTH) {
+        Place::At(i) => signed_up_to(text, i, 53),
+        Place::None => Signed { value: 0, fault: 0 },
     }
 }
 
-pub fn scale_in(text: &[u8], ends: &[u32], at: usize) -> u32
-    requires { ⌜ Ends (now text) (now ends) ⌝ }
+pub fn scale_in(text: &[u8], at: usize, row: &[usize]) -> u32
+    requires { ⌜ RowTo 34 (now text) at (now row) ⌝ }
     ensures { λ r. ⌜ ((l : ℕ) → r ≡ optional true readScale (memberAt l (now (text .entry)) at (ascii "rscale")) .fault) ⌝ }
 {
-    match member(text, ends, at, b"rscale") {
-        Found::Here(m) => read_scale(text, m.value),
-        Found::Missing => 0,
+    match place(text, at, row, RSCALE) {
+        Place::At(i) => read_scale(text, i),
+        Place::None => 0,
     }
 }
 
-pub fn skip_in(text: &[u8], ends: &[u32], at: usize) -> u32
-    requires { ⌜ Ends (now text) (now ends) ⌝ }
+pub fn skip_in(text: &[u8], at: usize, row: &[usize]) -> u32
+    requires { ⌜ RowTo 34 (now text) at (now row) ⌝ }
     ensures { λ r. ⌜ ((l : ℕ) → r ≡ optional true readSkip (memberAt l (now (text .entry)) at (ascii "skip")) .fault) ⌝ }
 {
-    match member(text, ends, at, b"skip") {
-        Found::Here(m) => read_skip(text, m.value),
-        Found::Missing => 0,
+    match place(text, at, row, SKIP) {
+        Place::At(i) => read_skip(text, i),
+        Place::None => 0,
     }
 }
 
 // The fault of a member that is unsupported as a whole.
-pub fn unsupported_in(text: &[u8], ends: &[u32], at: usize, name: &[u8]) -> u32
-    requires { ⌜ Ends (now text) (now ends) ⌝ }
-    ensures { λ r. ⌜ ((l : ℕ) → r ≡ unsupported (memberAt l (now (text .entry)) at (now (name .entry)))) ⌝ }
+pub fn unsupported_in(text: &[u8], at: usize, row: &[usize], word: usize) -> u32
+    requires { ⌜ RowTo (word + 1) (now text) at (now row) ⌝ }
+    ensures { λ r. ⌜ ((l : ℕ) → r ≡ unsupported (memberAt l (now (text .entry)) at (wordOf word))) ⌝ }
 {
-    match member(text, ends, at, name) {
-        Found::Here(m) => 8,
-        Found::Missing => 0,
+    match place(text, at, row, word) {
+        Place::At(i) => 8,
+        Place::None => 0,
     }
 }

@@ -1,7 +1,7 @@
 // The faults of a rule beside those of its values.
 ghost use Prim.Native.Nat.{ℕ};
 ghost use mathlib.Core.Path.{_≡_};
-ghost use Rattle.json_ends.specs.Ends.{Ends};
+ghost use Rattle.property.specs.Rows.{RowTo};
 ghost use Rattle.event.specs.Rules.{unsupportedLists};
 ghost use Rattle.property.specs.From.{fieldsIn};
 ghost use Rattle.rule_text.specs.Parts.{otherFault, nthFault, joined};
@@ -9,27 +9,32 @@ use crate::members::scale_in;
 use crate::members::skip_in;
 use crate::members::unsupported_in;
 use fault::lower;
+use property::vocabulary::BY_HOUR;
+use property::vocabulary::BY_MINUTE;
+use property::vocabulary::BY_SECOND;
+use property::vocabulary::BY_WEEK_NO;
+use property::vocabulary::BY_YEAR_DAY;
 use rule::Frequency;
 
-fn unsupported_lists(text: &[u8], ends: &[u32], at: usize) -> u32
-    requires { ⌜ Ends (now text) (now ends) ⌝ }
+fn unsupported_lists(text: &[u8], at: usize, row: &[usize]) -> u32
+    requires { ⌜ RowTo 34 (now text) at (now row) ⌝ }
     ensures { λ r. ⌜ ((l : ℕ) → r ≡ unsupportedLists (fieldsIn l (now (text .entry)) at)) ⌝ }
 {
-    let day = unsupported_in(text, ends, at, b"byYearDay");
-    let week = unsupported_in(text, ends, at, b"byWeekNo");
-    let hour = unsupported_in(text, ends, at, b"byHour");
-    let minute = unsupported_in(text, ends, at, b"byMinute");
-    let second = unsupported_in(text, ends, at, b"bySecond");
+    let day = unsupported_in(text, at, row, BY_YEAR_DAY);
+    let week = unsupported_in(text, at, row, BY_WEEK_NO);
+    let hour = unsupported_in(text, at, row, BY_HOUR);
+    let minute = unsupported_in(text, at, row, BY_MINUTE);
+    let second = unsupported_in(text, at, row, BY_SECOND);
     lower(day, lower(week, lower(hour, lower(minute, second))))
 }
 
-pub fn other_fault(text: &[u8], ends: &[u32], at: usize) -> u32
-    requires { ⌜ Ends (now text) (now ends) ⌝ }
+pub fn other_fault(text: &[u8], at: usize, row: &[usize]) -> u32
+    requires { ⌜ RowTo 34 (now text) at (now row) ⌝ }
     ensures { λ r. ⌜ ((l : ℕ) → r ≡ otherFault l (now (text .entry)) at) ⌝ }
 {
-    let scale = scale_in(text, ends, at);
-    let skip = skip_in(text, ends, at);
-    lower(scale, lower(skip, unsupported_lists(text, ends, at)))
+    let scale = scale_in(text, at, row);
+    let skip = skip_in(text, at, row);
+    lower(scale, lower(skip, unsupported_lists(text, at, row)))
 }
 
 // An nthOfPeriod under weekly or daily.

@@ -4,6 +4,7 @@ ghost use mathlib.Core.Path.{_≡_};
 ghost use lib.ListN.{length};
 ghost use Rattle.json_ends.specs.Ends.{Ends};
 ghost use Rattle.json_tree.specs.Tree.{treeAt};
+ghost use Rattle.property.specs.Rows.{RowTo};
 ghost use Rattle.rule.specs.Read.{written};
 ghost use Rattle.event.specs.Rules.{standIn, readRule, readRules};
 ghost use Rattle.rule_text.specs.Reads.{entriesAt};
@@ -24,6 +25,9 @@ use json_ends::arrays::first_element;
 use json_ends::arrays::next_element;
 use json_text::bytes::byte;
 use json_walk::ElementStep;
+use property::rows::fill;
+use property::vocabulary::BY_MONTH_DAY;
+use property::vocabulary::BY_SET_POSITION;
 use rule::End;
 use rule::Frequency;
 use rule::Rule;
@@ -49,20 +53,20 @@ fn stand_in() -> Rule
     }
 }
 
-// The rule whose members are those of the object at a place.
-fn rule_in(text: &[u8], ends: &[u32], at: usize) -> Read
-    requires { ⌜ Ends (now text) (now ends) ⌝ }
+// The rule whose members are those of the object at a place, with the row of its members.
+fn rule_by(text: &[u8], ends: &[u32], at: usize, row: &[usize]) -> Read
+    requires { ⌜ Ends (now text) (now ends) × RowTo 34 (now text) at (now row) ⌝ }
     ensures { λ r. ⌜ RuleIn (now (text .entry)) at (r .rule) (r .fault) ⌝ }
 {
-    let head = read_head(text, ends, at);
-    let days = weekdays(text, ends, at);
-    let dates = numbers(text, ends, at, b"byMonthDay", 31);
-    let year = months(text, ends, at);
-    let positions = numbers(text, ends, at, b"bySetPosition", 366);
-    let ending = read_ends(text, ends, at);
+    let head = read_head(text, at, row);
+    let days = weekdays(text, ends, at, row);
+    let dates = numbers(text, ends, at, row, BY_MONTH_DAY, 31);
+    let year = months(text, ends, at, row);
+    let positions = numbers(text, ends, at, row, BY_SET_POSITION, 366);
+    let ending = read_ends(text, at, row);
     let frequency = head.frequency;
     let nth = nth_fault(frequency, days.any);
-    let other = other_fault(text, ends, at);
+    let other = other_fault(text, at, row);
     let fault = join(
         head.fault,
         days.fault,
@@ -95,6 +99,16 @@ fn rule_in(text: &[u8], ends: &[u32], at: usize) -> Read
         end,
     };
     Read { rule, fault }
+}
+
+// The rule whose members are those of the object at a place.
+fn rule_in(text: &[u8], ends: &[u32], at: usize) -> Read
+    requires { ⌜ Ends (now text) (now ends) ⌝ }
+    ensures { λ r. ⌜ RuleIn (now (text .entry)) at (r .rule) (r .fault) ⌝ }
+{
+    let mut row = [0usize; 34];
+    fill(text, ends, at, &mut row);
+    rule_by(text, ends, at, &row)
 }
 
 // The rule at a place.

@@ -1,5 +1,7 @@
 -- `event_text::own::own_details` meets its contract.
 use Rattle.event.specs.Event.{detailsIn}
+use Rattle.property.specs.Vocabulary.{vocabulary, wordOf}
+use native.Mathlib.Omega.{arith}
 use borrow.Author.Needs.{needs}
 use Rattle.event_text.proofs.own.own_details.Statement.{statement}
 use Rattle.event_text.proofs.own.own_details.Tie as tie
@@ -14,19 +16,13 @@ busy-requires : tie.Need-busy-requires
 busy-requires c κs = search needs
 
 all-day-requires : tie.Need-all-day-requires
-all-day-requires c κs = search needs
-
-slice-aggregate-words : tie.Need-slice-aggregate-words
-slice-aggregate-words c = search needs
+all-day-requires c κs = c .before .before .before .before .before .pre
 
 words-requires : tie.Need-words-requires
-words-requires c κs = search needs
-
-slice-aggregate-words-2 : tie.Need-slice-aggregate-words-2
-slice-aggregate-words-2 c = search needs
+words-requires c κs = (c .before .before .before .before .before .before .pre .0, omega (arith, c .before .before .before .before .before .before .pre .1))
 
 words-requires-2 : tie.Need-words-requires-2
-words-requires-2 c κs = search needs
+words-requires-2 c κs = (c .before .before .before .before .before .before .before .pre .0, omega (arith, c .before .before .before .before .before .before .before .pre .1))
 
 lower-requires : tie.Need-lower-requires
 lower-requires c κs = search needs
@@ -44,8 +40,8 @@ lower-requires-5 : tie.Need-lower-requires-5
 lower-requires-5 c κs = search needs
 
 returns : tie.Need-returns
-unfolding detailsIn
-returns c = λ l. rw (← (c .before .before .before .before .before .before .before .before .before .before .before .before .start .ensures l), ← (c .before .before .before .before .before .before .before .before .before .before .before .length .ensures l), ← (c .before .before .before .before .before .before .before .before .before .before .busy .ensures l), ← (c .before .before .before .before .before .before .before .before .before .all-day .ensures l), ← (c .before .before .before .before .before .before .before .words .ensures l), ← (c .before .before .before .before .before .words2 .ensures l), ← (c .before .before .before .before .lower .ensures), ← (c .before .before .before .lower2 .ensures), ← (c .before .before .lower3 .ensures), ← (c .before .lower4 .ensures), ← (c .lower5 .ensures))
+unfolding detailsIn wordOf vocabulary
+returns c = λ l. rw (← (c .before .before .before .before .before .before .before .before .before .before .start .ensures l), ← (c .before .before .before .before .before .before .before .before .before .length .ensures l), ← (c .before .before .before .before .before .before .before .before .busy .ensures l), ← (c .before .before .before .before .before .before .before .all-day .ensures l), ← (c .before .before .before .before .before .before .words .ensures l), ← (c .before .before .before .before .before .words2 .ensures l), ← (c .before .before .before .before .lower .ensures), ← (c .before .before .before .lower2 .ensures), ← (c .before .before .lower3 .ensures), ← (c .before .lower4 .ensures), ← (c .lower5 .ensures))
 
 pub own-details-spec : {M : Type 1} → statement M
 own-details-spec =
@@ -55,9 +51,7 @@ own-details-spec =
     length-requires
     busy-requires
     all-day-requires
-    slice-aggregate-words
     words-requires
-    slice-aggregate-words-2
     words-requires-2
     lower-requires
     lower-requires-2

@@ -1,25 +1,20 @@
 -- `rule_text::ends::read_ends` meets its contract.
 use Rattle.rule_text.proofs.EndLaws.{ends-both, ends-count, ends-until, ends-never}
-use Rattle.rule_text.proofs.FieldLaws.{member-found, member-missing}
 use Rattle.event.specs.Reading.{Reading}
 use mathlib.Core.Path.{ap, _∙_}
 use Prim.Native.Nat.{ℕ}
--- `rule_text::ends::read_ends` meets its contract.
+use Rattle.property.proofs.RowLaws.{here, missing}
+use Rattle.property.specs.Vocabulary.{vocabulary, wordOf}
+use Rattle.event.specs.Ascii.{ascii}
 use borrow.Author.Needs.{needs}
 use Rattle.rule_text.proofs.ends.read_ends.Statement.{statement}
 use Rattle.rule_text.proofs.ends.read_ends.Tie as tie
 
-slice-aggregate-member : tie.Need-slice-aggregate-member
-slice-aggregate-member c = search needs
+place-requires : tie.Need-place-requires
+place-requires c κs = search needs
 
-member-requires : tie.Need-member-requires
-member-requires c κs = search needs
-
-slice-aggregate-member-2 : tie.Need-slice-aggregate-member-2
-slice-aggregate-member-2 c = search needs
-
-member-requires-2 : tie.Need-member-requires-2
-member-requires-2 c κs = search needs
+place-requires-2 : tie.Need-place-requires-2
+place-requires-2 c κs = search needs
 
 enum-known-c : tie.Need-enum-known-c
 enum-known-c c = search needs
@@ -64,20 +59,24 @@ enum-told-3 : tie.Need-enum-told-3
 enum-told-3 c = search needs
 
 returns : tie.Need-returns
+unfolding wordOf vocabulary
 returns c =
-    ends-both _ _ _ _ (λ l. member-found l _ _ _ (c .before .before .before .before .before .before .before .before .before .before .before .before .before .member .ensures) (c .before .before .before .before .before .until .given .1)) (λ l. member-found l _ _ _ (c .before .before .before .before .before .before .before .before .before .before .before .member2 .ensures) (c .before .before .before .before .before .before .before .before .before .c .given .1)) (λ l. c .before .before .until-fault .ensures ∙ ap (λ (r : Reading ℕ). r .fault) (c .before .before .before .read-until .ensures l)) (c .before .before .before .before .before .before .before .count .ensures .fault) (c .before .lower .ensures) (c .lower2 .ensures)
+    ends-both _ _ _ _ (λ l. here _ (ascii "until") _ _ (c .before .before .before .before .before .before .before .before .before .before .before .before .place .ensures) _ (c .before .before .before .before .before .until .given .1) l) (λ l. here _ (ascii "count") _ _ (c .before .before .before .before .before .before .before .before .before .before .before .place2 .ensures) _ (c .before .before .before .before .before .before .before .before .before .c .given .1) l) (λ l. c .before .before .until-fault .ensures ∙ ap (λ (r : Reading ℕ). r .fault) (c .before .before .before .read-until .ensures l)) (c .before .before .before .before .before .before .before .count .ensures .fault) (c .before .lower .ensures) (c .lower2 .ensures)
 
 returns-2 : tie.Need-returns-2
+unfolding wordOf vocabulary
 returns-2 c =
-    ends-count _ _ _ (λ l. member-missing l _ _ _ (c .before .before .before .before .before .before .before .before .member .ensures) (c .enum-told .given .1)) (λ l. member-found l _ _ _ (c .before .before .before .before .before .before .member2 .ensures) (c .before .before .before .before .c .given .1)) (c .before .before .count .ensures .value) (c .before .before .count .ensures .fault)
+    ends-count _ _ _ (λ l. missing _ (ascii "until") _ _ (c .before .before .before .before .before .before .before .place .ensures) (c .enum-told .given .1) l) (λ l. here _ (ascii "count") _ _ (c .before .before .before .before .before .before .place2 .ensures) _ (c .before .before .before .before .c .given .1) l) (c .before .before .count .ensures .value) (c .before .before .count .ensures .fault)
 
 returns-3 : tie.Need-returns-3
+unfolding wordOf vocabulary
 returns-3 c =
-    ends-until _ _ _ (λ l. member-found l _ _ _ (c .before .before .before .before .before .before .before .before .before .before .member .ensures) (c .before .before .before .before .until2 .given .1)) (λ l. member-missing l _ _ _ (c .before .before .before .before .before .before .before .before .member2 .ensures) (c .before .before .before .before .before .before .enum-told2 .given .1)) (λ l. c .before .until-time .ensures ∙ ap (λ (r : Reading ℕ). r .value) (c .before .before .read-until2 .ensures l)) (λ l. c .until-fault2 .ensures ∙ ap (λ (r : Reading ℕ). r .fault) (c .before .before .read-until2 .ensures l))
+    ends-until _ _ _ (λ l. here _ (ascii "until") _ _ (c .before .before .before .before .before .before .before .before .before .place .ensures) _ (c .before .before .before .before .until2 .given .1) l) (λ l. missing _ (ascii "count") _ _ (c .before .before .before .before .before .before .before .before .place2 .ensures) (c .before .before .before .before .before .before .enum-told2 .given .1) l) (λ l. c .before .until-time .ensures ∙ ap (λ (r : Reading ℕ). r .value) (c .before .before .read-until2 .ensures l)) (λ l. c .until-fault2 .ensures ∙ ap (λ (r : Reading ℕ). r .fault) (c .before .before .read-until2 .ensures l))
 
 returns-4 : tie.Need-returns-4
+unfolding wordOf vocabulary
 returns-4 c =
-    ends-never _ _ (λ l. member-missing l _ _ _ (c .before .before .before .before .before .before .member .ensures) (c .enum-told3 .given .1)) (λ l. member-missing l _ _ _ (c .before .before .before .before .member2 .ensures) (c .before .before .enum-told2 .given .1))
+    ends-never _ _ (λ l. missing _ (ascii "until") _ _ (c .before .before .before .before .before .place .ensures) (c .enum-told3 .given .1) l) (λ l. missing _ (ascii "count") _ _ (c .before .before .before .before .place2 .ensures) (c .before .before .enum-told2 .given .1) l)
 
 pub read-ends-spec : {M : Type 1} → statement M
-read-ends-spec = tie.close (tie.spec slice-aggregate-member member-requires slice-aggregate-member-2 member-requires-2 enum-known-c count-requires enum-known-until read-until-requires until-fault-requires lower-requires lower-requires-2 enum-told enum-told-2 enum-known-until-2 read-until-requires-2 until-time-requires until-fault-requires-2 enum-told-3 returns returns-2 returns-3 returns-4)
+read-ends-spec = tie.close (tie.spec place-requires place-requires-2 enum-known-c count-requires enum-known-until read-until-requires until-fault-requires lower-requires lower-requires-2 enum-told enum-told-2 enum-known-until-2 read-until-requires-2 until-time-requires until-fault-requires-2 enum-told-3 returns returns-2 returns-3 returns-4)

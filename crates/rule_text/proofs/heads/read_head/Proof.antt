@@ -4,7 +4,7 @@ use Rattle.rule.specs.declared.Frequency.{Frequency}
 use Rattle.fault.specs.Fault.{lower}
 use mathlib.Core.Path.{ap, ap₂, _∙_}
 use Prim.Native.Nat.{ℕ}
--- `rule_text::heads::read_head` meets its contract.
+use native.Mathlib.Omega.{arith}
 use borrow.Author.Needs.{needs}
 use Rattle.rule_text.proofs.heads.read_head.Statement.{statement}
 use Rattle.rule_text.proofs.heads.read_head.Tie as tie
@@ -40,7 +40,7 @@ slice-aggregate-type-in : tie.Need-slice-aggregate-type-in
 slice-aggregate-type-in c = search needs
 
 type-in-requires : tie.Need-type-in-requires
-type-in-requires c κs = search needs
+type-in-requires c κs = (c .before .before .before .before .before .before .before .before .before .before .before .before .pre .0, omega (arith, c .before .before .before .before .before .before .before .before .before .before .before .before .pre .1))
 
 lower-requires-3 : tie.Need-lower-requires-3
 lower-requires-3 c κs = search needs

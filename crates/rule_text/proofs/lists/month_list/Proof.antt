@@ -1,12 +1,10 @@
 -- `rule_text::lists::month_list` meets its contract.
 use Rattle.rule_text.proofs.ListLaws.{by-place, at-within, entries-same, entries-limited, entries-none, entries-length}
--- `rule_text::lists::month_list` meets its contract.
+use Rattle.property.specs.Vocabulary.{vocabulary, wordOf}
+use Rattle.event.specs.Ascii.{ascii}
 use borrow.Author.Needs.{needs}
 use Rattle.rule_text.proofs.lists.month_list.Statement.{statement}
 use Rattle.rule_text.proofs.lists.month_list.Tie as tie
-
-slice-aggregate-list-in : tie.Need-slice-aggregate-list-in
-slice-aggregate-list-in c = search needs
 
 list-in-requires : tie.Need-list-in-requires
 list-in-requires c κs = search needs
@@ -16,7 +14,7 @@ enum-known-i c = search needs
 
 month-entries-requires : tie.Need-month-entries-requires
 month-entries-requires c κs =
-    (at-within (c .before .before .i .given .1) (c .before .before .before .before .list-in .ensures .within), c .before .before .before .before .before .before .before .before .before .pre)
+    (at-within (c .before .before .i .given .1) (c .before .before .before .before .list-in .ensures .within), c .before .before .before .before .before .before .before .before .before .pre .0)
 
 list-fault-requires : tie.Need-list-fault-requires
 list-fault-requires c κs = search needs
@@ -32,16 +30,19 @@ same-length c =
     entries-length (c .before .before .before .month-entries .ensures)
 
 returns : tie.Need-returns
+unfolding wordOf vocabulary
 returns c =
-    entries-same (entries-limited _ _ (c .before .before .before .month-entries .ensures) (c .list-fault .ensures)) (λ l. rw (by-place _ _ _ _ _, ← (c .before .before .before .before .before .before .before .before .list-in .ensures .is), c .before .before .before .before .before .before .i .given .1))
+    entries-same (entries-limited _ _ (c .before .before .before .month-entries .ensures) (c .list-fault .ensures)) (λ l. rw (by-place _ _ _ _ (ascii "byMonth"), ← (c .before .before .before .before .before .before .before .before .list-in .ensures .is), c .before .before .before .before .before .before .i .given .1))
 
 returns-2 : tie.Need-returns-2
+unfolding wordOf vocabulary
 returns-2 c =
-    entries-same entries-none (λ l. rw (by-place _ _ _ _ _, ← (c .before .before .list-in .ensures .is), c .enum-told .given .1))
+    entries-same entries-none (λ l. rw (by-place _ _ _ _ (ascii "byMonth"), ← (c .before .before .list-in .ensures .is), c .enum-told .given .1))
 
 returns-3 : tie.Need-returns-3
+unfolding wordOf vocabulary
 returns-3 c =
-    entries-same entries-none (λ l. rw (by-place _ _ _ _ _, ← (c .before .before .list-in .ensures .is), c .enum-told2 .given .1))
+    entries-same entries-none (λ l. rw (by-place _ _ _ _ (ascii "byMonth"), ← (c .before .before .list-in .ensures .is), c .enum-told2 .given .1))
 
 pub month-list-spec : {M : Type 1} → statement M
-month-list-spec = tie.close (tie.spec slice-aggregate-list-in list-in-requires enum-known-i month-entries-requires list-fault-requires enum-told enum-told-2 same-length returns returns-2 returns-3)
+month-list-spec = tie.close (tie.spec list-in-requires enum-known-i month-entries-requires list-fault-requires enum-told enum-told-2 same-length returns returns-2 returns-3)

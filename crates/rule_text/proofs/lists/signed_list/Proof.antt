@@ -1,6 +1,5 @@
 -- `rule_text::lists::signed_list` meets its contract.
 use Rattle.rule_text.proofs.ListLaws.{by-place, at-within, entries-same, entries-limited, entries-none, entries-length}
--- `rule_text::lists::signed_list` meets its contract.
 use borrow.Author.Needs.{needs}
 use Rattle.rule_text.proofs.lists.signed_list.Statement.{statement}
 use Rattle.rule_text.proofs.lists.signed_list.Tie as tie
@@ -13,7 +12,7 @@ enum-known-i c = search needs
 
 signed-entries-requires : tie.Need-signed-entries-requires
 signed-entries-requires c κs =
-    (at-within (c .before .before .i .given .1) (c .before .before .before .before .list-in .ensures .within), c .before .before .before .before .before .before .before .before .pre)
+    (at-within (c .before .before .i .given .1) (c .before .before .before .before .list-in .ensures .within), c .before .before .before .before .before .before .before .before .pre .0)
 
 list-fault-requires : tie.Need-list-fault-requires
 list-fault-requires c κs = search needs

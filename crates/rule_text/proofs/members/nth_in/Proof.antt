@@ -4,19 +4,18 @@ use Rattle.event.specs.Rules.{readNth}
 use Rattle.rule.specs.Read.{nthFrom}
 use native.Mathlib.Omega.{arith}
 use mathlib.Core.Path.{ap, _∙_}
-use Rattle.rule_text.proofs.FieldLaws.{member-found, member-missing}
+use Rattle.property.proofs.RowLaws.{here, missing}
+use Rattle.property.specs.Vocabulary.{vocabulary, wordOf}
+use Rattle.event.specs.Ascii.{ascii}
 use borrow.Author.Needs.{needs}
 use Rattle.rule_text.proofs.members.nth_in.Statement.{statement}
 use Rattle.rule_text.proofs.members.nth_in.Tie as tie
 
-slice-aggregate-member : tie.Need-slice-aggregate-member
-slice-aggregate-member c = search needs
+place-requires : tie.Need-place-requires
+place-requires c κs = search needs
 
-member-requires : tie.Need-member-requires
-member-requires c κs = search needs
-
-enum-known-m : tie.Need-enum-known-m
-enum-known-m c = search needs
+enum-known-i : tie.Need-enum-known-i
+enum-known-i c = search needs
 
 signed-up-to-requires : tie.Need-signed-up-to-requires
 signed-up-to-requires c κs = search needs
@@ -25,22 +24,21 @@ enum-told : tie.Need-enum-told
 enum-told c = search needs
 
 returns : tie.Need-returns
-unfolding readNth
+unfolding readNth wordOf vocabulary
 returns c =
-    record { value = λ l. rw (member-found l _ _ _ (c .before .before .before .before .member .ensures) (c .before .before .m .given .1)) (ap nthFrom (c .signed-up-to .ensures .value l) ∙ nth-read 53 (omega arith) _); fault = λ l. rw (member-found l _ _ _ (c .before .before .before .before .member .ensures) (c .before .before .m .given .1)) (c .signed-up-to .ensures .fault l) }
+    record { value = λ l. rw (here _ (ascii "nthOfPeriod") _ _ (c .before .before .before .before .place .ensures) _ (c .before .before .i .given .1) l) (ap nthFrom (c .signed-up-to .ensures .value l) ∙ nth-read 53 (omega arith) _); fault = λ l. rw (here _ (ascii "nthOfPeriod") _ _ (c .before .before .before .before .place .ensures) _ (c .before .before .i .given .1) l) (c .signed-up-to .ensures .fault l) }
 
 returns-2 : tie.Need-returns-2
-unfolding readNth nthFrom
+unfolding readNth nthFrom wordOf vocabulary
 returns-2 c =
-    record { value = λ l. rw (member-missing l _ _ _ (c .before .before .member .ensures) (c .enum-told .given .1)); fault = λ l. rw (member-missing l _ _ _ (c .before .before .member .ensures) (c .enum-told .given .1)) }
+    record { value = λ l. rw (missing _ (ascii "nthOfPeriod") _ _ (c .before .before .place .ensures) (c .enum-told .given .1) l); fault = λ l. rw (missing _ (ascii "nthOfPeriod") _ _ (c .before .before .place .ensures) (c .enum-told .given .1) l) }
 
 pub nth-in-spec : {M : Type 1} → statement M
 nth-in-spec =
     tie.close
     (tie.spec
-    slice-aggregate-member
-    member-requires
-    enum-known-m
+    place-requires
+    enum-known-i
     signed-up-to-requires
     enum-told
     returns

@@ -1,9 +1,9 @@
--- `override_text::names::first` meets its contract.
+-- `property::rows::first` meets its contract.
 use Rattle.property.proofs.Fields.{first-past}
 use mathlib.Core.Path.{sym}
 use borrow.Author.Needs.{needs}
-use Rattle.override_text.proofs.names.first.Statement.{statement}
-use Rattle.override_text.proofs.names.first.Tie as tie
+use Rattle.property.proofs.rows.first.Statement.{statement}
+use Rattle.property.proofs.rows.first.Tie as tie
 
 first-member-requires : tie.Need-first-member-requires
 first-member-requires c κs = search needs
