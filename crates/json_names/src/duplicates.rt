@@ -8,8 +8,7 @@ ghost use lib.ListN.{length};
 ghost use Rattle.json_walk.specs.Walk.{membersOf};
 ghost use Rattle.json_names.specs.Names.{repeats};
 use crate::names::repeated;
-use crate::radix::by_keys;
-use crate::sort::tidy;
+use crate::sort::arrange;
 use crate::sorted::index;
 use crate::sorted::judge;
 
@@ -25,8 +24,7 @@ pub fn repeated_in(
     requires { ⌜ (at < length (now text)) × (length (now order) ≤ 65536) × (length (now order) ≤ length (now spare)) × (k ≤ length (now order)) × Ends (now text) (now ends) ⌝ }
     ensures { λ r. ⌜ r ≡ repeats (now (text .entry)) (membersOf (now (text .entry)) at) ⌝ }
 {
-    by_keys(order, spare, k);
-    let r = tidy(text, order, spare, k);
+    let r = arrange(text, order, spare, k);
     index(order, spare, k);
     judge(text, ends, at, order, spare, k, r)
 }
