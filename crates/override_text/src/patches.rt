@@ -4,11 +4,13 @@ ghost use mathlib.Core.Bool.{not, _&&_};
 ghost use mathlib.Core.Path.{_≡_};
 ghost use Rattle.signed.specs.Choose.{if_then_else_};
 ghost use Rattle.fault.specs.Fault.{lower as Fault·lower};
+ghost use Rattle.json_walk.specs.Walk.{membersOf};
 ghost use Rattle.json_ends.specs.Ends.{Ends};
 ghost use Rattle.event.specs.Overrides.{patchIn};
 ghost use Rattle.property.specs.From.{fieldsIn};
 ghost use Rattle.property.specs.Rows.{RowTo};
 ghost use Rattle.override_text.specs.Meaning.{detailsIn, overrideIn};
+ghost use Rattle.override_text.specs.Names.{single};
 ghost use Rattle.override_text.specs.Patched.{patchAt};
 use crate::Own;
 use crate::Patch;
@@ -44,12 +46,13 @@ fn join(
     lower(start, lower(length, lower(busy, lower(allday, texts))))
 }
 
-// `excluded` true stands beside no other member.
-fn excluded_fault(excluded: bool, single: bool) -> u32
-    ensures { λ r. ⌜ r ≡ (if excluded && not single then 7 else 0) ⌝ }
+// `excluded` true stands beside no other member of the object at a place. Only then the members are looked at.
+fn excluded_fault(text: &[u8], ends: &[u32], at: usize, excluded: bool) -> u32
+    requires { ⌜ Ends (now text) (now ends) ⌝ }
+    ensures { λ r. ⌜ r ≡ (if excluded && not (single (membersOf (now (text .entry)) at)) then 7 else 0) ⌝ }
 {
     if excluded {
-        if single {
+        if alone(text, ends, at) {
             return 0;
         }
         return 7;
@@ -72,7 +75,7 @@ fn patch_by(text: &[u8], ends: &[u32], at: usize, row: &[usize], own: Own, id: u
     let description = passage(text, at, row, DESCRIPTION, told);
     let excluded = flag(text, at, row, EXCLUDED, false);
     let rest = lower(
-        excluded_fault(excluded.value, alone(text, ends, at)),
+        excluded_fault(text, ends, at, excluded.value),
         names_fault(text, ends, at),
     );
     let fault = join(

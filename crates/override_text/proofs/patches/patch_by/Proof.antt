@@ -1,5 +1,6 @@
 -- `override_text::patches::patch_by` meets its contract: each property by its reader, and the faults joined.
 use mathlib.Core.Path.{_∙_}
+use Rattle.json_walk.specs.Walk.{membersOf}
 use Rattle.override_text.proofs.NameLaws.{alone-tree, names-tree}
 use Rattle.override_text.proofs.PatchLaws.{patch-made}
 use Rattle.property.specs.Vocabulary.{vocabulary, wordOf}
@@ -29,14 +30,11 @@ passage-requires-2 c κs = (c .before .before .before .before .before .before .b
 flag-requires-2 : tie.Need-flag-requires-2
 flag-requires-2 c κs = (c .before .before .before .before .before .before .before .before .before .pre .1 .0, omega (arith, c .before .before .before .before .before .before .before .before .before .pre .1 .1))
 
-alone-requires : tie.Need-alone-requires
-alone-requires c κs = c .before .before .before .before .before .before .before .before .before .before .pre .0
-
 excluded-fault-requires : tie.Need-excluded-fault-requires
-excluded-fault-requires c κs = search needs
+excluded-fault-requires c κs = c .before .before .before .before .before .before .before .before .before .before .pre .0
 
 names-fault-requires : tie.Need-names-fault-requires
-names-fault-requires c κs = c .before .before .before .before .before .before .before .before .before .before .before .before .pre .0
+names-fault-requires c κs = c .before .before .before .before .before .before .before .before .before .before .before .pre .0
 
 lower-requires : tie.Need-lower-requires
 lower-requires c κs = search needs
@@ -48,14 +46,14 @@ returns : tie.Need-returns
 unfolding wordOf vocabulary
 returns c =
     λ l. patch-made _ _ _ _ _ _ _ _ _ _ _ _
-    (c .before .before .before .before .before .before .before .before .before .before .before .start .ensures l)
-    (c .before .before .before .before .before .before .before .before .before .before .length .ensures l)
-    (c .before .before .before .before .before .before .before .before .before .busy .ensures l)
-    (c .before .before .before .before .before .before .before .before .flag .ensures l)
-    (c .before .before .before .before .before .before .before .passage .ensures l)
-    (c .before .before .before .before .before .before .passage2 .ensures l)
-    (c .before .before .before .before .before .flag2 .ensures l)
-    (c .before .before .before .before .alone .ensures ∙ alone-tree _ _ _)
+    (c .before .before .before .before .before .before .before .before .before .before .start .ensures l)
+    (c .before .before .before .before .before .before .before .before .before .length .ensures l)
+    (c .before .before .before .before .before .before .before .before .busy .ensures l)
+    (c .before .before .before .before .before .before .before .flag .ensures l)
+    (c .before .before .before .before .before .before .passage .ensures l)
+    (c .before .before .before .before .before .passage2 .ensures l)
+    (c .before .before .before .before .flag2 .ensures l)
+    (alone-tree _ _ (membersOf (c .before .before .before .before .before .before .before .before .before .before .before .before .before .before .args .text .now) (c .before .before .before .before .before .before .before .before .before .before .before .before .before .before .args .at)))
     (c .before .before .names-fault .ensures ∙ names-tree _ _ _)
     _ _ _
     (c .before .before .before .excluded-fault .ensures)
@@ -73,7 +71,6 @@ patch-by-spec =
     passage-requires
     passage-requires-2
     flag-requires-2
-    alone-requires
     excluded-fault-requires
     names-fault-requires
     lower-requires
