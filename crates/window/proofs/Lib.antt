@@ -6,3 +6,4 @@ pub mod RunLaws
 pub mod ChunkLaws
 pub mod ListLaws
 pub mod CountLaws
+pub mod SortedLaws

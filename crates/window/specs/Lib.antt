@@ -1,3 +1,4 @@
 pub mod Next
 pub mod Chunks
 pub mod Lists
+pub mod Sorted

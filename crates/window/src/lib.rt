@@ -2,4 +2,5 @@
 pub mod chunks;
 pub mod hits;
 pub mod next;
+pub mod sorted;
 pub mod whole;

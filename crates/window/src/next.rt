@@ -6,6 +6,8 @@ ghost use lib.ListN.{length};
 ghost use Rattle.signed.specs.Choose.{if_then_else_};
 ghost use Rattle.dates.specs.Overrides.{isNamed, isKept};
 ghost use Rattle.window.specs.Next.{firstFrom, noneIn, nextOf, atHit, TrueAt, isHit, dayFrom, nearer, leastOf, lower, renewed, Stretch};
+use super::sorted::next_sorted;
+use super::sorted::rises;
 
 // Whether an override names x: any, or one that is excluded.
 pub fn is_named(only: bool, ids: &[u64], gone: &[bool], x: u64) -> bool
@@ -54,9 +56,9 @@ fn nearest(ids: &[u64], gone: &[bool], at: u64, to: u64) -> u64
     best
 }
 
-// The first date-time from `at` on, and before `to`, that an override names and none excludes; `to` where there is none.
-// Whether another override excludes a date-time is asked only of the nearest, as asking it goes through all of them.
-pub fn next_kept(ids: &[u64], gone: &[bool], at: u64, to: u64) -> u64
+// Among overrides in any order. Whether another override excludes a date-time is asked only of the nearest, as asking it goes through all of
+// them.
+fn next_unsorted(ids: &[u64], gone: &[bool], at: u64, to: u64) -> u64
     requires { ⌜ (length (now ids) ≡ length (now gone)) × (at ≤ to) ⌝ }
     ensures { λ r. ⌜ r ≡ nextOf (isKept (now (ids .entry)) (now (gone .entry))) at to ⌝ }
 {
@@ -72,6 +74,18 @@ pub fn next_kept(ids: &[u64], gone: &[bool], at: u64, to: u64) -> u64
         from = x + 1;
     }
     to
+}
+
+// The first date-time from `at` on, and before `to`, that an override names and none excludes; `to` where there is none. Where the ids
+// increase, as those of most texts do, it is found by halving.
+pub fn next_kept(ids: &[u64], gone: &[bool], at: u64, to: u64) -> u64
+    requires { ⌜ (length (now ids) ≡ length (now gone)) × (at ≤ to) ⌝ }
+    ensures { λ r. ⌜ r ≡ nextOf (isKept (now (ids .entry)) (now (gone .entry))) at to ⌝ }
+{
+    if rises(ids) {
+        return next_sorted(ids, gone, at, to);
+    }
+    next_unsorted(ids, gone, at, to)
 }
 
 // What was next among the overrides, looked for again only where it was passed.

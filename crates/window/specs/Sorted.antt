@@ -1,0 +1,14 @@
+-- Overrides whose ids increase, as those of most texts do.
+use Prim.Native.Nat.{ℕ, _+_, _<_, _≤_}
+use mathlib.Core.List.{List}
+use lib.ListN.{length, getD}
+
+-- Each id is less than the one behind it.
+pub record Rising (ids : List ℕ) : Type 0 where
+  pub each : (i : ℕ) → i + 1 < length ids → getD ids i 0 < getD ids (i + 1) 0
+
+-- The place of the first id that is not less than x: that of x itself, where x is one of them.
+pub record Below (ids : List ℕ) (x r : ℕ) : Type 0 where
+  pub within : r ≤ length ids
+  pub less : (i : ℕ) → i < r → getD ids i 0 < x
+  pub rest : r < length ids → x ≤ getD ids r 0
