@@ -1,1 +1,2 @@
 pub mod RowLaws
+mod WeekLaws

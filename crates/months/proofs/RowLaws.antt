@@ -14,6 +14,7 @@ use Rattle.rule.proofs.Bools.{by}
 use Rattle.rule.proofs.Counting.{count-split, count-most, count-place, count-same}
 use Rattle.matcher.specs.Flags.{Places, named}
 use Rattle.months.specs.Kinds.{Kind, staysIn, chosenIn, picksIn}
+use Rattle.months.specs.Week.{Week, Prepared}
 use Rattle.months.specs.Rows.{answerAt, Wrote, rowOf, Kept, KeptAt}
 
 -- ---- writing
@@ -95,15 +96,27 @@ chosen-same fl p q n same k h =
 
 -- ---- the rows that are kept
 
-pub kept-none : (placed : Bool) (fl : List Bool) → Kept placed fl (replicate 896 false)
+pub kept-none : (placed : Bool) (fl : List Bool) → Kept placed fl (replicate 960 false)
 kept-none placed fl =
     record {
-      size = length-replicate 896 false;
-      row = λ w days kind e. absurd (false≢true (sym (getD-replicate 896 (rowOf w days + 31) false false (omega (arith, kind .week, kind .low, kind .high))) ∙ e));
+      size = length-replicate 960 false;
+      ready = λ e. absurd (false≢true (sym (getD-replicate 960 958 false false (omega arith)) ∙ e));
+      row = λ w days kind e. absurd (false≢true (sym (getD-replicate 960 (rowOf w days + 31) false false (omega (arith, kind .week, kind .low, kind .high))) ∙ e));
+    }
+
+-- the week is written behind the rows
+pub kept-prepared : (placed : Bool) (fl rows after : List Bool) → Kept placed fl rows → Prepared fl rows after → Kept placed fl after
+kept-prepared placed fl rows after kept p =
+    record {
+      size = p .size ∙ kept .size;
+      ready = λ e. p .week;
+      row = λ w days kind e k h.
+          p .same (rowOf w days + k) (omega (arith, kind .week, kind .low, kind .high))
+          ∙ kept .row w days kind (sym (p .same (rowOf w days + 31) (omega (arith, kind .week, kind .low, kind .high))) ∙ e) k h;
     }
 
 module _ (placed : Bool) (fl : List Bool) (weekday days : ℕ) (kind : Kind weekday days) (rows after : List Bool) (kept : Kept placed fl rows)
-    (wrote : Wrote (picksIn placed fl weekday days) rows (rowOf weekday days) days after) where
+    (week : Week fl rows) (wrote : Wrote (picksIn placed fl weekday days) rows (rowOf weekday days) days after) where
   own : (k : ℕ) → k < days → getD (set after (rowOf weekday days + 31) true) (rowOf weekday days + k) false ≡ picksIn placed fl weekday days k
   own k h = getD-set-other after (rowOf weekday days + 31) (rowOf weekday days + k) true false (λ same. omega (arith, kind .high)) ∙ wrote .here k h
 
@@ -113,6 +126,13 @@ module _ (placed : Bool) (fl : List Bool) (weekday days : ℕ) (kind : Kind week
 
   above : (j : ℕ) → rowOf weekday days + 32 ≤ j → getD (set after (rowOf weekday days + 31) true) j false ≡ getD rows j false
   above j h = getD-set-other after (rowOf weekday days + 31) j true false (λ same. omega arith) ∙ wrote .high j (omega (arith, kind .high))
+
+  week-stays : Week fl (set after (rowOf weekday days + 31) true)
+  week-stays =
+      record {
+        days = λ k h. above (896 + k) (omega (arith, kind .week, kind .low, kind .high)) ∙ week .days k h;
+        plain = λ e. week .plain (sym (above 959 (omega (arith, kind .week, kind .low, kind .high))) ∙ e);
+      }
 
   each : (w n : ℕ) → Kind w n → getD (set after (rowOf weekday days + 31) true) (rowOf w n + 31) false ≡ true
       → (k : ℕ) → k < n → getD (set after (rowOf weekday days + 31) true) (rowOf w n + k) false ≡ picksIn placed fl w n k
@@ -140,7 +160,12 @@ module _ (placed : Bool) (fl : List Bool) (weekday days : ℕ) (kind : Kind week
   pub keeps : KeptAt placed fl weekday days (set after (rowOf weekday days + 31) true) (rowOf weekday days)
   keeps =
       record {
-        kept = record { size = length-set after (rowOf weekday days + 31) true ∙ (wrote .size ∙ kept .size); row = each };
+        kept =
+            record {
+              size = length-set after (rowOf weekday days + 31) true ∙ (wrote .size ∙ kept .size);
+              ready = λ e. week-stays;
+              row = each;
+            };
         within = omega (arith, kind .week, kind .low, kind .high);
         row = own;
       }

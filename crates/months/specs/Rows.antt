@@ -5,6 +5,7 @@ use mathlib.Core.List.{List}
 use mathlib.Core.Path.{_≡_}
 use lib.ListN.{length, getD}
 use Rattle.months.specs.Kinds.{Kind, picksIn}
+use Rattle.months.specs.Week.{Week}
 
 unfoldable pub answerAt : List Bool → ℕ → ℕ → Bool
 answerAt rows at k = getD rows (at + k) false
@@ -20,8 +21,10 @@ pub record Wrote (p : ℕ → Bool) (before : List Bool) (at n : ℕ) (rows : Li
 abbrev pub rowOf : ℕ → ℕ → ℕ
 rowOf weekday days = 224 * (days - 28) + 32 * weekday
 
+-- Place 958 says whether the week is written.
 pub record Kept (placed : Bool) (fl rows : List Bool) : Type 0 where
-  pub size : length rows ≡ 896
+  pub size : length rows ≡ 960
+  pub ready : getD rows 958 false ≡ true → Week fl rows
   pub row : (weekday days : ℕ) → Kind weekday days → getD rows (rowOf weekday days + 31) false ≡ true
       → (k : ℕ) → k < days → getD rows (rowOf weekday days + k) false ≡ picksIn placed fl weekday days k
 
@@ -30,3 +33,11 @@ pub record KeptAt (placed : Bool) (fl : List Bool) (weekday days : ℕ) (rows : 
   pub kept : Kept placed fl rows
   pub within : at + days ≤ 896
   pub row : (k : ℕ) → k < days → getD rows (at + k) false ≡ picksIn placed fl weekday days k
+
+-- The row of a kind can be written.
+pub record Writing (fl : List Bool) (weekday days : ℕ) (rows : List Bool) (at : ℕ) : Type 0 where
+  pub flags : length fl ≡ 1574
+  pub kind : Kind weekday days
+  pub within : at + days ≤ 896
+  pub size : length rows ≡ 960
+  pub week : Week fl rows

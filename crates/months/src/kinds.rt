@@ -21,6 +21,7 @@ pub fn keep(flags: &[bool], placed: bool, weekday: u32, days: u32, rows: &mut [b
     if rows[at + 31] {
         return at;
     }
+    super::week::prepare(flags, rows);
     super::rows::write_row(flags, placed, weekday, days, rows, at);
     rows[at + 31] = true;
     at

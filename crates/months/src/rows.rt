@@ -7,7 +7,8 @@ ghost use Rattle.signed.specs.Choose.{if_then_else_};
 ghost use Rattle.rule.specs.Lists.{countIn};
 ghost use Rattle.matcher.specs.Flags.{Row, Places, named};
 ghost use Rattle.months.specs.Kinds.{Kind, staysIn, chosenIn, picksIn};
-ghost use Rattle.months.specs.Rows.{answerAt, Wrote};
+ghost use Rattle.months.specs.Rows.{answerAt, Wrote, Writing};
+ghost use Rattle.months.specs.Week.{NoPlaces};
 
 // Day k, from 0, of a month with that many days and with its first on that weekday.
 fn stays_in(flags: &[bool], weekday: u32, days: u32, k: u32) -> bool
@@ -24,7 +25,8 @@ fn stays_in(flags: &[bool], weekday: u32, days: u32, k: u32) -> bool
     matcher::flags::is_nth(flags, here, k, days)
 }
 
-fn write_days(flags: &[bool], weekday: u32, days: u32, rows: &mut [bool], at: usize)
+// One day after the other, with the places of the weekdays.
+fn write_each(flags: &[bool], weekday: u32, days: u32, rows: &mut [bool], at: usize)
     requires { ⌜ Row (length (now flags)) × (Kind weekday days × (at + days ≤ length (now rows))) ⌝ }
     ensures { λ r. ⌜ Wrote (staysIn (now (flags .entry)) weekday days) (now (rows .entry)) at days (now (rows .exit)) ⌝ }
 {
@@ -35,8 +37,50 @@ fn write_days(flags: &[bool], weekday: u32, days: u32, rows: &mut [bool], at: us
     }
 }
 
+fn either(a: bool, b: bool) -> bool
+    ensures { λ r. ⌜ r ≡ (if a then true else b) ⌝ }
+{
+    if a {
+        return true;
+    }
+    b
+}
+
+fn both(a: bool, b: bool) -> bool
+    ensures { λ r. ⌜ r ≡ (if a then b else false) ⌝ }
+{
+    if a {
+        return b;
+    }
+    false
+}
+
+// No branch and no division, so that many days are written at once.
+fn write_plain(flags: &[bool], weekday: usize, days: usize, rows: &mut [bool], at: usize)
+    requires { ⌜ NoPlaces (now flags) × Writing (now flags) weekday days (now rows) at ⌝ }
+    ensures { λ r. ⌜ Wrote (staysIn (now (flags .entry)) weekday days) (now (rows .entry)) at days (now (rows .exit)) ⌝ }
+{
+    let mut k = 0;
+    while k < days {
+        let date = either(flags[14 + k], flags[45 + days - k]);
+        rows[at + k] = both(date, rows[896 + weekday + k]);
+        k += 1;
+    }
+}
+
+fn write_days(flags: &[bool], weekday: u32, days: u32, rows: &mut [bool], at: usize)
+    requires { ⌜ Writing (now flags) weekday days (now rows) at ⌝ }
+    ensures { λ r. ⌜ Wrote (staysIn (now (flags .entry)) weekday days) (now (rows .entry)) at days (now (rows .exit)) ⌝ }
+{
+    if rows[959] {
+        write_plain(flags, weekday as usize, days as usize, rows, at);
+        return;
+    }
+    write_each(flags, weekday, days, rows, at);
+}
+
 fn one_more(n: u32, yes: bool) -> u32
-    requires { ⌜ n < 31 ⌝ }
+    requires { ⌜ n < 1000 ⌝ }
     ensures { λ r. ⌜ r ≡ n + (if yes then 1 else 0) ⌝ }
 {
     if yes {
@@ -45,8 +89,8 @@ fn one_more(n: u32, yes: bool) -> u32
     n
 }
 
-fn count_days(rows: &[bool], at: usize, days: u32) -> u32
-    requires { ⌜ (days ≤ 31) × (at + days ≤ length (now rows)) ⌝ }
+pub fn count_days(rows: &[bool], at: usize, days: u32) -> u32
+    requires { ⌜ (days ≤ 1000) × (at + days ≤ length (now rows)) ⌝ }
     ensures { λ r. ⌜ r ≡ countIn (answerAt (now (rows .entry)) at) 0 days ⌝ }
 {
     let mut k = 0;
@@ -92,7 +136,7 @@ pub fn write_row(
     rows: &mut [bool],
     at: usize,
 )
-    requires { ⌜ Row (length (now flags)) × (Kind weekday days × (at + days ≤ length (now rows))) ⌝ }
+    requires { ⌜ Writing (now flags) weekday days (now rows) at ⌝ }
     ensures { λ r. ⌜ Wrote (picksIn placed (now (flags .entry)) weekday days) (now (rows .entry)) at days (now (rows .exit)) ⌝ }
 {
     write_days(flags, weekday, days, rows, at);

@@ -40,7 +40,7 @@ pub fn mark_parts(
     requires { ⌜ Way alike terms (now flags) × Run terms (length (now flags)) first (length (now hits)) ⌝ }
     ensures { λ r. ⌜ now (hits .exit) ≡ marked (picksOnBy terms (now (flags .entry))) value first (now (hits .entry)) ⌝ }
 {
-    let mut rows = [false; 896];
+    let mut rows = [false; 960];
     let mut x = rule::days::day_of(first);
     let mut i = 0;
     while i < hits.len() {

@@ -3,7 +3,7 @@ use Rattle.months.proofs.RowLaws.{count-next}
 use Rattle.months.specs.Rows.{answerAt}
 use Rattle.rule.specs.Lists.{countIn}
 use Rattle.rule.proofs.Counting.{count-none, count-most}
-use Prim.Native.Nat.{ℕ, _+_, _-_, _≤_}
+use Prim.Native.Nat.{_-_, _≤_}
 use mathlib.Core.Path.{_≡_, sym, ap, _∙_}
 use native.Mathlib.Omega.{arith}
 use borrow.Author.Needs.{needs}

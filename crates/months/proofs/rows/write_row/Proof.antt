@@ -1,21 +1,17 @@
 -- `months::rows::write_row` meets its contract.
 use Rattle.months.proofs.RowLaws.{wrote-chosen, wrote-plain}
-use Rattle.months.specs.Kinds.{picksIn}
-use Rattle.months.specs.Rows.{Wrote}
-use mathlib.Core.Bool.{Bool}
-use mathlib.Core.Path.{_≡_, sym, subst, _∙_}
+use mathlib.Core.Path.{_∙_}
 use native.Mathlib.Omega.{arith}
-use borrow.Author.Needs.{needs}
 use Rattle.months.proofs.rows.write_row.Statement.{statement}
 use Rattle.months.proofs.rows.write_row.Tie as tie
 
 write-days-requires : tie.Need-write-days-requires
-write-days-requires c κs = search needs
+write-days-requires c κs = c .before .before .before .pre
 
 choose-days-requires : tie.Need-choose-days-requires
 choose-days-requires c κs =
     let p = c .before .before .before .before .before .before .before .before .pre in
-    (p .0, (p .1 .0 .high, omega (arith, p .1 .1, c .before .before .before .before .write-days .ensures .size)))
+    (p .flags, (p .kind .high, omega (arith, p .within, p .size, c .before .before .before .before .write-days .ensures .size)))
 
 same-length : tie.Need-same-length
 same-length c = c .before .before .choose-days .ensures .size ∙ c .before .before .before .before .before .before .before .write-days .ensures .size

@@ -1,6 +1,6 @@
 -- `track::alike::counts_in_months` meets its contract.
 use mathlib.Core.Bool.{false≢true}
-use mathlib.Core.Path.{_≡_, sym, _∙_}
+use mathlib.Core.Path.{sym, _∙_}
 use borrow.Author.Tests.{not-true}
 use borrow.Author.Needs.{needs}
 use Rattle.track.proofs.alike.counts_in_months.Statement.{statement}

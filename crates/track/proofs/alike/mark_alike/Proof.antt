@@ -3,7 +3,7 @@ use Rattle.track.proofs.AlikeLaws.{month-kind, unset-marked, out-marked
 use Rattle.track.specs.Skips.{toMonthEnd}
 use Rattle.matcher.proofs.WalkLaws.{asked-day, known}
 use native.Mathlib.Omega.{arith}
-use mathlib.Core.Path.{_≡_, sym, _∙_}
+use mathlib.Core.Path.{sym, _∙_}
 use borrow.Author.Tests.{not-true, not-false}
 use borrow.Author.Needs.{needs}
 use Rattle.track.proofs.alike.mark_alike.Statement.{statement}

@@ -3,7 +3,6 @@ use Rattle.track.proofs.LeapLaws.{month-not-last, month-holds-day}
 use Rattle.gregorian.specs.Month.{monthStart}
 use Prim.Native.Nat.{_-_, _≤_}
 use native.Mathlib.Omega.{arith}
-use mathlib.Core.Path.{_≡_, sym, subst}
 use borrow.Author.Needs.{needs}
 use Rattle.track.proofs.leaps.month_from.Statement.{statement}
 use Rattle.track.proofs.leaps.month_from.Tie as tie

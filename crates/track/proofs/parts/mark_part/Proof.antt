@@ -1,5 +1,4 @@
 -- `track::parts::mark_part` meets its contract.
-use mathlib.Core.Path.{_≡_}
 use borrow.Author.Needs.{needs}
 use Rattle.track.proofs.parts.mark_part.Statement.{statement}
 use Rattle.track.proofs.parts.mark_part.Tie as tie

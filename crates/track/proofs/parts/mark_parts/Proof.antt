@@ -7,9 +7,9 @@ use Rattle.matcher.proofs.WalkLaws.{number-is, day-again}
 use Rattle.months.specs.Rows.{Kept}
 use Rattle.months.proofs.RowLaws.{kept-none}
 use lib.ListN.{length}
-use Prim.Native.Nat.{ℕ, _+_, _-_}
+use Prim.Native.Nat.{_+_, _-_}
 use native.Mathlib.Omega.{arith}
-use mathlib.Core.Path.{_≡_, refl, sym, ap, _∙_}
+use mathlib.Core.Path.{_≡_, sym, ap, _∙_}
 use borrow.Author.Needs.{needs}
 use Rattle.track.proofs.parts.mark_parts.Statement.{statement}
 use Rattle.track.proofs.parts.mark_parts.Tie as tie

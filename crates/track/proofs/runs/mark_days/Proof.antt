@@ -1,6 +1,6 @@
 -- `track::runs::mark_days` meets its contract.
 use mathlib.Core.Bool.{false≢true}
-use mathlib.Core.Path.{_≡_, sym, _∙_}
+use mathlib.Core.Path.{sym, _∙_}
 use borrow.Author.Needs.{needs}
 use Rattle.track.proofs.runs.mark_days.Statement.{statement}
 use Rattle.track.proofs.runs.mark_days.Tie as tie

@@ -1,6 +1,6 @@
 -- `track::runs::mark_monthly` meets its contract.
 use mathlib.Core.Bool.{false≢true}
-use mathlib.Core.Path.{_≡_, sym}
+use mathlib.Core.Path.{sym}
 use borrow.Author.Needs.{needs}
 use Rattle.track.proofs.runs.mark_monthly.Statement.{statement}
 use Rattle.track.proofs.runs.mark_monthly.Tie as tie
