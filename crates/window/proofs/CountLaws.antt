@@ -10,7 +10,7 @@ use borrow.Author.Tests.{ltb-true, ltb-false, eqb-true, eq-eqb}
 use Rattle.signed.specs.Choose.{if_then_else_}
 use Rattle.rule.specs.Lists.{countIn}
 use Rattle.rule.proofs.Bools.{by}
-use Rattle.rule.proofs.Counting.{count-split, count-same, count-none}
+use Rattle.rule.proofs.Counting.{count-most, count-split, count-same, count-none}
 use Rattle.dates.specs.Overrides.{isNamed, isKept}
 use Rattle.window.specs.Next.{atHit, isHit, isThere, dayFrom, Stretch}
 use Rattle.window.proofs.NextLaws.{count-nothing}
@@ -29,6 +29,10 @@ counted-one p from to at found a before more is =
     let here : countIn p at 1 ≡ (if p at then 1 else 0) + countIn p (suc at) 0 = count-first p at 0 in
     let none = count-none p (suc at) in
     counted-goes-on p from to at found (at + 1) more a (omega arith) (omega arith) (rw one (omega arith))
+
+-- of a few days no more than that many are counted
+pub counted-few : (p : ℕ → Bool) (from to at found k : ℕ) → CountedAt p from to at found → to ≤ from + k → found ≤ k
+counted-few p from to at found k a few = omega (arith, a .sum, count-most p from (to - from))
 
 module _ (hits : List Bool) (first start : ℕ) where
   -- from `at` on, the first day that can be hit is `low`

@@ -38,6 +38,12 @@ pub record TrueAt (hits : List Bool) (from i : ℕ) : Type 0 where
   pub within : i ≤ length hits
   pub same : firstFrom (atHit hits) (length hits - i) i ≡ firstFrom (atHit hits) (length hits - from) from
 
+-- Some days from `low` on, not beyond `high`, of which a byte holds the number.
+pub record Few (low high end : ℕ) : Type 0 where
+  pub more : low < end
+  pub most : end ≤ high
+  pub few : end ≤ low + 128
+
 -- x has the start's time of day and its day's hit is set.
 unfoldable pub isHit : List Bool → ℕ → ℕ → ℕ → Bool
 isHit hits first start x = if eqb (x % 86400) (start % 86400) then getD hits (x / 86400 - first) false else false

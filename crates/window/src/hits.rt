@@ -1,19 +1,44 @@
 // How many days of a run are hit. Every day is looked at, so that the machine looks at many at once.
 ghost use mathlib.Core.Path.{_≡_};
-ghost use Prim.Native.Nat.{_-_, _≤_};
+ghost use Prim.Native.Nat.{_+_, _-_, _<_, _≤_};
 ghost use lib.ListN.{length};
 ghost use Rattle.signed.specs.Choose.{if_then_else_};
 ghost use Rattle.rule.specs.Lists.{countIn};
-ghost use Rattle.window.specs.Next.{atHit, isHit, Stretch};
+ghost use Rattle.window.specs.Next.{atHit, isHit, Few, Stretch};
 use super::next::day_from;
 
-fn one(hit: bool) -> u64
+fn one(hit: bool) -> u8
     ensures { λ r. ⌜ r ≡ (if hit then 1 else 0) ⌝ }
 {
     if hit {
         return 1;
     }
     0
+}
+
+// So few days that a byte holds their number: the machine counts sixteen at once.
+fn count_few(hits: &[bool], low: usize, high: usize) -> u8
+    requires { ⌜ (low ≤ high) × ((high ≤ length (now hits)) × (high ≤ low + 128)) ⌝ }
+    ensures { λ r. ⌜ r ≡ countIn (atHit (now (hits .entry))) low (high - low) ⌝ }
+{
+    let mut found: u8 = 0;
+    let mut i = low;
+    while i < high {
+        found += one(hits[i]);
+        i += 1;
+    }
+    found
+}
+
+// The end of the few days from one on.
+fn few_end(low: usize, high: usize) -> usize
+    requires { ⌜ low < high ⌝ }
+    ensures { λ r. ⌜ Few low high r ⌝ }
+{
+    if high - low < 128 {
+        return high;
+    }
+    low + 128
 }
 
 fn count_true(hits: &[bool], low: usize, high: usize) -> u64
@@ -23,8 +48,9 @@ fn count_true(hits: &[bool], low: usize, high: usize) -> u64
     let mut found: u64 = 0;
     let mut i = low;
     while i < high {
-        found += one(hits[i]);
-        i += 1;
+        let end = few_end(i, high);
+        found += count_few(hits, i, end) as u64;
+        i = end;
     }
     found
 }

@@ -122,7 +122,23 @@ fn none_in(hits: &[bool], low: usize, high: usize) -> bool
     none
 }
 
-// Sixteen days without a hit are passed at once.
+// As many blocks of 64 days as have no hit: a yearly rule has a hit in each sixth.
+fn past_blocks(hits: &[bool], from: usize) -> usize
+    requires { ⌜ from ≤ length (now hits) ⌝ }
+    ensures { λ r. ⌜ TrueAt (now (hits .entry)) from r ⌝ }
+{
+    let mut i = from;
+    while 64 <= hits.len() - i {
+        if none_in(hits, i, i + 64) {
+            i += 64;
+        } else {
+            return i;
+        }
+    }
+    i
+}
+
+// Sixteen days without a hit are passed at once, and behind them more.
 fn past_quiet(hits: &[bool], i: usize) -> usize
     requires { ⌜ i ≤ length (now hits) ⌝ }
     ensures { λ r. ⌜ TrueAt (now (hits .entry)) i r ⌝ }
@@ -131,7 +147,7 @@ fn past_quiet(hits: &[bool], i: usize) -> usize
         return i;
     }
     if none_in(hits, i, i + 16) {
-        return i + 16;
+        return past_blocks(hits, i + 16);
     }
     i
 }

@@ -2,8 +2,7 @@
 use Prim.Native.Nat.{_-_}
 use native.Mathlib.Omega.{arith}
 use Rattle.window.specs.Next.{atHit}
-use Rattle.window.proofs.ChunkLaws.{CountedAt, counted-starts, counted-ends}
-use Rattle.window.proofs.CountLaws.{counted-one}
+use Rattle.window.proofs.ChunkLaws.{CountedAt, counted-starts, counted-goes-on, counted-ends}
 use borrow.Author.Needs.{needs}
 use Rattle.window.proofs.hits.count_true.Statement.{statement}
 use Rattle.window.proofs.hits.count_true.Tie as tie
@@ -17,26 +16,28 @@ abbrev μ-loop : tie.MeasureT-loop
 loop-holds : tie.Need-loop-holds Inv-loop μ-loop
 loop-holds c = counted-starts _ _ _ (c .before .pre .0)
 
-shared-slice-read-one : tie.Need-shared-slice-read-one Inv-loop μ-loop
-shared-slice-read-one c = search needs
+few-end-requires : tie.Need-few-end-requires Inv-loop μ-loop
+few-end-requires c κs = search needs
 
-one-requires : tie.Need-one-requires Inv-loop μ-loop
-one-requires c κs = search needs
+count-few-requires : tie.Need-count-few-requires Inv-loop μ-loop
+count-few-requires c κs = (omega (arith, c .few-end .ensures .more), (omega (arith, c .few-end .ensures .most), c .few-end .ensures .few))
+
+cast-found : tie.Need-cast-found Inv-loop μ-loop
+cast-found c = search needs
 
 add-found : tie.Need-add-found Inv-loop μ-loop
 add-found c =
-    let next = counted-one _ _ _ _ _ (c .before .before .before .loop .inv) (c .before .before .loop-test .taken) _ (c .one .ensures) in
+    let e = c .before .few-end .ensures in
+    let next = counted-goes-on _ _ _ _ _ _ _ (c .before .before .before .loop .inv) (e .more) (e .most) (c .count-few .ensures) in
     omega (arith, next .few)
-
-add-i : tie.Need-add-i Inv-loop μ-loop
-add-i c = search needs
 
 loop-less : tie.Need-loop-less Inv-loop μ-loop
 loop-less c = search needs
 
 loop-again : tie.Need-loop-again Inv-loop μ-loop
 loop-again c =
-    counted-one _ _ _ _ _ (c .before .before .before .loop .inv) (c .before .before .loop-test .taken) _ (c .one .ensures)
+    let e = c .before .few-end .ensures in
+    counted-goes-on _ _ _ _ _ _ _ (c .before .before .before .loop .inv) (e .more) (e .most) (c .count-few .ensures)
 
 returns : tie.Need-returns Inv-loop μ-loop
 returns c = counted-ends _ _ _ _ _ (c .before .loop .inv) (c .loop-test .left)
@@ -48,10 +49,10 @@ count-true-spec =
     Inv-loop
     μ-loop
     loop-holds
-    shared-slice-read-one
-    one-requires
+    few-end-requires
+    count-few-requires
+    cast-found
     add-found
-    add-i
     loop-less
     loop-again
     returns)
