@@ -10,7 +10,7 @@ use Rattle.signed.specs.Choose.{if_then_else_}
 use Rattle.rule.specs.declared.End.{End}
 use Rattle.rule.specs.Lists.{countIn}
 use Rattle.rule.proofs.Bools.{by}
-use Rattle.rule.proofs.Counting.{count-more, count-less, count-none, count-split}
+use Rattle.rule.proofs.Counting.{count-more, count-less, count-none, count-split, count-most}
 use Rattle.rule.specs.declared.Day.{Day}
 use Rattle.matcher.specs.declared.Terms.{Terms}
 use Rattle.matcher.proofs.WalkLaws.{number-is, day-again}
@@ -24,7 +24,7 @@ use Rattle.track.proofs.LastLaws.{end-yes, end-no, end-leaps, falls-by}
 
 -- ---- how many of some days pass
 
-count-zero : (p : ℕ → Bool) (d g : ℕ) → ((j : ℕ) → d ≤ j → j < d + g → p j ≡ false) → countIn p d g ≡ 0
+pub count-zero : (p : ℕ → Bool) (d g : ℕ) → ((j : ℕ) → d ≤ j → j < d + g → p j ≡ false) → countIn p d g ≡ 0
 count-zero p d zero out = count-none p d
 count-zero p d (suc g) out =
     count-less p d g (out d (omega arith) (omega arith)) ∙ count-zero p (suc d) g (λ j low high. out j (omega arith) (omega arith))
@@ -60,16 +60,23 @@ module _ (p : ℕ → Bool) (d n : ℕ) where
         ap (countIn p (d + k)) one-less ∙ (count-less p (d + k) (n - (k + 1)) e ∙ ap (λ (j : ℕ). countIn p j (n - (k + 1))) next) in
         record { within = omega arith; few = omega (arith, i .few); sum = omega (arith, i .sum, here) }
 
+  count-parts : (k g : ℕ) → k + g ≤ n → countIn p (d + k) (n - k) ≡ countIn p (d + k) g + countIn p (d + (k + g)) (n - (k + g))
+  count-parts k g h =
+      let rest : g + (n - (k + g)) ≡ n - k = omega arith in
+      let there : d + k + g ≡ d + (k + g) = omega arith in
+      sym (ap (countIn p (d + k)) rest)
+      ∙ (count-split p (d + k) g (n - (k + g)) ∙ ap (λ (j : ℕ). countIn p (d + k) g + countIn p j (n - (k + g))) there)
+
   -- none of some days passes
   pub count-passes : (k found g : ℕ) → CountAt p d n k found → k + g ≤ n → ((j : ℕ) → d + k ≤ j → j < d + k + g → p j ≡ false)
       → CountAt p d n (k + g) found
   count-passes k found g i h out =
-      let rest : g + (n - (k + g)) ≡ n - k = omega arith in
-      let there : d + k + g ≡ d + (k + g) = omega arith in
-      let split : countIn p (d + k) (n - k) ≡ countIn p (d + k) g + countIn p (d + (k + g)) (n - (k + g)) =
-      sym (ap (countIn p (d + k)) rest)
-      ∙ (count-split p (d + k) g (n - (k + g)) ∙ ap (λ (j : ℕ). countIn p (d + k) g + countIn p j (n - (k + g))) there) in
-      record { within = h; few = omega (arith, i .few); sum = omega (arith, i .sum, split, count-zero p (d + k) g out) }
+      record { within = h; few = omega (arith, i .few); sum = omega (arith, i .sum, count-parts k g h, count-zero p (d + k) g out) }
+
+  -- some days that were counted
+  pub count-adds : (k found g : ℕ) → CountAt p d n k found → k + g ≤ n → CountAt p d n (k + g) (found + countIn p (d + k) g)
+  count-adds k found g i h =
+      record { within = h; few = omega (arith, i .few, count-most p (d + k) g); sum = omega (arith, i .sum, count-parts k g h) }
 
   pub count-ends : (k found : ℕ) → CountAt p d n k found → n ≤ k → found ≡ countIn p d n
   count-ends k found i over =
@@ -118,6 +125,16 @@ module _ (p : ℕ → Bool) (first n : ℕ) where
           count-ends p first n (d - first + left) found
           (count-passes p first n (d - first) found left (i .count) (omega (arith, i .ends, i .low)) (λ j low high. out j (omega (arith, here)) (omega (arith, here))))
           (omega (arith, i .ends, i .low))
+
+    pub tally-adds : (next g r : ℕ) → next ≡ d + g → g ≤ left → r ≡ countIn p d g → Tally p first n next (left - g) (found + r)
+    tally-adds next g r f h is =
+        let on : next - first ≡ d - first + g = omega (arith, i .low) in
+        let counted : r ≡ countIn p (first + (d - first)) g = is ∙ sym (ap (λ (j : ℕ). countIn p j g) here) in
+        record {
+          low = omega (arith, i .low);
+          ends = omega (arith, i .ends);
+          count = rw (on, counted) (count-adds p first n (d - first) found g (i .count) (omega (arith, i .ends, i .low)));
+        }
 
     pub tally-over : left ≤ 0 → found ≡ countIn p first n
     tally-over h = count-ends p first n (d - first) found (i .count) (omega (arith, i .ends, i .low))

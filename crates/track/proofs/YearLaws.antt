@@ -5,9 +5,9 @@ use mathlib.Core.List.{List}
 use mathlib.Core.Option.{none}
 use mathlib.Core.Path.{_≡_, refl, sym, ap, _∙_, subst}
 use native.Mathlib.Omega.{arith}
-use native.Mathlib.Nat.{mod-lt}
+use native.Mathlib.Nat.{mod-lt, zero-mod}
 use lib.Dec.{eqb, ltb}
-use lib.ListN.{length, getD, set, replicate, length-set, length-replicate, getD-replicate}
+use lib.ListN.{length, getD, set, replicate, length-set, length-replicate, getD-replicate, List·getD-eq-default}
 use lib.Seq.{getD-set-same, getD-set-other}
 use borrow.Author.Tests.{eqb-true, eqb-false, ltb-true, ltb-false, leb-true, ne-eqb}
 use Rattle.signed.specs.Choose.{if_then_else_}
@@ -29,13 +29,18 @@ use Rattle.rule.proofs.Counting.{count-most}
 use Rattle.rule.proofs.DayLaws.{InCalendar, day-facts, year-start-of}
 use Rattle.rule.proofs.PeriodLaws.{day-number}
 use Rattle.matcher.specs.declared.Terms.{Terms}
-use Rattle.matcher.specs.Walk.{picksOnBy}
+use Rattle.matcher.specs.Walk.{stepBy, picksOnBy}
 use Rattle.matcher.specs.Member.{isFirst, fallsOnBy}
 use Rattle.matcher.proofs.WalkLaws.{in-calendar}
 use Rattle.track.specs.declared.Rest.{Rest}
 use Rattle.track.specs.Ahead.{Resting}
-use Rattle.track.specs.Years.{ownsPlaces, isAlike, isFar, NewYear, phaseOf, slotOf, YearBegins, Alike, YearAsked, Kept}
+use Rattle.track.specs.Years.{ownsPlaces, isAlike, isFar, NewYear, phaseOf, idleIn, isIdle, slotOf, YearBegins, Alike, Spanning, YearAsked, Kept}
+use Rattle.track.specs.Skips.{Without, stepAt, stepOn}
 use Rattle.track.proofs.LastLaws.{falls-by}
+use Rattle.track.proofs.AheadLaws.{count-zero, falls-without}
+use Rattle.track.proofs.SkipLaws.{periods-without, skip-out-of-step}
+use Rattle.track.proofs.AlikeLaws.{year-same}
+use Rattle.track.proofs.NeighbourLaws.{year-ends}
 use Rattle.track.proofs.SpanLaws.{year-length-of}
 use Rattle.track.proofs.KindLaws.{count-shift, picks-alike}
 
@@ -82,12 +87,11 @@ unfolding isFar
 far-enough true left e = omega (arith, leb-true 12000 left e)
 far-enough false left e = omega (arith, leb-true 100000 left e)
 
-pub year-asked : (end : End) (t : Terms) (row start : ℕ) (a : Rest) → Resting t row start a → Alike t → untilFrom end ≡ none
+pub year-asked : (end : End) (t : Terms) (row start : ℕ) (a : Rest) → Resting t row start a → untilFrom end ≡ none
     → (x : Day) → NewYear x → start / 86400 < x .number → x .number < endDay → YearAsked end t row start x
-year-asked end t row start a r alike endless x new after high =
+year-asked end t row start a r endless x new after high =
     record {
       row-length = r .row-length;
-      alike = alike;
       begins =
           record {
             new = new;
@@ -102,33 +106,34 @@ year-asked end t row start a r alike endless x new after high =
 
 -- ---- the kind of a year by its slot
 
+module _ (t : Terms) (x : Day) (begins : YearBegins t x) where
+  parts : InCalendar x
+  parts = let high = begins .high in in-calendar x (x .number) (begins .new .day) (omega arith)
+
+  pub year-long : 365 ≤ x .yeardays
+  year-long =
+      let is = begins .new .day in
+      let whole = ap (λ (d : Day). d .yeardays) is ∙ year-length-of (x .number) in
+      omega (arith, year-least (dayAt (x .number) .year))
+
+  pub year-short : x .yeardays ≤ 366
+  year-short = parts .yeardays
+
 module _ (t : Terms) (alike : Alike t) where
   phase-few : (x : Day) → phaseOf t x < 512
   unfolding phaseOf
   phase-few x = omega (arith, mod-lt (periodOf (t .frequency) (t .first) x - t .period) (alike .some-periods), alike .few)
 
   module _ (x : Day) (begins : YearBegins t x) where
-    parts : InCalendar x
-    parts = let high = begins .high in in-calendar x (x .number) (begins .new .day) (omega arith)
-
-    pub year-long : 365 ≤ x .yeardays
-    year-long =
-        let is = begins .new .day in
-        let whole = ap (λ (d : Day). d .yeardays) is ∙ year-length-of (x .number) in
-        omega (arith, year-least (dayAt (x .number) .year))
-
-    pub year-short : x .yeardays ≤ 366
-    year-short = parts .yeardays
-
     pub slot-below : slotOf t x < 7168
     unfolding slotOf
-    slot-below = omega (arith, phase-few x, year-short, parts .weekday)
+    slot-below = omega (arith, phase-few x, year-short t x begins, parts t x begins .weekday)
 
   module _ (x y : Day) (begins-x : YearBegins t x) (begins-y : YearBegins t y) (same : slotOf t x ≡ slotOf t y) where
     same-yeardays : x .yeardays ≡ y .yeardays
     unfolding slotOf
     same-yeardays =
-        omega (arith, same, phase-few x, phase-few y, year-long x begins-x, year-short x begins-x, parts x begins-x .weekday, year-long y begins-y, year-short y begins-y, parts y begins-y .weekday)
+        omega (arith, same, phase-few x, phase-few y, year-long t x begins-x, year-short t x begins-x, parts t x begins-x .weekday, year-long t y begins-y, year-short t y begins-y, parts t y begins-y .weekday)
 
     same-weekday : x .weekday ≡ y .weekday
     unfolding slotOf
@@ -160,15 +165,92 @@ module _ (t : Terms) (alike : Alike t) where
           ∙ sym (falls-picks (y .number + k) (omega arith))))
           ∙ ap (countIn (fallsOnBy excluded end t row start) (y .number)) same-yeardays
 
+pub year-spanning : (end : End) (t : Terms) (row start : ℕ) (x : Day) → YearAsked end t row start x → Spanning t row start x (x .yeardays)
+year-spanning end t row start x y =
+    let b = y .begins in
+    record {
+      row-length = y .row-length;
+      week = b .week;
+      day = b .new .day;
+      low = b .low;
+      known = year-ends x (b .new) (b .low) (b .high);
+      after = omega (arith, y .after);
+      starts = omega (arith, y .after, b .high);
+    }
+
+-- ---- years out of step
+
+module _ (t : Terms) (x : Day) (begins : YearBegins t x) (idle : isIdle t x ≡ true) where
+  idle-facts : (f : Frequency) (interval phase : ℕ) → idleIn f interval phase ≡ true → (f ≡ Monthly) × ((phase ≡ 0 → ⊥) × (12 ≤ interval - phase))
+  unfolding idleIn
+  idle-facts Daily interval phase e = absurd (false≢true e)
+  idle-facts Weekly interval phase e = absurd (false≢true e)
+  idle-facts Monthly interval phase e =
+      by (eqb phase 0) (λ f. absurd (false≢true (rw f at e)))
+      (λ f. (refl, (eqb-false phase 0 f, leb-true 12 (interval - phase) (rw f at e))))
+  idle-facts Yearly interval phase e = absurd (false≢true e)
+
+  wide-facts : (12 ≤ t .interval) × (idleIn (t .frequency) (t .interval) (phaseOf t x) ≡ true)
+  unfolding isIdle
+  wide-facts =
+      by (ltb (t .interval) 12) (λ e. absurd (false≢true (rw e at idle))) (λ e. (ltb-false (t .interval) 12 e, rw e at idle))
+
+  monthly : t .frequency ≡ Monthly
+  monthly = idle-facts (t .frequency) (t .interval) (phaseOf t x) (wide-facts .1) .0
+
+  out-of-step : Without (stepAt t) (periodOf (t .frequency) (t .first) x) 12
+  unfolding phaseOf
+  out-of-step =
+      let facts = idle-facts (t .frequency) (t .interval) (phaseOf t x) (wide-facts .1) .1 in
+      let begun = begins .begun in
+      let after : t .period < periodOf (t .frequency) (t .first) x =
+      by (ltb (t .period) (periodOf (t .frequency) (t .first) x)) (λ e. ltb-true (t .period) (periodOf (t .frequency) (t .first) x) e)
+      (λ e.
+      let none-far : periodOf (t .frequency) (t .first) x - t .period ≡ 0 = omega (arith, ltb-false (t .period) (periodOf (t .frequency) (t .first) x) e) in
+      absurd (facts .0 (rw none-far (zero-mod (t .interval)))))
+      in
+      periods-without t (periodOf (t .frequency) (t .first) x) (omega (arith, wide-facts .0)) after (facts .0) 12 (facts .1) (omega arith)
+
+  month-of : (j : ℕ) → x .number ≤ j → j < x .number + x .yeardays
+      → (periodOf (t .frequency) (t .first) x ≤ periodOf (t .frequency) (t .first) (dayAt j)) × (periodOf (t .frequency) (t .first) (dayAt j) < periodOf (t .frequency) (t .first) x + 12)
+  unfolding periodOf
+  month-of j low high =
+      let top = begins .high in
+      let there : x .number + (j - x .number) ≡ j = omega arith in
+      let year : dayAt j .year ≡ x .year =
+      sym (ap (λ (n : ℕ). dayAt n .year) there) ∙ year-same x (begins .new) (begins .high) (j - x .number) (omega arith) in
+      let facts = day-facts j (omega (arith, year-short t x begins)) in
+      rw monthly (omega (arith, facts .month-low, begins .new .month), omega (arith, facts .month-high, begins .new .month))
+
+  idle-without : Without (stepOn t) (x .number) (x .yeardays)
+  unfolding stepOn stepBy stepAt
+  idle-without =
+      record {
+        none = λ j low high.
+            let there = month-of j low high in
+            out-of-step .none (periodOf (t .frequency) (t .first) (dayAt j)) (there .0) (there .1);
+        few = omega (arith, year-short t x begins);
+      }
+
+  pub idle-counts : (excluded : Bool) (end : End) (row : List Bool) (start : ℕ) → start / 86400 < x .number
+      → 0 ≡ countIn (fallsOnBy excluded end t row start) (x .number) (x .yeardays)
+  idle-counts excluded end row start after =
+      sym (count-zero (fallsOnBy excluded end t row start) (x .number) (x .yeardays)
+      (falls-without excluded end t row start (x .number) (x .yeardays)
+      (record { out = skip-out-of-step t row (x .number) (x .yeardays) idle-without; after = λ some-days. after })))
+
 -- ---- what is kept
 
-pub kept-none : (p : ℕ → Bool) (t : Terms) (first n : ℕ) → Alike t → n ≡ 7168 → Kept p t first (replicate n 0)
-kept-none p t first n alike e =
+never-kept : (n i : ℕ) → _≡_ {A = ℕ} (getD (replicate n 0) i 0) 0
+never-kept n i =
+    by (ltb i n) (λ e. getD-replicate {A = ℕ} n i 0 0 (ltb-true i n e))
+    (λ e. List·getD-eq-default {A = ℕ} (replicate n 0) 0 (omega (arith, ltb-false i n e, length-replicate {A = ℕ} n 0)))
+
+pub kept-none : (p : ℕ → Bool) (t : Terms) (first n : ℕ) → n ≡ 7168 → Kept p t first (replicate n 0)
+kept-none p t first n e =
     record {
       size = length-replicate {A = ℕ} n 0 ∙ e;
-      days = λ x begins after some-days.
-          let none-yet = getD-replicate {A = ℕ} n (slotOf t x) 0 0 (omega (arith, slot-below t alike x begins)) in
-          absurd (omega arith);
+      days = λ x begins after some-days. absurd (omega (arith, never-kept n (slotOf t x)));
     }
 
 pub kept-said : (p : ℕ → Bool) (t : Terms) (first : ℕ) (known : List ℕ) → Kept p t first known → (x : Day) → YearBegins t x → first < x .number

@@ -51,6 +51,21 @@ phaseOf t x = (periodOf (t .frequency) (t .first) x - t .period) % t .interval
 unfoldable pub slotOf : Terms → Day → ℕ
 slotOf t x = 512 * (7 * (x .yeardays - 365) + x .weekday) + phaseOf t x
 
+-- No month of a year is in step, by how far the period of its first day lies behind one in step.
+unfoldable pub idleIn : Frequency → ℕ → ℕ → Bool
+idleIn Daily interval phase = false
+idleIn Weekly interval phase = false
+idleIn Monthly interval phase = if eqb phase 0 then false else leb 12 (interval - phase)
+idleIn Yearly interval phase = false
+
+unfoldable pub isIdle : Terms → Day → Bool
+isIdle t x = if ltb (t .interval) 12 then false else idleIn (t .frequency) (t .interval) (phaseOf t x)
+
+-- Some of the days that are left.
+pub record Some (left n : ℕ) : Type 0 where
+  pub more : 1 ≤ n
+  pub most : n ≤ left
+
 -- The first day of a year of the profile, not before the rule's first period.
 pub record YearBegins (t : Terms) (x : Day) : Type 0 where
   pub new : NewYear x
@@ -78,7 +93,6 @@ pub record Spanning (t : Terms) (row start : ℕ) (x : Day) (n : ℕ) : Type 0 w
 -- A year behind the start of a rule that only its count ends.
 pub record YearAsked (end : End) (t : Terms) (row start : ℕ) (x : Day) : Type 0 where
   pub row-length : row ≡ 1574
-  pub alike : Alike t
   pub begins : YearBegins t x
   pub after : start / 86400 < x .number
   pub endless : untilFrom end ≡ none

@@ -59,7 +59,7 @@ fn count_month(
 }
 
 // Days from this one on that surely are none of the rule's; the start's own day may be.
-fn out_after(terms: Terms, flags: &[bool], first: u32, x: Day) -> u32
+pub fn out_after(terms: Terms, flags: &[bool], first: u32, x: Day) -> u32
     requires { ⌜ Asked terms (length (now flags)) x ⌝ }
     ensures { λ r. ⌜ OutAfter terms (now (flags .entry)) first (x .number) r ⌝ }
 {

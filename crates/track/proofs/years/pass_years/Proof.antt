@@ -26,7 +26,7 @@ abbrev μ-loop : tie.MeasureT-loop
 loop-holds : tie.Need-loop-holds Inv-loop μ-loop
 loop-holds c =
     let p = c .before .before .pre in
-    (p .0 .1, (end-begins _ _ _ _, kept-none _ _ _ _ (p .0 .0 .0) refl))
+    (p .0 .1, (end-begins _ _ _ _, kept-none _ _ _ _ refl))
 
 slice-aggregate-year-count : tie.Need-slice-aggregate-year-count Inv-loop μ-loop
 slice-aggregate-year-count c = search needs
@@ -36,7 +36,7 @@ year-count-requires c κs =
     let w = c .before .before .loop .inv in
     let s = c .before .before .before .before .before in
     let p = s .pre in
-    let y = year-asked (s .args .end) (s .args .terms) _ (s .args .start) _ (p .1) (p .0 .0 .0) (p .0 .0 .1) _ (w .0 .0) (w .0 .1) (omega (arith, w .1 .0 .ends, p .1 .within, c .before .loop-test .taken)) in
+    let y = year-asked (s .args .end) (s .args .terms) _ (s .args .start) _ (p .1) (p .0 .0) _ (w .0 .0) (w .0 .1) (omega (arith, w .1 .0 .ends, p .1 .within, c .before .loop-test .taken)) in
     (y, w .1 .1)
 
 cast-if1 : tie.Need-cast-if1 Inv-loop μ-loop
@@ -58,35 +58,35 @@ sub-left c =
     let w = c .before .before .before .before .before .loop .inv in
     let s = c .before .before .before .before .before .before .before .before in
     let p = s .pre in
-    let y = year-asked (s .args .end) (s .args .terms) _ (s .args .start) _ (p .1) (p .0 .0 .0) (p .0 .0 .1) _ (w .0 .0) (w .0 .1) (omega (arith, w .1 .0 .ends, p .1 .within, c .before .before .before .before .loop-test .taken)) in
-    omega (arith, year-short _ (y .alike) _ (y .begins), c .before .before .before .before .loop-test .taken)
+    let y = year-asked (s .args .end) (s .args .terms) _ (s .args .start) _ (p .1) (p .0 .0) _ (w .0 .0) (w .0 .1) (omega (arith, w .1 .0 .ends, p .1 .within, c .before .before .before .before .loop-test .taken)) in
+    omega (arith, year-short _ _ (y .begins), c .before .before .before .before .loop-test .taken)
 
 days-later-requires : tie.Need-days-later-requires Inv-loop μ-loop
 days-later-requires c κs =
     let w = c .before .before .before .before .before .loop .inv in
     let s = c .before .before .before .before .before .before .before .before in
     let p = s .pre in
-    let y = year-asked (s .args .end) (s .args .terms) _ (s .args .start) _ (p .1) (p .0 .0 .0) (p .0 .0 .1) _ (w .0 .0) (w .0 .1) (omega (arith, w .1 .0 .ends, p .1 .within, c .before .before .before .before .loop-test .taken)) in
-    (w .0 .0 .day, (omega (arith, year-long _ (y .alike) _ (y .begins)), omega (arith, year-short _ (y .alike) _ (y .begins), w .1 .0 .ends, p .1 .within, c .before .before .before .before .loop-test .taken)))
+    let y = year-asked (s .args .end) (s .args .terms) _ (s .args .start) _ (p .1) (p .0 .0) _ (w .0 .0) (w .0 .1) (omega (arith, w .1 .0 .ends, p .1 .within, c .before .before .before .before .loop-test .taken)) in
+    (w .0 .0 .day, (omega (arith, year-long _ _ (y .begins)), omega (arith, year-short _ _ (y .begins), w .1 .0 .ends, p .1 .within, c .before .before .before .before .loop-test .taken)))
 
 loop-less : tie.Need-loop-less Inv-loop μ-loop
 loop-less c =
     let w = c .before .before .before .before .before .before .loop .inv in
     let s = c .before .before .before .before .before .before .before .before .before in
     let p = s .pre in
-    let y = year-asked (s .args .end) (s .args .terms) _ (s .args .start) _ (p .1) (p .0 .0 .0) (p .0 .0 .1) _ (w .0 .0) (w .0 .1) (omega (arith, w .1 .0 .ends, p .1 .within, c .before .before .before .before .before .loop-test .taken)) in
-    omega (arith, year-long _ (y .alike) _ (y .begins), c .before .before .before .before .before .loop-test .taken)
+    let y = year-asked (s .args .end) (s .args .terms) _ (s .args .start) _ (p .1) (p .0 .0) _ (w .0 .0) (w .0 .1) (omega (arith, w .1 .0 .ends, p .1 .within, c .before .before .before .before .before .loop-test .taken)) in
+    omega (arith, year-long _ _ (y .begins), c .before .before .before .before .before .loop-test .taken)
 
 loop-again : tie.Need-loop-again Inv-loop μ-loop
 loop-again c =
     let w = c .before .before .before .before .before .before .loop .inv in
     let s = c .before .before .before .before .before .before .before .before .before in
     let p = s .pre in
-    let y = year-asked (s .args .end) (s .args .terms) _ (s .args .start) _ (p .1) (p .0 .0 .0) (p .0 .0 .1) _ (w .0 .0) (w .0 .1) (omega (arith, w .1 .0 .ends, p .1 .within, c .before .before .before .before .before .loop-test .taken)) in
+    let y = year-asked (s .args .end) (s .args .terms) _ (s .args .start) _ (p .1) (p .0 .0) _ (w .0 .0) (w .0 .1) (omega (arith, w .1 .0 .ends, p .1 .within, c .before .before .before .before .before .loop-test .taken)) in
     let b = y .begins in
     let e = c .days-later .ensures in
     let found = c .before .before .before .year-count .ensures in
-    ((subst NewYear (sym e) (next-new _ (b .new) (b .low) (b .high)), omega (arith, number-is _ _ e, w .0 .1)), (end-passes _ _ _ _ _ _ _ (w .1 .0) _ _ _ (number-is _ _ e) (omega (arith, year-short _ (y .alike) _ b, c .before .before .before .before .before .loop-test .taken)) (found .0) (c .before .if1 .left), found .1))
+    ((subst NewYear (sym e) (next-new _ (b .new) (b .low) (b .high)), omega (arith, number-is _ _ e, w .0 .1)), (end-passes _ _ _ _ _ _ _ (w .1 .0) _ _ _ (number-is _ _ e) (omega (arith, year-short _ _ b, c .before .before .before .before .before .loop-test .taken)) (found .0) (c .before .if1 .left), found .1))
 
 returns-2 : tie.Need-returns-2 Inv-loop μ-loop
 returns-2 c =

@@ -24,22 +24,22 @@ rem-phase c = search needs
 sub-result : tie.Need-sub-result
 sub-result c =
     let p = c .before .before .before .pre in
-    omega (arith, year-long _ (p .0) _ (p .1))
+    omega (arith, year-long _ _ (p .1))
 
 mul-result : tie.Need-mul-result
 mul-result c =
     let p = c .before .before .before .pre in
-    omega (arith, year-short _ (p .0) _ (p .1))
+    omega (arith, year-short _ _ (p .1))
 
 add-result : tie.Need-add-result
 add-result c =
     let p = c .before .before .before .before .pre in
-    omega (arith, year-short _ (p .0) _ (p .1), in-calendar _ _ (p .1 .new .day) (omega (arith, p .1 .high)) .weekday)
+    omega (arith, year-short _ _ (p .1), in-calendar _ _ (p .1 .new .day) (omega (arith, p .1 .high)) .weekday)
 
 mul-result-2 : tie.Need-mul-result-2
 mul-result-2 c =
     let p = c .before .before .before .before .pre in
-    omega (arith, year-short _ (p .0) _ (p .1), in-calendar _ _ (p .1 .new .day) (omega (arith, p .1 .high)) .weekday)
+    omega (arith, year-short _ _ (p .1), in-calendar _ _ (p .1 .new .day) (omega (arith, p .1 .high)) .weekday)
 
 add-result-2 : tie.Need-add-result-2
 unfolding slotOf phaseOf
