@@ -39,7 +39,7 @@ use Rattle.track.specs.Skips.{Without, stepAt, stepOn}
 use Rattle.track.proofs.LastLaws.{falls-by}
 use Rattle.track.proofs.AheadLaws.{count-zero, falls-without}
 use Rattle.track.proofs.SkipLaws.{periods-without, skip-out-of-step}
-use Rattle.track.proofs.AlikeLaws.{year-same}
+use Rattle.track.proofs.YearDayLaws.{year-same}
 use Rattle.track.proofs.NeighbourLaws.{year-ends}
 use Rattle.track.proofs.SpanLaws.{year-length-of}
 use Rattle.track.proofs.KindLaws.{count-shift, picks-alike}
