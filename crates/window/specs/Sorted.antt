@@ -1,11 +1,17 @@
 -- Overrides whose ids increase, as those of most texts do.
 use Prim.Native.Nat.{ℕ, _+_, _<_, _≤_}
+use mathlib.Core.Bool.{Bool, true}
 use mathlib.Core.List.{List}
+use mathlib.Core.Path.{_≡_}
 use lib.ListN.{length, getD}
 
 -- Each id is less than the one behind it.
 pub record Rising (ids : List ℕ) : Type 0 where
   pub each : (i : ℕ) → i + 1 < length ids → getD ids i 0 < getD ids (i + 1) 0
+
+-- What is known of ids that were found to increase, and nothing of others.
+abbrev pub Ordered : List ℕ → Bool → Type 0
+Ordered ids sorted = sorted ≡ true → Rising ids
 
 -- The place of the first id that is not less than x: that of x itself, where x is one of them.
 pub record Below (ids : List ℕ) (x r : ℕ) : Type 0 where

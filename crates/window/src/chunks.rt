@@ -47,8 +47,9 @@ fn count_each(
     requires { ⌜ Stretch first (length (now hits)) at to × (length (now ids) ≡ length (now gone)) ⌝ }
     ensures { λ r. ⌜ r ≡ countIn (isThere (now (hits .entry)) first start (now (ids .entry)) (now (gone .entry))) at (to - at) ⌝ }
 {
+    let sorted = super::sorted::rises(ids);
     let mut from = at;
-    let mut pending = super::next::next_kept(ids, gone, at, to);
+    let mut pending = super::next::next_kept(ids, gone, sorted, at, to);
     let mut found: u64 = 0;
     while from < to {
         let x = super::next::next_in(hits, first, start, pending, from, to);
@@ -57,7 +58,7 @@ fn count_each(
         }
         found += 1;
         from = x + 1;
-        pending = super::next::renew(ids, gone, pending, x + 1, to);
+        pending = super::next::renew(ids, gone, sorted, pending, x + 1, to);
     }
     found
 }
@@ -94,6 +95,7 @@ pub fn next_run(
     requires { ⌜ Stretch first (length (now hits)) at to × (length (now ids) ≡ length (now gone)) ⌝ }
     ensures { λ r. ⌜ r ≡ nextOf (isThere (now (hits .entry)) first start (now (ids .entry)) (now (gone .entry))) at to ⌝ }
 {
-    let pending = super::next::next_kept(ids, gone, at, to);
+    let sorted = super::sorted::rises(ids);
+    let pending = super::next::next_kept(ids, gone, sorted, at, to);
     super::next::next_in(hits, first, start, pending, at, to)
 }

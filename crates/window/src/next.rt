@@ -5,9 +5,9 @@ ghost use Prim.Native.Nat.{_+_, _-_, _≤_};
 ghost use lib.ListN.{length};
 ghost use Rattle.signed.specs.Choose.{if_then_else_};
 ghost use Rattle.dates.specs.Overrides.{isNamed, isKept};
+ghost use Rattle.window.specs.Sorted.{Ordered};
 ghost use Rattle.window.specs.Next.{firstFrom, noneIn, nextOf, atHit, TrueAt, isHit, dayFrom, nearer, leastOf, lower, renewed, Stretch};
 use super::sorted::next_sorted;
-use super::sorted::rises;
 
 // Whether an override names x: any, or one that is excluded.
 pub fn is_named(only: bool, ids: &[u64], gone: &[bool], x: u64) -> bool
@@ -78,23 +78,23 @@ fn next_unsorted(ids: &[u64], gone: &[bool], at: u64, to: u64) -> u64
 
 // The first date-time from `at` on, and before `to`, that an override names and none excludes; `to` where there is none. Where the ids
 // increase, as those of most texts do, it is found by halving.
-pub fn next_kept(ids: &[u64], gone: &[bool], at: u64, to: u64) -> u64
-    requires { ⌜ (length (now ids) ≡ length (now gone)) × (at ≤ to) ⌝ }
+pub fn next_kept(ids: &[u64], gone: &[bool], sorted: bool, at: u64, to: u64) -> u64
+    requires { ⌜ Ordered (now ids) sorted × ((length (now ids) ≡ length (now gone)) × (at ≤ to)) ⌝ }
     ensures { λ r. ⌜ r ≡ nextOf (isKept (now (ids .entry)) (now (gone .entry))) at to ⌝ }
 {
-    if rises(ids) {
+    if sorted {
         return next_sorted(ids, gone, at, to);
     }
     next_unsorted(ids, gone, at, to)
 }
 
 // What was next among the overrides, looked for again only where it was passed.
-pub fn renew(ids: &[u64], gone: &[bool], pending: u64, at: u64, to: u64) -> u64
-    requires { ⌜ (length (now ids) ≡ length (now gone)) × (at ≤ to) ⌝ }
+pub fn renew(ids: &[u64], gone: &[bool], sorted: bool, pending: u64, at: u64, to: u64) -> u64
+    requires { ⌜ Ordered (now ids) sorted × ((length (now ids) ≡ length (now gone)) × (at ≤ to)) ⌝ }
     ensures { λ r. ⌜ r ≡ renewed (now (ids .entry)) (now (gone .entry)) pending at to ⌝ }
 {
     if pending < at {
-        return next_kept(ids, gone, at, to);
+        return next_kept(ids, gone, sorted, at, to);
     }
     pending
 }

@@ -5,11 +5,11 @@ ghost use Prim.Native.Nat.{_≤_};
 ghost use lib.ListN.{length};
 ghost use Rattle.dates.specs.Overrides.{isKept};
 ghost use Rattle.window.specs.Next.{nextOf, lower};
-ghost use Rattle.window.specs.Sorted.{Rising, Below};
+ghost use Rattle.window.specs.Sorted.{Rising, Ordered, Below};
 
 // Is each id less than the one behind it?
 pub fn rises(ids: &[u64]) -> bool
-    ensures { λ r. ⌜ (r ≡ true → Rising (now (ids .entry))) ⌝ }
+    ensures { λ r. ⌜ Ordered (now (ids .entry)) r ⌝ }
 {
     let mut i = 1;
     while i < ids.len() {

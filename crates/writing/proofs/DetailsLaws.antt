@@ -1,5 +1,5 @@
 -- The details of an occurrence: by the override that names it, found by going through the ids.
-use Prim.Native.Nat.{ℕ, suc, _+_, _*_, _<_, _≤_, _^_}
+use Prim.Native.Nat.{ℕ, zero, suc, _+_, _*_, _<_, _≤_, _^_}
 use mathlib.Core.Bool.{Bool, true, false}
 use mathlib.Core.List.{List, [], _∷_}
 use mathlib.Core.Path.{_≡_, refl, sym, ap, subst, _∙_}
@@ -21,7 +21,7 @@ use Rattle.override_text.specs.Meaning.{overrideIn}
 use Rattle.override_text.specs.Patched.{patchAt}
 use Rattle.record.specs.declared.Times.{Times}
 use Rattle.record.specs.Occurrences.{occurrenceRow}
-use Rattle.writing.specs.Details.{patchDetails, detailsBy, timesFrom, timesIn, patchTimes, rowBy}
+use Rattle.writing.specs.Details.{patchDetails, detailsBy, Passed, timesFrom, timesIn, patchTimes, rowBy}
 
 -- ---- a patch that was read
 
@@ -62,6 +62,13 @@ module _ (s : List ℕ) (own : Details) (ids places : List ℕ) (even : length i
       let passed : detailsBy s own (getD ids i 0 ∷ drop (suc i) ids) (getD places i 0 ∷ drop (suc i) places) x ≡ detailsBy s own (drop (suc i) ids) (drop (suc i) places) x =
       rw (ne-eqb (getD ids i 0) x differ) refl in
       (omega arith, rw (add-one i) (sym passed ∙ (sym (one i h) ∙ seen .1)))
+
+  pub seen-passed : (r : ℕ) → Passed ids x r → Seen s own ids places x r
+  seen-passed zero p = (omega arith, refl)
+  seen-passed (suc r) p =
+      let here : r + 1 ≡ suc r = omega arith in
+      let before : Passed ids x r = record { within = omega (arith, p .within); other = λ j h. p .other j (omega arith) } in
+      subst (Seen s own ids places x) here (seen-next r (omega (arith, p .within)) (seen-passed r before) (p .other r (omega arith)))
 
   pub seen-own : (i : ℕ) → length ids ≤ i → Seen s own ids places x i → withStart own x ≡ detailsBy s own ids places x
   unfolding detailsBy

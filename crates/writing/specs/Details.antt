@@ -1,9 +1,11 @@
 -- The details of an occurrence over the overrides' ids and the places of their patches, and its record.
-use Prim.Native.Nat.{ℕ, _+_, _*_}
+use Prim.Native.Nat.{ℕ, _+_, _*_, _<_, _≤_}
 use mathlib.Core.Bool.{Bool}
 use mathlib.Core.List.{List, [], _∷_}
+use mathlib.Core.Path.{_≡_}
 use lib.Dec.{eqb}
 use lib.IntN.{ℤ}
+use lib.ListN.{length, getD}
 use Rattle.signed.specs.Choose.{if_then_else_}
 use Rattle.event.specs.Types.{Details}
 use Rattle.table.specs.Bytes.{secondsIn}
@@ -22,6 +24,11 @@ detailsBy s own (i ∷ ids) [] x = withStart own x
 detailsBy s own (i ∷ ids) (p ∷ places) x =
     let rest = detailsBy s own ids places x in
     if eqb i x then patchDetails own s p i else rest
+
+-- None of the first r ids is x.
+pub record Passed (ids : List ℕ) (x r : ℕ) : Type 0 where
+  pub within : r ≤ length ids
+  pub other : (j : ℕ) → j < r → getD ids j 0 ≡ x → ⊥
 
 unfoldable pub timesFrom : ℕ → ℕ → ℕ → Bool → Bool → Times
 timesFrom start days seconds busy allDay = record { start = start; seconds = 86400 * days + seconds; busy = busy; allday = allDay }

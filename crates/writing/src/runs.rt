@@ -13,6 +13,7 @@ use override_text::Own;
 use window::next::next_in;
 use window::next::next_kept;
 use window::next::renew;
+use window::sorted::rises;
 
 // The records from the second `from` on and before `to`, the first of them at a place of the buffer; the place behind the last one.
 pub fn write_run(
@@ -40,9 +41,10 @@ pub fn write_run(
         (isThere (now (hits .entry)) first (own .start) (now (ids .entry)) (now (gone .entry))) from to at (now (buf .entry)) (now (buf .exit)) r ⌝ }
 {
     let start = own.start;
+    let sorted = rises(ids);
     let mut place = at;
     let mut second = from;
-    let mut pending = next_kept(ids, gone, from, to);
+    let mut pending = next_kept(ids, gone, sorted, from, to);
     let mut hint = 0;
     while second < to {
         let x = next_in(hits, first, start, pending, second, to);
@@ -56,6 +58,7 @@ pub fn write_run(
             ends,
             own,
             ids,
+            sorted,
             places,
             floating,
             initial,
@@ -66,7 +69,7 @@ pub fn write_run(
         );
         place += 28;
         second = x + 1;
-        pending = renew(ids, gone, pending, x + 1, to);
+        pending = renew(ids, gone, sorted, pending, x + 1, to);
     }
     place
 }

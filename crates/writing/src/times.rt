@@ -9,11 +9,13 @@ ghost use Rattle.json_ends.specs.Ends.{Ends};
 ghost use Rattle.event.specs.Types.{Length};
 ghost use Rattle.override_text.specs.Meaning.{detailsIn};
 ghost use Rattle.record.specs.Occurrences.{Small};
-ghost use Rattle.writing.specs.Details.{detailsBy, timesIn, rowBy, timesFrom, patchTimes};
+ghost use Rattle.window.specs.Sorted.{Ordered};
+ghost use Rattle.writing.specs.Details.{Passed, detailsBy, timesIn, rowBy, timesFrom, patchTimes};
 use override_text::Own;
 use override_text::patches::patch;
 use record::Times;
 use record::occurrences::put_occurrence;
+use window::sorted::below;
 
 fn times(start: u64, days: u64, seconds: u64, busy: bool, allday: bool) -> Times
     requires { ⌜ 86400 * days + seconds ≤ 2 ^ 40 ⌝ }
@@ -36,12 +38,31 @@ fn patched(text: &[u8], ends: &[u32], at: usize, own: Own, id: u64) -> Times
     times(p.start, p.days, p.seconds, p.busy, p.allday)
 }
 
+// Where to look for the override of x: none before names it. Ids that increase need no look at all of them.
+fn look_from(ids: &[u64], sorted: bool, x: u64) -> usize
+    requires { ⌜ Ordered (now ids) sorted ⌝ }
+    ensures { λ r. ⌜ Passed (now (ids .entry)) x r ⌝ }
+{
+    if sorted {
+        return below(ids, x);
+    }
+    0
+}
+
 // The times of the occurrence x: after its patch where an override names it, else the event's own from x on.
-pub fn times_at(text: &[u8], ends: &[u32], own: Own, ids: &[u64], places: &[usize], x: u64) -> Times
-    requires { ⌜ Ends (now text) (now ends) × ((length (now ids) ≡ length (now places)) × Small x (timesIn (detailsBy (now text) (detailsIn (now text) own) (now ids) (now places) x))) ⌝ }
+pub fn times_at(
+    text: &[u8],
+    ends: &[u32],
+    own: Own,
+    ids: &[u64],
+    sorted: bool,
+    places: &[usize],
+    x: u64,
+) -> Times
+    requires { ⌜ (Ends (now text) (now ends) × Ordered (now ids) sorted) × ((length (now ids) ≡ length (now places)) × Small x (timesIn (detailsBy (now text) (detailsIn (now text) own) (now ids) (now places) x))) ⌝ }
     ensures { λ r. ⌜ r ≡ timesIn (detailsBy (now (text .entry)) (detailsIn (now (text .entry)) own) (now (ids .entry)) (now (places .entry)) x) ⌝ }
 {
-    let mut i = 0;
+    let mut i = look_from(ids, sorted, x);
     while i < ids.len() {
         if ids[i] == x {
             return patched(text, ends, places[i], own, x);
@@ -59,6 +80,7 @@ pub fn put_at(
     ends: &[u32],
     own: Own,
     ids: &[u64],
+    sorted: bool,
     places: &[usize],
     floating: bool,
     initial: i64,
@@ -67,11 +89,11 @@ pub fn put_at(
     hint: &mut usize,
     x: u64,
 )
-    requires { ⌜ Ends (now text) (now ends) × ((at + 28 ≤ length (now buf)) × ((length (now ids) ≡ length (now places)) × ((validTable initial (now instants) (now offsets) ≡ true)
+    requires { ⌜ (Ends (now text) (now ends) × Ordered (now ids) sorted) × ((at + 28 ≤ length (now buf)) × ((length (now ids) ≡ length (now places)) × ((validTable initial (now instants) (now offsets) ≡ true)
         × Small x (timesIn (detailsBy (now text) (detailsIn (now text) own) (now ids) (now places) x))))) ⌝ }
     ensures { λ _. ⌜ now (buf .exit) ≡ sets (now (buf .entry)) at (rowBy floating initial (now (instants .entry)) (now (offsets .entry))
         (detailsBy (now (text .entry)) (detailsIn (now (text .entry)) own) (now (ids .entry)) (now (places .entry))) x) ⌝ }
 {
-    let t = times_at(text, ends, own, ids, places, x);
+    let t = times_at(text, ends, own, ids, sorted, places, x);
     put_occurrence(buf, at, x, t, floating, initial, instants, offsets, hint);
 }

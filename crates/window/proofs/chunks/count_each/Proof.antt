@@ -8,22 +8,27 @@ use Rattle.window.proofs.chunks.count_each.Statement.{statement}
 use Rattle.window.proofs.chunks.count_each.Tie as tie
 
 abbrev Inv-loop : tie.InvT-loop
-Inv-loop hits first start ids gone at to from₀ pending₀ found₀ from pending found = FoundAt hits first start ids gone at to from pending found
+Inv-loop hits first start ids gone at to sorted from₀ pending₀ found₀ from pending found = FoundAt hits first start ids gone at to from pending found
 
 abbrev μ-loop : tie.MeasureT-loop
-μ-loop hits first start ids gone at to from₀ pending₀ found₀ from pending found = to - from
+μ-loop hits first start ids gone at to sorted from₀ pending₀ found₀ from pending found = to - from
+
+rises-requires : tie.Need-rises-requires Inv-loop μ-loop
+rises-requires c κs = search needs
 
 next-kept-requires : tie.Need-next-kept-requires Inv-loop μ-loop
-next-kept-requires c κs = search needs
+next-kept-requires c κs =
+    let p = c .before .before .before .before .pre in
+    (c .rises .ensures, (p .1, p .0 .order))
 
 loop-holds : tie.Need-loop-holds Inv-loop μ-loop
 loop-holds c =
-    found-starts _ _ _ _ _ _ _ _ (c .before .before .before .before .pre .0 .order) (c .next-kept .ensures)
+    found-starts _ _ _ _ _ _ _ _ (c .before .before .before .before .before .pre .0 .order) (c .next-kept .ensures)
 
 next-in-requires : tie.Need-next-in-requires Inv-loop μ-loop
 next-in-requires c κs =
     let a = c .before .loop .inv in
-    let s = c .before .before .before .before .before .before .pre .0 in
+    let s = c .before .before .before .before .before .before .before .pre .0 in
     record { low = omega (arith, a .low, s .low); order = a .order; high = s .high; days = s .days }
 
 returns : tie.Need-returns Inv-loop μ-loop
@@ -40,7 +45,8 @@ add-renew : tie.Need-add-renew Inv-loop μ-loop
 add-renew c = search needs
 
 renew-requires : tie.Need-renew-requires Inv-loop μ-loop
-renew-requires c κs = search needs
+renew-requires c κs =
+    (c .before .before .before .before .before .rises .ensures, (c .before .before .before .before .before .before .before .before .before .pre .1, omega (arith, c .if1 .left)))
 
 loop-less : tie.Need-loop-less Inv-loop μ-loop
 loop-less c =
@@ -61,6 +67,7 @@ count-each-spec =
     (tie.spec
     Inv-loop
     μ-loop
+    rises-requires
     next-kept-requires
     loop-holds
     next-in-requires

@@ -3,11 +3,8 @@ use borrow.Author.Needs.{needs}
 use Rattle.window.proofs.next.next_kept.Statement.{statement}
 use Rattle.window.proofs.next.next_kept.Tie as tie
 
-rises-requires : tie.Need-rises-requires
-rises-requires c κs = search needs
-
 next-sorted-requires : tie.Need-next-sorted-requires
-next-sorted-requires c κs = (c .before .rises .ensures (c .if1 .taken), c .before .before .before .before .pre)
+next-sorted-requires c κs = (c .before .before .before .pre .0 (c .if1 .taken), c .before .before .before .pre .1)
 
 returns : tie.Need-returns
 returns c = search needs
@@ -19,4 +16,4 @@ returns-2 : tie.Need-returns-2
 returns-2 c = search needs
 
 pub next-kept-spec : {M : Type 1} → statement M
-next-kept-spec = tie.close (tie.spec rises-requires next-sorted-requires returns next-unsorted-requires returns-2)
+next-kept-spec = tie.close (tie.spec next-sorted-requires returns next-unsorted-requires returns-2)

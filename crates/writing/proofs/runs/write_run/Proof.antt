@@ -16,19 +16,24 @@ use Rattle.writing.proofs.runs.write_run.Statement.{statement}
 use Rattle.writing.proofs.runs.write_run.Tie as tie
 
 abbrev Inv-loop : tie.InvT-loop
-Inv-loop buf₀ at text ends own ids gone places floating initial instants offsets hits first from to start place₀ second₀ pending₀ hint₀ buf place second pending hint =
+Inv-loop buf₀ at text ends own ids gone places floating initial instants offsets hits first from to start sorted place₀ second₀ pending₀ hint₀ buf place second pending hint =
     WriteAt (rowBy floating (toZ w64 initial) instants offsets (detailsBy text (detailsIn text own) ids places)) (isThere hits first (own .start) ids gone) from to at buf₀ second place buf
     × (pending ≡ nextOf (isKept ids gone) second to)
 
 abbrev μ-loop : tie.MeasureT-loop
-μ-loop buf₀ at text ends own ids gone places floating initial instants offsets hits first from to start place₀ second₀ pending₀ hint₀ buf place second pending hint = to - second
+μ-loop buf₀ at text ends own ids gone places floating initial instants offsets hits first from to start sorted place₀ second₀ pending₀ hint₀ buf place second pending hint = to - second
+
+rises-requires : tie.Need-rises-requires Inv-loop μ-loop
+rises-requires c κs = search needs
 
 next-kept-requires : tie.Need-next-kept-requires Inv-loop μ-loop
-next-kept-requires c κs = let q = c .before .before .before .before .before .before .before in (q .pre .1 .1 .0 .marks, q .pre .1 .0 .order)
+next-kept-requires c κs =
+    let q = c .before .before .before .before .before .before .before .before in
+    (c .rises .ensures, (q .pre .1 .1 .0 .marks, q .pre .1 .0 .order))
 
 loop-holds : tie.Need-loop-holds Inv-loop μ-loop
 loop-holds c =
-    let q = c .before .before .before .before .before .before .before .before in (
+    let q = c .before .before .before .before .before .before .before .before .before in (
       write-starts (rowBy (q .args .floating) _ (q .args .instants .now) (q .args .offsets .now) (detailsBy (q .args .text .now) (detailsIn (q .args .text .now) (q .args .own)) (q .args .ids .now) (q .args .places .now))) (by-length (q .args .floating) _ (q .args .instants .now) (q .args .offsets .now) (detailsBy (q .args .text .now) (detailsIn (q .args .text .now) (q .args .own)) (q .args .ids .now) (q .args .places .now)))
           (isThere (q .args .hits .now) _ (q .args .own .start) (q .args .ids .now) (q .args .gone .now)) _ _ _ _ (q .pre .1 .0 .order),
       c .next-kept .ensures,
@@ -37,7 +42,7 @@ loop-holds c =
 next-in-requires : tie.Need-next-in-requires Inv-loop μ-loop
 next-in-requires c κs =
     let i = c .before .loop in
-    let q = c .before .before .before .before .before .before .before .before .before .before in
+    let q = c .before .before .before .before .before .before .before .before .before .before .before in
     let s = q .pre .1 .0 in
     record { low = omega (arith, i .inv .0 .low, s .low); order = i .inv .0 .order; high = s .high; days = s .days }
 
@@ -47,17 +52,17 @@ same-length c = c .before .before .before .loop .inv .0 .same
 returns : tie.Need-returns Inv-loop μ-loop
 returns c =
     let i = c .before .before .before .loop in
-    let q = c .before .before .before .before .before .before .before .before .before .before .before .before in
+    let q = c .before .before .before .before .before .before .before .before .before .before .before .before .before in
     rw (toZ-ofZ (q .fits .initial)) at (write-none (rowBy (q .args .floating) _ (q .args .instants .now) (q .args .offsets .now) (detailsBy (q .args .text .now) (detailsIn (q .args .text .now) (q .args .own)) (q .args .ids .now) (q .args .places .now))) (by-length (q .args .floating) _ (q .args .instants .now) (q .args .offsets .now) (detailsBy (q .args .text .now) (detailsIn (q .args .text .now) (q .args .own)) (q .args .ids .now) (q .args .places .now)))
     (isThere (q .args .hits .now) _ (q .args .own .start) (q .args .ids .now) (q .args .gone .now)) _ _ _ _ _ _ _ (i .inv .0) _ (there-is (q .args .hits .now) _ _ (q .args .ids .now) (q .args .gone .now) _ _ _ _ (i .inv .0 .order) (i .inv .1) (c .before .next-in .ensures)) (c .if1 .taken))
 
 put-at-requires : tie.Need-put-at-requires Inv-loop μ-loop
 put-at-requires c κs =
     let i = c .before .before .before .before .before .loop in
-    let q = c .before .before .before .before .before .before .before .before .before .before .before .before .before .before in
+    let q = c .before .before .before .before .before .before .before .before .before .before .before .before .before .before .before in
     let x = (there-is (q .args .hits .now) _ _ (q .args .ids .now) (q .args .gone .now) _ _ _ _ (i .inv .0 .order) (i .inv .1) (c .before .before .before .next-in .ensures)) in
     let small = q .pre .1 .1 .1 .0 .small (c .before .before .before .next-in .result) (omega (arith, c .before .before .if1 .left, q .pre .1 .0 .high, q .pre .1 .0 .days)) in (
-      q .pre .0,
+      (q .pre .0, c .before .before .before .before .before .before .before .rises .ensures),
       (
         write-room (rowBy (q .args .floating) _ (q .args .instants .now) (q .args .offsets .now) (detailsBy (q .args .text .now) (detailsIn (q .args .text .now) (q .args .own)) (q .args .ids .now) (q .args .places .now))) (by-length (q .args .floating) _ (q .args .instants .now) (q .args .offsets .now) (detailsBy (q .args .text .now) (detailsIn (q .args .text .now) (q .args .own)) (q .args .ids .now) (q .args .places .now)))
             (isThere (q .args .hits .now) _ (q .args .own .start) (q .args .ids .now) (q .args .gone .now)) _ _ _ _ _ _ _ (i .inv .0) _ x (c .before .before .if1 .left) (q .pre .1 .1 .1 .1),
@@ -68,7 +73,7 @@ put-at-requires c κs =
 add-place : tie.Need-add-place Inv-loop μ-loop
 add-place c =
     let i = c .before .before .before .before .before .before .before .before .loop in
-    omega (arith, i .inv .0 .room, i .inv .0 .same, c .before .before .before .before .before .before .before .before .before .before .before .before .before .before .before .before .before .pre .1 .1 .1 .1)
+    omega (arith, i .inv .0 .room, i .inv .0 .same, c .before .before .before .before .before .before .before .before .before .before .before .before .before .before .before .before .before .before .pre .1 .1 .1 .1)
 
 add-second : tie.Need-add-second Inv-loop μ-loop
 add-second c = search needs
@@ -77,19 +82,20 @@ add-renew : tie.Need-add-renew Inv-loop μ-loop
 add-renew c = search needs
 
 renew-requires : tie.Need-renew-requires Inv-loop μ-loop
-renew-requires c κs = (c .before .before .before .before .before .before .before .before .before .before .before .before .before .before .before .before .before .pre .1 .1 .0 .marks, omega (arith, c .before .before .before .before .before .if1 .left))
+renew-requires c κs =
+    (c .before .before .before .before .before .before .before .before .before .before .rises .ensures, (c .before .before .before .before .before .before .before .before .before .before .before .before .before .before .before .before .before .before .pre .1 .1 .0 .marks, omega (arith, c .before .before .before .before .before .if1 .left)))
 
 loop-less : tie.Need-loop-less Inv-loop μ-loop
 loop-less c =
     let i = c .before .before .before .before .before .before .before .before .before .loop in
-    let q = c .before .before .before .before .before .before .before .before .before .before .before .before .before .before .before .before .before .before in
+    let q = c .before .before .before .before .before .before .before .before .before .before .before .before .before .before .before .before .before .before .before in
     let x = (there-is (q .args .hits .now) _ _ (q .args .ids .now) (q .args .gone .now) _ _ _ _ (i .inv .0 .order) (i .inv .1) (c .before .before .before .before .before .before .before .next-in .ensures)) in
     omega (arith, x .low, c .before .before .before .before .before .before .if1 .left)
 
 loop-again : tie.Need-loop-again Inv-loop μ-loop
 loop-again c =
     let i = c .before .before .before .before .before .before .before .before .before .loop in
-    let q = c .before .before .before .before .before .before .before .before .before .before .before .before .before .before .before .before .before .before in
+    let q = c .before .before .before .before .before .before .before .before .before .before .before .before .before .before .before .before .before .before .before in
     let x = (there-is (q .args .hits .now) _ _ (q .args .ids .now) (q .args .gone .now) _ _ _ _ (i .inv .0 .order) (i .inv .1) (c .before .before .before .before .before .before .before .next-in .ensures)) in (
       write-one (rowBy (q .args .floating) _ (q .args .instants .now) (q .args .offsets .now) (detailsBy (q .args .text .now) (detailsIn (q .args .text .now) (q .args .own)) (q .args .ids .now) (q .args .places .now))) (by-length (q .args .floating) _ (q .args .instants .now) (q .args .offsets .now) (detailsBy (q .args .text .now) (detailsIn (q .args .text .now) (q .args .own)) (q .args .ids .now) (q .args .places .now)))
           (isThere (q .args .hits .now) _ (q .args .own .start) (q .args .ids .now) (q .args .gone .now)) _ _ _ _ _ _ _ (i .inv .0) _ x (c .before .before .before .before .before .before .if1 .left) _ (c .before .before .before .put-at .ensures),
@@ -102,7 +108,7 @@ same-length-2 c = c .before .loop .inv .0 .same
 returns-2 : tie.Need-returns-2 Inv-loop μ-loop
 returns-2 c =
     let i = c .before .loop in
-    let q = c .before .before .before .before .before .before .before .before .before .before in
+    let q = c .before .before .before .before .before .before .before .before .before .before .before in
     rw (toZ-ofZ (q .fits .initial)) at (write-ends (rowBy (q .args .floating) _ (q .args .instants .now) (q .args .offsets .now) (detailsBy (q .args .text .now) (detailsIn (q .args .text .now) (q .args .own)) (q .args .ids .now) (q .args .places .now))) (by-length (q .args .floating) _ (q .args .instants .now) (q .args .offsets .now) (detailsBy (q .args .text .now) (detailsIn (q .args .text .now) (q .args .own)) (q .args .ids .now) (q .args .places .now)))
     (isThere (q .args .hits .now) _ (q .args .own .start) (q .args .ids .now) (q .args .gone .now)) _ _ _ _ _ _ _ (i .inv .0) (c .loop-test .left))
 
@@ -112,6 +118,7 @@ write-run-spec =
     (tie.spec
     Inv-loop
     μ-loop
+    rises-requires
     next-kept-requires
     loop-holds
     next-in-requires
