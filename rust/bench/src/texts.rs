@@ -102,6 +102,7 @@ pub fn endless_rules() -> Vec<(&'static str, String)> {
         ("every 63rd day", every("daily", 63, "")),
         ("every 200th day", every("daily", 200, "")),
         ("daily, position 1 of Mondays", every("daily", 1, &format!(r#",{},"bySetPosition":[1]"#, by_day("mo")))),
+        ("every 513th day, first of five days", every("daily", 513, &format!(r#",{working},"bySetPosition":[1]"#))),
         ("weekly on three days", every("weekly", 1, &format!(",{}", by_day("mo tu we")))),
         ("every second week on five days", every("weekly", 2, &format!(",{working}"))),
         ("every 13th week on five days", every("weekly", 13, &format!(",{working}"))),
