@@ -10,7 +10,7 @@ use crate::surrogates::pairs;
 use json_text::Read;
 
 // 0 where two bytes are the same, else 1.
-pub fn differs(a: u8, b: u8) -> u8
+fn differs(a: u8, b: u8) -> u8
     ensures { λ r. ⌜ Small (differ a b) r ⌝ }
 {
     if a == b {
@@ -20,7 +20,7 @@ pub fn differs(a: u8, b: u8) -> u8
 }
 
 // 0 where a byte is a D, in either case, else 1.
-pub fn lacks_d(c: u8) -> u8
+fn lacks_d(c: u8) -> u8
     ensures { λ r. ⌜ Small (lacksD c) r ⌝ }
 {
     if c == 0x44 {
@@ -31,7 +31,7 @@ pub fn lacks_d(c: u8) -> u8
 
 // 0 as long as no three bytes began the escape of a surrogate. A sum in place of three branches lets the pass over the text
 // go many bytes at a time.
-pub fn seen(any: u8, a: u8, b: u8, c: u8) -> u8
+fn seen(any: u8, a: u8, b: u8, c: u8) -> u8
     ensures { λ r. ⌜ (r ≡ 0 → (any ≡ 0) × (front a b c ≡ false)) ⌝ }
 {
     if differs(a, 0x5C) + differs(b, 0x75) + lacks_d(c) == 0 {
@@ -41,7 +41,7 @@ pub fn seen(any: u8, a: u8, b: u8, c: u8) -> u8
 }
 
 // Is there no escape of a surrogate in the text? It may say no where there is none.
-pub fn surrogate_free(text: &[u8]) -> bool
+fn surrogate_free(text: &[u8]) -> bool
     ensures { λ r. ⌜ (r ≡ true → NoFront (now (text .entry)) (length (now (text .entry)))) ⌝ }
 {
     let mut any: u8 = 0;

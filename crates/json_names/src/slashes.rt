@@ -6,7 +6,7 @@ ghost use Rattle.json_names.specs.Slashes.{Clean};
 use json_walk::strings::has_backslash;
 
 // 0 as long as no byte was a backslash.
-pub fn seen(any: u8, b: u8) -> u8
+fn seen(any: u8, b: u8) -> u8
     ensures { λ r. ⌜ (r ≡ 0 → (any ≡ 0) × (b ≡ 0x5C → ⊥)) ⌝ }
 {
     if b == 0x5C {

@@ -25,7 +25,7 @@ pub fn is_plain(b: u8) -> bool
 }
 
 // 1 where two bytes are the same, else 0.
-pub fn same(a: u8, b: u8) -> u8
+fn same(a: u8, b: u8) -> u8
     ensures { λ r. ⌜ (r ≡ 0 → a ≡ b → ⊥) × (r ≤ 1) ⌝ }
 {
     if a == b {
@@ -35,7 +35,7 @@ pub fn same(a: u8, b: u8) -> u8
 }
 
 // 1 where a byte is below another, else 0.
-pub fn below(a: u8, b: u8) -> u8
+fn below(a: u8, b: u8) -> u8
     ensures { λ r. ⌜ (r ≡ 0 → b ≤ a) × (r ≤ 1) ⌝ }
 {
     if a < b {
@@ -45,7 +45,7 @@ pub fn below(a: u8, b: u8) -> u8
 }
 
 // 0 as long as each byte was plain. A sum in place of branches lets a block be tested as a whole.
-pub fn mixed(any: u8, b: u8) -> u8
+fn mixed(any: u8, b: u8) -> u8
     ensures { λ r. ⌜ (r ≡ 0 → (any ≡ 0) × (isPlain b ≡ true)) ⌝ }
 {
     if same(b, 0x22) + same(b, 0x5C) + below(b, 0x20) + below(0x7F, b) == 0 {
@@ -55,7 +55,7 @@ pub fn mixed(any: u8, b: u8) -> u8
 }
 
 // Are the 64 bytes at a place plain?
-pub fn block(text: &[u8], at: usize) -> bool
+fn block(text: &[u8], at: usize) -> bool
     requires { ⌜ at + 64 ≤ length (now text) ⌝ }
     ensures { λ r. ⌜ (r ≡ true → PlainRun (now (text .entry)) at 64) ⌝ }
 {
@@ -72,7 +72,7 @@ pub fn block(text: &[u8], at: usize) -> bool
 }
 
 // The place behind the plain blocks at a place.
-pub fn blocks(text: &[u8], at: usize) -> usize
+fn blocks(text: &[u8], at: usize) -> usize
     requires { ⌜ at ≤ length (now text) ⌝ }
     ensures { λ r. ⌜ plainAt (now (text .entry)) r ≡ plainAt (now (text .entry)) at ⌝ }
 {
@@ -89,7 +89,7 @@ pub fn blocks(text: &[u8], at: usize) -> usize
 }
 
 // The place behind plain bytes, one by one.
-pub fn single(text: &[u8], at: usize) -> usize
+fn single(text: &[u8], at: usize) -> usize
     ensures { λ r. ⌜ r ≡ plainAt (now (text .entry)) at ⌝ }
 {
     let mut i = at;
