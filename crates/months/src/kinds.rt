@@ -5,7 +5,7 @@ ghost use Rattle.matcher.specs.Flags.{Row};
 ghost use Rattle.months.specs.Kinds.{Kind};
 ghost use Rattle.months.specs.Rows.{rowOf, Kept, KeptAt};
 
-fn row_of(weekday: u32, days: u32) -> usize
+pub fn row_of(weekday: u32, days: u32) -> usize
     requires { ⌜ Kind weekday days ⌝ }
     ensures { λ r. ⌜ r ≡ rowOf weekday days ⌝ }
 {

@@ -156,11 +156,11 @@ module _ (t : Terms) (row : List Bool) (like : Alike t row) where
     day-later j h = let far = month-reaches x (a .day) (a .high) j h in sym (in-same-month x (a .day) j (far .0) (far .1))
 
     -- a month that is not set, or out of step, has none
-    unset-none : monthBy row x ≡ false → (j : ℕ) → j < toMonthEnd x → picksOnBy t row (x .number + j) ≡ false
+    pub unset-none : monthBy row x ≡ false → (j : ℕ) → j < toMonthEnd x → picksOnBy t row (x .number + j) ≡ false
     unfolding picksOnBy picksBy staysBy monthBy
     unset-none e j h = rw (day-later j h, e)
 
-    out-none : stepBy t x ≡ false → (j : ℕ) → j < toMonthEnd x → picksOnBy t row (x .number + j) ≡ false
+    pub out-none : stepBy t x ≡ false → (j : ℕ) → j < toMonthEnd x → picksOnBy t row (x .number + j) ≡ false
     unfolding picksOnBy picksBy
     out-none e j h = rw (day-later j h, step-same x (later x j) refl refl ∙ e) (never (staysBy row (t .inyear) (later x j)))
       where

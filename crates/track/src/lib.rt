@@ -3,13 +3,13 @@ use matcher::Terms;
 use rule::Day;
 
 mod ahead;
-mod alike;
+pub mod alike;
 pub mod last;
 pub mod leaps;
 mod parts;
 pub mod places;
-mod plain;
-mod ranges;
+pub mod plain;
+pub mod ranges;
 pub mod runs;
 pub mod settle;
 pub mod skips;

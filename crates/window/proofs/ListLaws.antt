@@ -57,13 +57,13 @@ list-same p q a zero h = refl
 list-same p q a (suc n) h =
     rw (h a (omega arith) (omega arith), list-same p q (suc a) n (λ j low high. h j (omega arith) (omega arith)))
 
-list-nothing : (p : ℕ → Bool) (a n : ℕ) → ((j : ℕ) → a ≤ j → j < a + n → p j ≡ false) → listIn p a n ≡ []
+pub list-nothing : (p : ℕ → Bool) (a n : ℕ) → ((j : ℕ) → a ≤ j → j < a + n → p j ≡ false) → listIn p a n ≡ []
 unfolding listIn
 list-nothing p a zero h = refl
 list-nothing p a (suc n) h =
     rw (h a (omega arith) (omega arith)) (list-nothing p (suc a) n (λ j low high. h j (omega arith) (omega arith)))
 
-list-first : (p : ℕ → Bool) (a n : ℕ) → p a ≡ true → listIn p a (suc n) ≡ a ∷ listIn p (suc a) n
+pub list-first : (p : ℕ → Bool) (a n : ℕ) → p a ≡ true → listIn p a (suc n) ≡ a ∷ listIn p (suc a) n
 unfolding listIn
 list-first p a n e = rw e
 

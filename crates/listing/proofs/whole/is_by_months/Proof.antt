@@ -1,0 +1,22 @@
+-- `listing::whole::is_by_months` meets its contract.
+use mathlib.Core.Bool.{false≢true}
+use borrow.Author.Tests.{not-false}
+use borrow.Author.Needs.{needs}
+use Rattle.listing.proofs.whole.is_by_months.Statement.{statement}
+use Rattle.listing.proofs.whole.is_by_months.Tie as tie
+
+counts-in-months-requires : tie.Need-counts-in-months-requires
+counts-in-months-requires c κs = search needs
+
+returns : tie.Need-returns
+returns c = λ e. absurd (false≢true e)
+
+is-alike-requires : tie.Need-is-alike-requires
+is-alike-requires c κs = search needs
+
+returns-2 : tie.Need-returns-2
+returns-2 c = λ e. record { alike = c .is-alike .ensures e; monthly = c .before .before .counts-in-months .ensures (not-false _ (c .before .if1 .left)) }
+
+pub is-by-months-spec : {M : Type 1} → statement M
+is-by-months-spec =
+    tie.close (tie.spec counts-in-months-requires returns is-alike-requires returns-2)

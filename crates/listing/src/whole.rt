@@ -1,0 +1,93 @@
+// The days of an event with one rule: the start's, and those of the rule behind it.
+ghost use mathlib.Core.Bool.{true};
+ghost use mathlib.Core.Path.{_≡_};
+ghost use Prim.Native.Nat.{_-_, _≤_};
+ghost use lib.ListN.{length};
+ghost use Rattle.rule.specs.declared.Frequency.the-variants.{Monthly};
+ghost use Rattle.track.specs.Runs.{hasDay};
+ghost use Rattle.listing.specs.Lists.{Tried, Listing, startOr};
+ghost use Rattle.listing.specs.Parts.{ByMonths};
+use crate::days::list_days;
+use matcher::Terms;
+use rule::Frequency;
+use track::Track;
+
+fn is_monthly(frequency: Frequency) -> bool
+    ensures { λ r. ⌜ (r ≡ true → frequency ≡ Monthly) ⌝ }
+{
+    match frequency {
+        Frequency::Daily => false,
+        Frequency::Weekly => false,
+        Frequency::Monthly => true,
+        Frequency::Yearly => false,
+    }
+}
+
+fn counts_in_months(terms: Terms) -> bool
+    ensures { λ r. ⌜ (r ≡ true → terms .placed ≡ true → terms .frequency ≡ Monthly) ⌝ }
+{
+    let placed = terms.placed;
+    if !placed {
+        return true;
+    }
+    let frequency = terms.frequency;
+    is_monthly(frequency)
+}
+
+// Months alike have the same days of the rule.
+fn is_by_months(terms: Terms, flags: &[bool]) -> bool
+    requires { ⌜ length (now flags) ≡ 1574 ⌝ }
+    ensures { λ r. ⌜ (r ≡ true → ByMonths terms (now (flags .entry))) ⌝ }
+{
+    if !counts_in_months(terms) {
+        return false;
+    }
+    track::alike::is_alike(terms, flags)
+}
+
+// The rule's days from `from` on and before `end`; the event begins not behind them.
+fn list_rule(
+    track: Track,
+    flags: &[bool],
+    begin: u32,
+    from: u32,
+    end: u32,
+    days: &mut [u32],
+    at: usize,
+) -> usize
+    requires { ⌜ Listing track (length (now flags)) from end (length (now days)) × ((begin ≤ from) × (at ≤ length (now days))) ⌝ }
+    ensures { λ r. ⌜ Tried (hasDay track (now (flags .entry)) begin) from (end - from) (now (days .entry)) at (now (days .exit)) r ⌝ }
+{
+    let to = track::ranges::earlier(end, track.last);
+    if to <= from {
+        return at;
+    }
+    let terms = track.terms;
+    if !is_by_months(terms, flags) {
+        return days.len() + 1;
+    }
+    list_days(terms, flags, from, (to - from) as usize, days, at)
+}
+
+// The days from `first` on and before `end` of an event that begins on the day `begin`: how many, or more than the list has room for where they
+// are not listed.
+pub fn list_dates(
+    track: Track,
+    flags: &[bool],
+    begin: u32,
+    first: u32,
+    end: u32,
+    days: &mut [u32],
+) -> usize
+    requires { ⌜ Listing track (length (now flags)) first end (length (now days)) ⌝ }
+    ensures { λ r. ⌜ Tried (startOr track (now (flags .entry)) begin) first (end - first) (now (days .entry)) 0 (now (days .exit)) r ⌝ }
+{
+    if begin < first {
+        return list_rule(track, flags, begin, first, end, days, 0);
+    }
+    if end <= begin {
+        return 0;
+    }
+    days[0] = begin;
+    list_rule(track, flags, begin, begin + 1, end, days, 1)
+}
