@@ -20,19 +20,16 @@ pub fn valid(initial: i64, instants: &[i64], offsets: &[i64]) -> bool
     if instants.len() != offsets.len() {
         return false;
     }
-    if !range::all_within(instants, 1099511627776) {
+    if !range::increasing(instants) {
         return false;
     }
-    if !range::increasing(instants) {
+    if !range::ends_within(instants, 1099511627776) {
         return false;
     }
     if !range::within(initial, 86399) {
         return false;
     }
-    if !range::all_within(offsets, 86399) {
-        return false;
-    }
-    mark::increasing(initial, instants, offsets)
+    mark::in_order(initial, instants, offsets)
 }
 
 // Where to look next between `low` and `high`: near the place that the caller guessed while `near` lasts, then in the middle.
