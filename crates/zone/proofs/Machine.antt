@@ -2,11 +2,11 @@
 use Prim.Native.Nat.{ℕ, zero, suc, _+_, _-_, _<_, _≤_, _^_}
 use mathlib.Core.Bool.{Bool, true, false, not}
 use mathlib.Core.List.{List, _∷_}
-use mathlib.Core.Path.{_≡_, refl, _∙_, ap}
+use mathlib.Core.Path.{_≡_, refl, sym, _∙_, ap}
 use native.Mathlib.Omega.{arith}
 use borrow.Author.Tests.{not-true, not-false}
-use lib.IntN.{ℤ, pos, natAbs, _+ℤ_, _-ℤ_}
-use lib.ListN.{length, getD, drop}
+use lib.IntN.{ℤ, pos, negsuc, natAbs, _+ℤ_, _-ℤ_}
+use lib.ListN.{length, getD}
 use lib.Signed.{leZ, ltZ, mag}
 use mir.Syntax.{w64}
 use mir.Val.{SFits, toZ, ofZ}
@@ -15,9 +15,10 @@ use Rattle.signed.proofs.Parts.{back}
 use Rattle.zone.specs.Table.{larger, within, allWithin, increasing, validTable}
 use Rattle.zone.specs.Lookup.{offsetAt}
 use Rattle.zone.specs.Places.{InRange, markAt}
-use Rattle.zone.proofs.RangeLaws.{range-more, sum-abs, difference-abs, abs-fits}
-use Rattle.zone.proofs.OrderLaws.{walk-stop, walk-next}
-use Rattle.zone.proofs.TableLaws.{marks, marks-length, marks-at, valid-gives}
+use Rattle.zone.proofs.RangeLaws.{range-at, sum-abs, difference-abs, abs-fits}
+use Rattle.zone.proofs.OrderLaws.{ends-first, ends-last}
+use Rattle.zone.proofs.TableLaws.{valid-gives}
+use Rattle.zone.proofs.PassLaws.{Pass, both, markOf, pass-start, pass-wide, pass-down, pass-next, pass-end, added-small}
 use Rattle.zone.proofs.LookupLaws.{Halves, halves-high, halves-low, halves-end}
 
 abbrev pub again : ℤ → ℤ
@@ -68,18 +69,18 @@ module _ (b : ℤ) (ns : List ℤ) (i : ℕ) (f : SFits w64 b) (g : SFits w64 (g
       let same : B ≡ getD (b ∷ ns) i (pos 0) = rw (toZ-ofZ f) at e in
       rw (back B k, toZ-ofZ g, same) at h
 
--- ---- one turn of `range::all_within`: r is what `within` answers
+-- ---- `range::ends_within`: r is what `within` answers of the first number, l of the last
 
-module _ (k : ℕ) (s : List ℤ) (i : ℕ) (h : i < length s) (inv : allWithin k (drop i s) ≡ allWithin k s)
-    (f : SFits w64 (getD s i (pos 0))) (r : Bool) (e : r ≡ within k (again (getD s i (pos 0)))) where
-  answer : r ≡ within k (getD s i (pos 0))
-  answer = rw (toZ-ofZ f) at e
+module _ (k : ℕ) (s : List ℤ) (some : length s ≡ 0 → ⊥) (f : SFits w64 (getD s 0 (pos 0))) (r : Bool) (e : r ≡ within k (again (getD s 0 (pos 0)))) where
+  first-answer : r ≡ within k (getD s 0 (pos 0))
+  first-answer = rw (toZ-ofZ f) at e
 
-  pub range-stop : not r ≡ true → false ≡ allWithin k s
-  range-stop t = rw (← inv, range-more k s i h, ← answer, not-true r t)
+  pub first-out : not r ≡ true → false ≡ allWithin k s
+  first-out t = ends-first k s some (sym first-answer ∙ not-true r t)
 
-  pub range-next : not r ≡ false → allWithin k (drop (i + 1) s) ≡ allWithin k s
-  range-next t = rw (← inv, range-more k s i h, ← answer, not-false r t)
+  pub last-tells : increasing s ≡ true → not r ≡ false → SFits w64 (getD s (length s - 1) (pos 0))
+      → (l : Bool) → l ≡ within k (again (getD s (length s - 1) (pos 0))) → l ≡ allWithin k s
+  last-tells up t g l h = (rw (toZ-ofZ g) at h) ∙ ends-last k s some up (sym first-answer ∙ not-false r t)
 
 -- ---- two numbers compared
 
@@ -89,29 +90,58 @@ compared-le a b t f g e = rw (toZ-ofZ f, toZ-ofZ g) at e
 pub compared-lt : (a b : ℤ) (t : Bool) → SFits w64 a → SFits w64 b → ltZ (again a) (again b) ≡ t → ltZ a b ≡ t
 compared-lt a b t f g e = rw (toZ-ofZ f, toZ-ofZ g) at e
 
--- ---- the marks: what `mark::at` requires and gives. The initial offset is passed as it is read back.
+-- ---- `mark::in_order`: r is what `within` answers of the offset at i, L the larger as `larger` gives it. The initial offset is as it is
+-- read back.
 
-pub passed-range : (b : ℤ) (ts ns : List ℤ) → SFits w64 b → InRange b ts ns → InRange (again b) ts ns
-passed-range b ts ns f r = rw (toZ-ofZ f) r
+-- what a turn gives once the offset is judged: the mark fits, and as it is compared the pass stops or goes on
+pub record Turn (b : ℤ) (ts ns : List ℤ) (before last : ℤ) (i : ℕ) (L : ℤ) : Type 0 where
+  pub fits : SFits w64 (again (getD ts i (pos 0)) +ℤ again L)
+  pub down : leZ (again (again (getD ts i (pos 0)) +ℤ again L)) last ≡ true → false ≡ both b ts ns
+  pub next : leZ (again (again (getD ts i (pos 0)) +ℤ again L)) last ≡ false
+      → Pass (again b) ts ns (again (getD ns i (pos 0))) (again (again (getD ts i (pos 0)) +ℤ again L)) (i + 1)
 
--- ---- one turn of `mark::increasing`: L and N are the marks at i - 1 and i
+module _ (b : ℤ) (ts ns : List ℤ) (f : SFits w64 b) where
+  as-given : (r : Bool) → r ≡ both (again b) ts ns → r ≡ both b ts ns
+  as-given r e = rw (toZ-ofZ f) at e
 
-module _ (b : ℤ) (ts ns : List ℤ) (even : length ts ≡ length ns)
-    (i : ℕ) (p : 1 ≤ i) (h : i < length ts) (inv : increasing (drop (i - 1) (marks b ts ns)) ≡ increasing (marks b ts ns))
-    (L N : ℤ) (l : mag L < 2 ^ 63) (n : mag N < 2 ^ 63) (le : L ≡ markAt b ts ns (i - 1)) (ne : N ≡ markAt b ts ns i) where
-  long : i < length (marks b ts ns)
-  long = omega (arith, marks-length b ts ns even)
+  pub turn-start : allWithin (2 ^ 40) ts ≡ true → within 86399 b ≡ true → Pass (again b) ts ns (again b) (negsuc 2199023255551) 0
+  turn-start p q = rw (toZ-ofZ f) (pass-start b ts ns p q)
 
-  tested : (t : Bool) → leZ (again N) (again L) ≡ t → leZ (getD (marks b ts ns) i (pos 0)) (getD (marks b ts ns) (i - 1) (pos 0)) ≡ t
-  tested t e =
-      rw (marks-at b ts ns even i h, marks-at b ts ns even (i - 1) (omega arith), ← ne, ← le)
-      (compared-le N L t (record { sfits = n }) (record { sfits = l }) e)
+  module _ (even : length ts ≡ length ns) (before last : ℤ) (i : ℕ) (w : Pass (again b) ts ns before last i) where
+    pub turn-end : length ts ≤ i → true ≡ both b ts ns
+    turn-end h = as-given true (pass-end (again b) ts ns even before last i h w)
 
-  pub marks-stop : leZ (again N) (again L) ≡ true → false ≡ increasing (marks b ts ns)
-  marks-stop e = walk-stop (marks b ts ns) i p long inv (tested true e)
+    module _ (h : i < length ts) (g : SFits w64 (getD ns i (pos 0))) (r : Bool) (e : r ≡ within 86399 (again (getD ns i (pos 0)))) where
+      offset-answer : r ≡ within 86399 (getD ns i (pos 0))
+      offset-answer = rw (toZ-ofZ g) at e
 
-  pub marks-next : leZ (again N) (again L) ≡ false → increasing (drop (i + 1 - 1) (marks b ts ns)) ≡ increasing (marks b ts ns)
-  marks-next e = walk-next (marks b ts ns) i p long inv (tested false e)
+      pub turn-wide : not r ≡ true → false ≡ both b ts ns
+      turn-wide t = as-given false (pass-wide (again b) ts ns even before last i h w (sym offset-answer ∙ not-true r t))
+
+      module _ (t : not r ≡ false) (near : allWithin (2 ^ 40) ts ≡ true) (j : SFits w64 (getD ts i (pos 0)))
+          (L : ℤ) (k : mag L < 2 ^ 63) (l : L ≡ larger before (again (getD ns i (pos 0)))) where
+        offset-in : within 86399 (getD ns i (pos 0)) ≡ true
+        offset-in = sym offset-answer ∙ not-false r t
+
+        added : L ≡ larger before (getD ns i (pos 0))
+        added = rw (toZ-ofZ g) at l
+
+        added-near : natAbs L ≤ 86399
+        added-near = rw added (added-small (again b) ts ns even before last i h w offset-in)
+
+        instant-near : natAbs (getD ts i (pos 0)) ≤ 2 ^ 62
+        instant-near = omega (arith, range-at (2 ^ 40) ts near i)
+
+        next-is : again (again (getD ts i (pos 0)) +ℤ again L) ≡ markOf (getD ts i (pos 0)) before (getD ns i (pos 0))
+        next-is = sum-is (getD ts i (pos 0)) L j (record { sfits = k }) instant-near added-near ∙ ap (λ (z : ℤ). getD ts i (pos 0) +ℤ z) added
+
+        pub turn : Turn b ts ns before last i L
+        turn =
+            record {
+              fits = sum-fits (getD ts i (pos 0)) L j (record { sfits = k }) instant-near added-near;
+              down = λ d. as-given false (pass-down (again b) ts ns even before last i h w (rw next-is at d));
+              next = λ d. rw (next-is, toZ-ofZ g) (pass-next (again b) ts ns even before last i h w offset-in (rw next-is at d));
+            }
 
 -- ---- `offset`: M is the mark at i as `mark::at` gives it, R the offset as `mark::before` does
 

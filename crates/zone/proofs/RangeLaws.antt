@@ -3,12 +3,10 @@ use Prim.Native.Nat.{ℕ, zero, suc, _+_, _<_, _≤_, _^_}
 use mathlib.Core.Bool.{Bool, true, false, _&&_}
 use mathlib.Core.List.{List, [], _∷_}
 use mathlib.Core.Path.{_≡_, refl, sym}
-use native.Mathlib.Numerals.{add-one}
 use native.Mathlib.Omega.{arith}
 use borrow.Author.Tests.{leb-true, le-leb, lt-leb}
 use lib.IntN.{ℤ, pos, negsuc, negℤ, natAbs, subℕ, _+ℤ_, _-ℤ_}
-use lib.ListN.{length, getD, drop, drop-of-length-le}
-use lib.Seq.{drop-cons}
+use lib.ListN.{getD}
 use mir.Syntax.{w64}
 use mir.Val.{SFits}
 use Rattle.signed.specs.Parts.{posPart, negPart}
@@ -42,14 +40,6 @@ unfolding within
 range-abs k z e = leb-true _ _ e
 
 -- ---- a list
-
-pub range-more : (k : ℕ) (s : List ℤ) (i : ℕ) → i < length s → allWithin k (drop i s) ≡ within k (getD s i (pos 0)) && allWithin k (drop (i + 1) s)
-unfolding allWithin
-range-more k s i h = rw (drop-cons s i (pos 0) h, add-one)
-
-pub range-end : (k : ℕ) (s : List ℤ) (i : ℕ) → length s ≤ i → allWithin k (drop i s) ≡ true
-unfolding allWithin
-range-end k s i h = rw (drop-of-length-le s h)
 
 -- past the end too, where `getD` gives 0
 pub range-at : (k : ℕ) (s : List ℤ) → allWithin k s ≡ true → (i : ℕ) → natAbs (getD s i (pos 0)) ≤ k

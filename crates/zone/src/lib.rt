@@ -20,22 +20,19 @@ pub fn valid(initial: i64, instants: &[i64], offsets: &[i64]) -> bool
     if instants.len() != offsets.len() {
         return false;
     }
-    if !range::all_within(instants, 1099511627776) {
+    if !range::increasing(instants) {
         return false;
     }
-    if !range::increasing(instants) {
+    if !range::ends_within(instants, 1099511627776) {
         return false;
     }
     if !range::within(initial, 86399) {
         return false;
     }
-    if !range::all_within(offsets, 86399) {
-        return false;
-    }
-    mark::increasing(initial, instants, offsets)
+    mark::in_order(initial, instants, offsets)
 }
 
-// Where to look next between `low` and `high`: twice near the place that the caller guessed, then in the middle.
+// Where to look next between `low` and `high`: near the place that the caller guessed while `near` lasts, then in the middle.
 fn probe(low: usize, high: usize, guess: usize, near: u32) -> usize
     requires { ⌜ low < high ⌝ }
     ensures { λ r. ⌜ (low ≤ r) × (r < high) ⌝ }
@@ -60,8 +57,8 @@ fn fewer(n: u32) -> u32 {
 }
 
 // Marks increase, so the first one beyond the local time is found by halving: what stands before `low` is at or before it, and the mark at
-// `high`, where there is one, is beyond it. The hint is where it was found before and is left where it is found now: a time soon after the
-// last one takes two looks. Any hint is right.
+// `high`, where there is one, is beyond it. The hint is where it was found before and is left where it is found now: a time up to one
+// transition after the last one takes two looks, up to two transitions three (a yearly rule moves by two). Any hint is right.
 pub fn offset(initial: i64, instants: &[i64], offsets: &[i64], local: i64, hint: &mut usize) -> i64
     requires { ⌜ validTable initial (now instants) (now offsets) ≡ true ⌝ }
     ensures { λ r. ⌜ r ≡ offsetAt initial (now (instants .entry)) (now (offsets .entry)) local ⌝ }
@@ -69,7 +66,7 @@ pub fn offset(initial: i64, instants: &[i64], offsets: &[i64], local: i64, hint:
     let guess = *hint;
     let mut low = 0;
     let mut high = instants.len();
-    let mut near: u32 = 2;
+    let mut near: u32 = 4;
     while low < high {
         let middle = probe(low, high, guess, near);
         near = fewer(near);

@@ -1,5 +1,6 @@
 // The ranges of a zone table's numbers, and their order.
 ghost use mathlib.Core.Path.{_≡_};
+ghost use mathlib.Core.Bool.{true};
 ghost use Rattle.zone.specs.Table as Table;
 
 // Is z within ±k? By its parts, as -z need not fit.
@@ -11,19 +12,6 @@ pub fn within(z: i64, k: u64) -> bool
     }
     if k < signed::negative_part(z) {
         return false;
-    }
-    true
-}
-
-pub fn all_within(s: &[i64], k: u64) -> bool
-    ensures { λ r. ⌜ r ≡ Table.allWithin k (now (s .entry)) ⌝ }
-{
-    let mut i = 0;
-    while i < s.len() {
-        if !within(s[i], k) {
-            return false;
-        }
-        i += 1;
     }
     true
 }
@@ -42,4 +30,18 @@ pub fn increasing(s: &[i64]) -> bool
         i += 1;
     }
     true
+}
+
+// Are all within ±k? Of numbers that increase only the ends need a look.
+pub fn ends_within(s: &[i64], k: u64) -> bool
+    requires { ⌜ Table.increasing (now s) ≡ true ⌝ }
+    ensures { λ r. ⌜ r ≡ Table.allWithin k (now (s .entry)) ⌝ }
+{
+    if s.len() == 0 {
+        return true;
+    }
+    if !within(s[0], k) {
+        return false;
+    }
+    within(s[s.len() - 1], k)
 }

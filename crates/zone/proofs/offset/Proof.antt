@@ -1,4 +1,4 @@
--- `zone::offset` meets its contract: what lies between `low` and `high` is halved at each turn, but for two looks near the hint.
+-- `zone::offset` meets its contract: what lies between `low` and `high` is halved at each turn, but for four looks near the hint.
 use Prim.Native.Nat.{_≤_, _-_, _+_, _/_}
 use native.Mathlib.Omega.{arith}
 use lib.ListN.{length}
