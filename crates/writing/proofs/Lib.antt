@@ -1,3 +1,4 @@
 pub mod DetailsLaws
 pub mod WriteLaws
 pub mod ChunkLaws
+pub mod ListedLaws
