@@ -1,12 +1,12 @@
 -- What the calls of `put_shown` say of an accepted event, joined: hd is its head, o its own details.
-use Prim.Native.Nat.{ℕ, _+_, _*_, _<_, _≤_}
+use Prim.Native.Nat.{ℕ, _+_, _*_, _≤_}
 use mathlib.Core.Bool.{Bool, true, false}
 use mathlib.Core.List.{List, [], map}
 use mathlib.Core.Path.{_≡_, refl, sym, ap, subst, _∙_}
 use native.Mathlib.Omega.{arith}
 use lib.IntN.{ℤ}
 use lib.ListN.{length, take}
-use lib.Seq.{sets, length-sets, length-take-le}
+use lib.Seq.{sets, length-sets}
 use mir.Syntax.{w64}
 use mir.Val.{SFits, toZ, ofZ}
 use mir.Facts.{toZ-ofZ}
@@ -28,7 +28,8 @@ use Rattle.event_text.proofs.FromHead.{head-zone, head-accepted}
 use Rattle.dates.specs.declared.Tracks.{Tracks}
 use Rattle.dates.specs.Loaded.{Loaded, loaded, isIn}
 use Rattle.dates.specs.Stands.{Stands}
-use Rattle.window.specs.Chunks.{Window, Ready}
+use Rattle.dates.specs.Tracked.{Tracked}
+use Rattle.window.specs.Chunks.{Window}
 use Rattle.table.specs.Occurrence.{datesOf}
 use Rattle.table.specs.Bytes.{ZoneTable, isFloating}
 use Rattle.table.specs.Answer.{Outcome}
@@ -42,6 +43,7 @@ use Rattle.event_loading.proofs.KeptLaws.{kept-season, kept-start, kept-bounds,
 use Rattle.event_loading.proofs.WindowLaws.{limit-within, limit-enough}
 use Rattle.tables.specs.Sheet.{sheetBy, fitted}
 use Rattle.tables.proofs.EventLaws.{sheet-is}
+use Rattle.tables.proofs.LentLaws.{taken}
 use Rattle.expansion.specs.Shown.{sheetOf}
 
 -- the lists that were filled from the front are as long as before
@@ -55,12 +57,6 @@ module _ (overrides : List Override) (patches : List ℕ) (ids₀ ids₁ : List 
 
   places-long : length places₁ ≡ length places₀
   places-long = ap length (w .places) ∙ length-sets places₀ 0 (take 256 patches)
-
-pub taken : {A : Type 0} (l : List A) (n : ℕ) → n ≤ length l → n ≡ length (take n l)
-taken l n h = sym (length-take-le n l h)
-
-pub some-taken : {A : Type 0} (l : List A) (n : ℕ) → 0 < n → n ≤ length l → 0 < length (take n l)
-some-taken l n some room = omega (arith, length-take-le n l room)
 
 module _ (s : List ℕ) (hd : Head) (is : fromHead inner s hd ≡ frontOf s) (ok : eventFault s ≡ 0) (to limit : ℕ) (lim : limit ≡ limitOf to) where
   within : limit ≤ endDay
@@ -106,13 +102,13 @@ module _ (s : List ℕ) (hd : Head) (is : fromHead inner s hd ≡ frontOf s) (ok
           begins : o .start ≡ hd .start
           begins = kept-start s hd is ok o (own s)
 
-          pub table-needs : validTable b ts ns ≡ true → (hits : ℕ) → 0 < hits
-              → Ready rules (length flags) excluded (length excludedFlags) (length (take n ids₁)) (length (take n gone₁)) hits
+          pub table-needs : validTable b ts ns ≡ true
+              → (Tracked rules (length flags) × (Tracked excluded (length excludedFlags) × (length (take n ids₁) ≡ length (take n gone₁))))
               × (Window (o .start) from to × (Overridden (length (take n ids₁)) (length (take n gone₁)) (length (take n places₁))
               × Timed (toZ w64 (ofZ w64 b)) ts ns (detailsBy s (detailsIn s o) (take n ids₁) (take n places₁))))
-          table-needs valid hits some =
+          table-needs valid =
               let even = kept-even s hd is ok o (own s) ids₀ ids₁ gone₀ gone₁ places₀ places₁ n room filled in (
-                record { rules-tracked = kept .tracked; excluded-tracked = left .tracked; overrides = even .marks; lent = some },
+                (kept .tracked, (left .tracked, even .marks)),
                 (
                   subst (λ (k : ℕ). Window k from to) (sym begins) w,
                   (

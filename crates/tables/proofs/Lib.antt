@@ -1,3 +1,4 @@
 pub mod SheetLaws
 pub mod EventLaws
 pub mod ChunkLaws
+pub mod LentLaws

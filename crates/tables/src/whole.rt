@@ -149,8 +149,8 @@ fn put_chunks(
     0
 }
 
-// The table of the window: 0 and its length, or 13 and no byte changed.
-pub fn put_table(
+// The table of the window, marked in the lent hits: 0 and its length, or 13 and no byte changed.
+pub fn put_marked(
     buffer: &mut [u8],
     length: &mut u64,
     text: &[u8],

@@ -1,48 +1,135 @@
--- `put_shown` meets its contract.
-use mir.Facts.{toZ-ofZ}
+-- `put_shown` meets its contract: what is loaded stands for the event, so what is written is its table.
+use mathlib.Core.Path.{refl}
+use native.Mathlib.Omega.{arith}
 use borrow.Author.Needs.{needs}
+use Rattle.expansion.proofs.ShownLaws.{rules-need, excluded-need, ids-room, ids-taken, gone-room, gone-taken, places-room, places-taken, table-needs, table-given}
 use Rattle.expansion.proofs.shown.put_shown.Statement.{statement}
 use Rattle.expansion.proofs.shown.put_shown.Tie as tie
 
 limit-of-requires : tie.Need-limit-of-requires
 limit-of-requires c κs = search needs
 
-days-at-once-requires : tie.Need-days-at-once-requires
-days-at-once-requires c κs = search needs
+slice-aggregate-load-list : tie.Need-slice-aggregate-load-list
+slice-aggregate-load-list c = search needs
 
-put-few-requires : tie.Need-put-few-requires
-put-few-requires c κs =
+load-list-requires : tie.Need-load-list-requires
+load-list-requires c κs =
+    let q = c .before .before .before .before .before in
+    let n = rules-need _ (q .args .event) (q .pre .1 .0) (q .pre .1 .1 .0) _ _ (c .before .limit-of .ensures) in
+    (n .0, (n .1, (refl, q .pre .0)))
+
+slice-aggregate-load-list-2 : tie.Need-slice-aggregate-load-list-2
+slice-aggregate-load-list-2 c = search needs
+
+load-list-requires-2 : tie.Need-load-list-requires-2
+load-list-requires-2 c κs =
     let q = c .before .before .before .before .before .before .before .before in
-    let p = q .pre .1 .1 in
-    (q .pre .0, (q .pre .1 .0, (p .0, (rw (toZ-ofZ (q .fits .initial)) (p .1 .0), (p .1 .1, (c .before .before .before .days-at-once .ensures .0, c .before .before .if1 .taken))))))
+    let n = excluded-need _ (q .args .event) (q .pre .1 .0) (q .pre .1 .1 .0) _ _ (c .before .before .before .before .limit-of .ensures) in
+    (n .0, (n .1, (refl, q .pre .0)))
+
+slice-aggregate-load-overrides : tie.Need-slice-aggregate-load-overrides
+slice-aggregate-load-overrides c = search needs
+
+slice-aggregate-load-overrides-2 : tie.Need-slice-aggregate-load-overrides-2
+slice-aggregate-load-overrides-2 c = search needs
+
+slice-aggregate-load-overrides-3 : tie.Need-slice-aggregate-load-overrides-3
+slice-aggregate-load-overrides-3 c = search needs
+
+load-overrides-requires : tie.Need-load-overrides-requires
+load-overrides-requires c κs = search needs
+
+own-of-requires : tie.Need-own-of-requires
+own-of-requires c κs = search needs
+
+array-share-prefix-ids : tie.Need-array-share-prefix-ids
+array-share-prefix-ids c =
+    let q = c .before .before .before .before .before .before .before .before .before .before .before .before .before .before .before .before .before .before .before .before in
+    ids-room _ (q .args .event) (q .pre .1 .0) (q .pre .1 .1 .0) _ _ (c .before .before .before .before .before .before .before .before .before .before .before .before .before .before .before .before .limit-of .ensures)
+    (c .own-of .result) (c .own-of .ensures) _ _ _ _ _ _ _ (omega arith, (omega arith, omega arith)) (c .before .before .before .before .before .before .load-overrides .ensures)
+
+slice-aggregate-put-table : tie.Need-slice-aggregate-put-table
+slice-aggregate-put-table c =
+    let q = c .before .before .before .before .before .before .before .before .before .before .before .before .before .before .before .before .before .before .before .before .before in
+    ids-taken _ (q .args .event) (q .pre .1 .0) (q .pre .1 .1 .0) _ _ (c .before .before .before .before .before .before .before .before .before .before .before .before .before .before .before .before .before .limit-of .ensures)
+    (c .before .own-of .result) (c .before .own-of .ensures) _ _ _ _ _ _ _ (omega arith, (omega arith, omega arith)) (c .before .before .before .before .before .before .before .load-overrides .ensures)
+
+array-share-prefix-gone : tie.Need-array-share-prefix-gone
+array-share-prefix-gone c =
+    let q = c .before .before .before .before .before .before .before .before .before .before .before .before .before .before .before .before .before .before .before .before .before in
+    gone-room _ (q .args .event) (q .pre .1 .0) (q .pre .1 .1 .0) _ _ (c .before .before .before .before .before .before .before .before .before .before .before .before .before .before .before .before .before .limit-of .ensures)
+    (c .before .own-of .result) (c .before .own-of .ensures) _ _ _ _ _ _ _ (omega arith, (omega arith, omega arith)) (c .before .before .before .before .before .before .before .load-overrides .ensures)
+
+slice-aggregate-put-table-2 : tie.Need-slice-aggregate-put-table-2
+slice-aggregate-put-table-2 c =
+    let q = c .before .before .before .before .before .before .before .before .before .before .before .before .before .before .before .before .before .before .before .before .before .before in
+    gone-taken _ (q .args .event) (q .pre .1 .0) (q .pre .1 .1 .0) _ _ (c .before .before .before .before .before .before .before .before .before .before .before .before .before .before .before .before .before .before .limit-of .ensures)
+    (c .before .before .own-of .result) (c .before .before .own-of .ensures) _ _ _ _ _ _ _ (omega arith, (omega arith, omega arith)) (c .before .before .before .before .before .before .before .before .load-overrides .ensures)
+
+array-share-prefix-places : tie.Need-array-share-prefix-places
+array-share-prefix-places c =
+    let q = c .before .before .before .before .before .before .before .before .before .before .before .before .before .before .before .before .before .before .before .before .before .before in
+    places-room _ (q .args .event) (q .pre .1 .0) (q .pre .1 .1 .0) _ _ (c .before .before .before .before .before .before .before .before .before .before .before .before .before .before .before .before .before .before .limit-of .ensures)
+    (c .before .before .own-of .result) (c .before .before .own-of .ensures) _ _ _ _ _ _ _ (omega arith, (omega arith, omega arith)) (c .before .before .before .before .before .before .before .before .load-overrides .ensures)
+
+slice-aggregate-put-table-3 : tie.Need-slice-aggregate-put-table-3
+slice-aggregate-put-table-3 c =
+    let q = c .before .before .before .before .before .before .before .before .before .before .before .before .before .before .before .before .before .before .before .before .before .before .before in
+    places-taken _ (q .args .event) (q .pre .1 .0) (q .pre .1 .1 .0) _ _ (c .before .before .before .before .before .before .before .before .before .before .before .before .before .before .before .before .before .before .before .limit-of .ensures)
+    (c .before .before .before .own-of .result) (c .before .before .before .own-of .ensures) _ _ _ _ _ _ _ (omega arith, (omega arith, omega arith)) (c .before .before .before .before .before .before .before .before .before .load-overrides .ensures)
+
+is-floating-requires : tie.Need-is-floating-requires
+is-floating-requires c κs = search needs
+
+slice-aggregate-put-table-4 : tie.Need-slice-aggregate-put-table-4
+slice-aggregate-put-table-4 c = search needs
+
+slice-aggregate-put-table-5 : tie.Need-slice-aggregate-put-table-5
+slice-aggregate-put-table-5 c = search needs
+
+put-table-requires : tie.Need-put-table-requires
+put-table-requires c κs =
+    let q = c .before .before .before .before .before .before .before .before .before .before .before .before .before .before .before .before .before .before .before .before .before .before .before .before .before .before in (
+      q .pre .0,
+      table-needs _ (q .args .event) (q .pre .1 .0) (q .pre .1 .1 .0) _ _ (c .before .before .before .before .before .before .before .before .before .before .before .before .before .before .before .before .before .before .before .before .before .before .limit-of .ensures)
+          (c .before .before .before .before .before .before .own-of .result) (c .before .before .before .before .before .before .own-of .ensures) _ _ _ _ _ _ _ (omega arith, (omega arith, omega arith)) (c .before .before .before .before .before .before .before .before .before .before .before .before .load-overrides .ensures)
+          _ _ _ _ (c .before .before .before .before .before .before .before .before .before .before .before .before .before .before .before .before .before .before .before .before .load-list .ensures) (c .before .before .before .before .before .before .before .before .before .before .before .before .before .before .before .before .before .load-list2 .ensures) _ (q .pre .1 .1 .1 .1) _ _ _ (q .fits .initial) (q .pre .1 .1 .1 .0),
+    )
 
 same-length : tie.Need-same-length
 same-length c = search needs
 
 returns : tie.Need-returns
-returns c = λ name. let q = c .before .before .before .before .before .before .before .before .before .before .before in rw (toZ-ofZ (q .fits .initial)) at (c .before .before .put-few .ensures name)
-
-put-many-requires : tie.Need-put-many-requires
-put-many-requires c κs =
-    let q = c .before .before .before .before .before .before .before .before in
-    let p = q .pre .1 .1 in
-    (q .pre .0, (q .pre .1 .0, (p .0, (rw (toZ-ofZ (q .fits .initial)) (p .1 .0), (p .1 .1, c .before .before .before .days-at-once .ensures)))))
-
-same-length-2 : tie.Need-same-length-2
-same-length-2 c = search needs
-
-returns-2 : tie.Need-returns-2
-returns-2 c = λ name. let q = c .before .before .before .before .before .before .before .before .before .before .before in rw (toZ-ofZ (q .fits .initial)) at (c .before .before .put-many .ensures name)
+returns c =
+    let q = c .before .before .before .before .before .before .before .before .before .before .before .before .before .before .before .before .before .before .before .before .before .before .before .before .before .before .before .before .before in
+    table-given _ (q .args .event) (q .pre .1 .0) (q .pre .1 .1 .0) _ _ (c .before .before .before .before .before .before .before .before .before .before .before .before .before .before .before .before .before .before .before .before .before .before .before .before .before .limit-of .ensures)
+    (c .before .before .before .before .before .before .before .before .before .own-of .result) (c .before .before .before .before .before .before .before .before .before .own-of .ensures) _ _ _ _ _ _ _ (omega arith, (omega arith, omega arith)) (c .before .before .before .before .before .before .before .before .before .before .before .before .before .before .before .load-overrides .ensures)
+    _ _ _ _ (c .before .before .before .before .before .before .before .before .before .before .before .before .before .before .before .before .before .before .before .before .before .before .before .load-list .ensures) (c .before .before .before .before .before .before .before .before .before .before .before .before .before .before .before .before .before .before .before .before .load-list2 .ensures) _ (q .pre .1 .1 .1 .1) _ _ _ (q .fits .initial)
+    _ (c .before .before .before .before .before .is-floating .ensures) _ _ _ _ (c .before .before .put-table .ensures)
 
 pub put-shown-spec : {M : Type 1} → statement M
 put-shown-spec =
     tie.close
     (tie.spec
     limit-of-requires
-    days-at-once-requires
-    put-few-requires
+    slice-aggregate-load-list
+    load-list-requires
+    slice-aggregate-load-list-2
+    load-list-requires-2
+    slice-aggregate-load-overrides
+    slice-aggregate-load-overrides-2
+    slice-aggregate-load-overrides-3
+    load-overrides-requires
+    own-of-requires
+    array-share-prefix-ids
+    slice-aggregate-put-table
+    array-share-prefix-gone
+    slice-aggregate-put-table-2
+    array-share-prefix-places
+    slice-aggregate-put-table-3
+    is-floating-requires
+    slice-aggregate-put-table-4
+    slice-aggregate-put-table-5
+    put-table-requires
     same-length
-    returns
-    put-many-requires
-    same-length-2
-    returns-2)
+    returns)

@@ -1,9 +1,9 @@
--- `tables::whole::put_table` meets its contract.
+-- `tables::whole::put_marked` meets its contract.
 use mir.Facts.{toZ-ofZ}
 use Rattle.tables.proofs.ChunkLaws.{one-chunk}
 use borrow.Author.Needs.{needs}
-use Rattle.tables.proofs.whole.put_table.Statement.{statement}
-use Rattle.tables.proofs.whole.put_table.Tie as tie
+use Rattle.tables.proofs.whole.put_marked.Statement.{statement}
+use Rattle.tables.proofs.whole.put_marked.Tie as tie
 
 is-one-chunk-requires : tie.Need-is-one-chunk-requires
 is-one-chunk-requires c κs = search needs
@@ -42,8 +42,8 @@ returns-2 c =
     let q = c .before .before .before .before .before .before .before .before .before .before .before .before .before .before .before .before .before .before .before in
     rw (toZ-ofZ (q .fits .initial)) at (c .before .before .before .before .put-chunks .ensures)
 
-pub put-table-spec : {M : Type 1} → statement M
-put-table-spec =
+pub put-marked-spec : {M : Type 1} → statement M
+put-marked-spec =
     tie.close
     (tie.spec
     is-one-chunk-requires
