@@ -18,7 +18,7 @@ use event_loading::lists::load_list;
 use event_loading::lists::load_overrides;
 use event_text::Head;
 use event_text::heads::own_of;
-use tables::lent::put_table;
+use sheets::whole::put_event;
 
 // The flags are rows for eight rules of each list.
 pub fn put_shown(
@@ -51,7 +51,7 @@ pub fn put_shown(
     let kept = load_list(text, ends, rules, false, start, limit, &mut rulerows);
     let left = load_list(text, ends, excluded, true, start, limit, &mut excludedrows);
     let n = load_overrides(text, ends, overrides, &mut ids, &mut gone, &mut places);
-    put_table(
+    put_event(
         buffer,
         length,
         text,

@@ -48,8 +48,8 @@ array-share-prefix-ids c =
     ids-room _ (q .args .event) (q .pre .1 .0) (q .pre .1 .1 .0) _ _ (c .before .before .before .before .before .before .before .before .before .before .before .before .before .before .before .before .limit-of .ensures)
     (c .own-of .result) (c .own-of .ensures) _ _ _ _ _ _ _ (omega arith, (omega arith, omega arith)) (c .before .before .before .before .before .before .load-overrides .ensures)
 
-slice-aggregate-put-table : tie.Need-slice-aggregate-put-table
-slice-aggregate-put-table c =
+slice-aggregate-put-event : tie.Need-slice-aggregate-put-event
+slice-aggregate-put-event c =
     let q = c .before .before .before .before .before .before .before .before .before .before .before .before .before .before .before .before .before .before .before .before .before in
     ids-taken _ (q .args .event) (q .pre .1 .0) (q .pre .1 .1 .0) _ _ (c .before .before .before .before .before .before .before .before .before .before .before .before .before .before .before .before .before .limit-of .ensures)
     (c .before .own-of .result) (c .before .own-of .ensures) _ _ _ _ _ _ _ (omega arith, (omega arith, omega arith)) (c .before .before .before .before .before .before .before .load-overrides .ensures)
@@ -60,8 +60,8 @@ array-share-prefix-gone c =
     gone-room _ (q .args .event) (q .pre .1 .0) (q .pre .1 .1 .0) _ _ (c .before .before .before .before .before .before .before .before .before .before .before .before .before .before .before .before .before .limit-of .ensures)
     (c .before .own-of .result) (c .before .own-of .ensures) _ _ _ _ _ _ _ (omega arith, (omega arith, omega arith)) (c .before .before .before .before .before .before .before .load-overrides .ensures)
 
-slice-aggregate-put-table-2 : tie.Need-slice-aggregate-put-table-2
-slice-aggregate-put-table-2 c =
+slice-aggregate-put-event-2 : tie.Need-slice-aggregate-put-event-2
+slice-aggregate-put-event-2 c =
     let q = c .before .before .before .before .before .before .before .before .before .before .before .before .before .before .before .before .before .before .before .before .before .before in
     gone-taken _ (q .args .event) (q .pre .1 .0) (q .pre .1 .1 .0) _ _ (c .before .before .before .before .before .before .before .before .before .before .before .before .before .before .before .before .before .before .limit-of .ensures)
     (c .before .before .own-of .result) (c .before .before .own-of .ensures) _ _ _ _ _ _ _ (omega arith, (omega arith, omega arith)) (c .before .before .before .before .before .before .before .before .load-overrides .ensures)
@@ -72,8 +72,8 @@ array-share-prefix-places c =
     places-room _ (q .args .event) (q .pre .1 .0) (q .pre .1 .1 .0) _ _ (c .before .before .before .before .before .before .before .before .before .before .before .before .before .before .before .before .before .before .limit-of .ensures)
     (c .before .before .own-of .result) (c .before .before .own-of .ensures) _ _ _ _ _ _ _ (omega arith, (omega arith, omega arith)) (c .before .before .before .before .before .before .before .before .load-overrides .ensures)
 
-slice-aggregate-put-table-3 : tie.Need-slice-aggregate-put-table-3
-slice-aggregate-put-table-3 c =
+slice-aggregate-put-event-3 : tie.Need-slice-aggregate-put-event-3
+slice-aggregate-put-event-3 c =
     let q = c .before .before .before .before .before .before .before .before .before .before .before .before .before .before .before .before .before .before .before .before .before .before .before in
     places-taken _ (q .args .event) (q .pre .1 .0) (q .pre .1 .1 .0) _ _ (c .before .before .before .before .before .before .before .before .before .before .before .before .before .before .before .before .before .before .before .limit-of .ensures)
     (c .before .before .before .own-of .result) (c .before .before .before .own-of .ensures) _ _ _ _ _ _ _ (omega arith, (omega arith, omega arith)) (c .before .before .before .before .before .before .before .before .before .load-overrides .ensures)
@@ -81,14 +81,14 @@ slice-aggregate-put-table-3 c =
 is-floating-requires : tie.Need-is-floating-requires
 is-floating-requires c κs = search needs
 
-slice-aggregate-put-table-4 : tie.Need-slice-aggregate-put-table-4
-slice-aggregate-put-table-4 c = search needs
+slice-aggregate-put-event-4 : tie.Need-slice-aggregate-put-event-4
+slice-aggregate-put-event-4 c = search needs
 
-slice-aggregate-put-table-5 : tie.Need-slice-aggregate-put-table-5
-slice-aggregate-put-table-5 c = search needs
+slice-aggregate-put-event-5 : tie.Need-slice-aggregate-put-event-5
+slice-aggregate-put-event-5 c = search needs
 
-put-table-requires : tie.Need-put-table-requires
-put-table-requires c κs =
+put-event-requires : tie.Need-put-event-requires
+put-event-requires c κs =
     let q = c .before .before .before .before .before .before .before .before .before .before .before .before .before .before .before .before .before .before .before .before .before .before .before .before .before .before in (
       q .pre .0,
       table-needs _ (q .args .event) (q .pre .1 .0) (q .pre .1 .1 .0) _ _ (c .before .before .before .before .before .before .before .before .before .before .before .before .before .before .before .before .before .before .before .before .before .before .limit-of .ensures)
@@ -105,7 +105,7 @@ returns c =
     table-given _ (q .args .event) (q .pre .1 .0) (q .pre .1 .1 .0) _ _ (c .before .before .before .before .before .before .before .before .before .before .before .before .before .before .before .before .before .before .before .before .before .before .before .before .before .limit-of .ensures)
     (c .before .before .before .before .before .before .before .before .before .own-of .result) (c .before .before .before .before .before .before .before .before .before .own-of .ensures) _ _ _ _ _ _ _ (omega arith, (omega arith, omega arith)) (c .before .before .before .before .before .before .before .before .before .before .before .before .before .before .before .load-overrides .ensures)
     _ _ _ _ (c .before .before .before .before .before .before .before .before .before .before .before .before .before .before .before .before .before .before .before .before .before .before .before .load-list .ensures) (c .before .before .before .before .before .before .before .before .before .before .before .before .before .before .before .before .before .before .before .before .load-list2 .ensures) _ (q .pre .1 .1 .1 .1) _ _ _ (q .fits .initial)
-    _ (c .before .before .before .before .before .is-floating .ensures) _ _ _ _ (c .before .before .put-table .ensures)
+    _ (c .before .before .before .before .before .is-floating .ensures) _ _ _ _ (c .before .before .put-event .ensures)
 
 pub put-shown-spec : {M : Type 1} → statement M
 put-shown-spec =
@@ -122,14 +122,14 @@ put-shown-spec =
     load-overrides-requires
     own-of-requires
     array-share-prefix-ids
-    slice-aggregate-put-table
+    slice-aggregate-put-event
     array-share-prefix-gone
-    slice-aggregate-put-table-2
+    slice-aggregate-put-event-2
     array-share-prefix-places
-    slice-aggregate-put-table-3
+    slice-aggregate-put-event-3
     is-floating-requires
-    slice-aggregate-put-table-4
-    slice-aggregate-put-table-5
-    put-table-requires
+    slice-aggregate-put-event-4
+    slice-aggregate-put-event-5
+    put-event-requires
     same-length
     returns)
