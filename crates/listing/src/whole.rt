@@ -35,7 +35,7 @@ fn counts_in_months(terms: Terms) -> bool
 }
 
 // Months alike have the same days of the rule.
-fn is_by_months(terms: Terms, flags: &[bool]) -> bool
+pub fn is_by_months(terms: Terms, flags: &[bool]) -> bool
     requires { ⌜ length (now flags) ≡ 1574 ⌝ }
     ensures { λ r. ⌜ (r ≡ true → ByMonths terms (now (flags .entry))) ⌝ }
 {

@@ -90,17 +90,17 @@ module _ (rules : Tracks) (flags : ℕ) (one : rules .count ≡ 1) (t : Tracked 
     pub first-day : dayFrom start from ≤ endDay
     first-day = from-day start from .earliest endDay (omega (arith, w .high, w .order))
 
-    pub window-asks : (other : Track) (row days : ℕ) → row ≡ 1574 → days ≡ 1024 → Listing (getD (rules .list) 0 other) row (dayFrom start from) (dayFrom start to) days
-    window-asks other row days whole room =
-        record { row-length = whole; week = first-week other; low = low-day; high = last-day; room = omega arith; small = omega arith }
+    pub window-asks : (other : Track) (row days : ℕ) → row ≡ 1574 → 1 ≤ days → days ≤ 16384 → Listing (getD (rules .list) 0 other) row (dayFrom start from) (dayFrom start to) days
+    window-asks other row days whole room most =
+        record { row-length = whole; week = first-week other; low = low-day; high = last-day; room = room; small = omega arith }
 
-    pub window-listed : (other : Track) (row : List Bool) (before after : List ℕ) (count : ℕ) → length before ≡ 1024
+    pub window-listed : (other : Track) (row : List Bool) (before after : List ℕ) (count : ℕ)
         → Tried (startOr (getD (rules .list) 0 other) (take 1574 row) (start / 86400)) (dayFrom start from) (dayFrom start to - dayFrom start from) before 0 after count
-        → ListedWindow start rules row from to after count
-    window-listed other row before after count size l =
+        → ListedWindow start rules row from to (length before) after count
+    window-listed other row before after count l =
         record {
           list = λ few another.
-              l .days (omega arith)
+              l .days few
               ∙ ap (λ (t : Track). listIn (startOr t (take 1574 row) (start / 86400)) (dayFrom start from) (dayFrom start to - dayFrom start from))
               (any-first (rules .list) other another has-rule);
         }
@@ -129,15 +129,18 @@ module _ (start : ℕ) (rules : Tracks) (ruleFlags : List Bool) (excluded : Trac
       ap (λ (k : ℕ). rowsOf row (map (onDay start) days) ++ trailerOf k) (sym (length-map days (onDay start)))
       ∙ ap (λ (xs : List ℕ). rowsOf row xs ++ trailerOf (length xs)) seconds
 
-  pub plain-gives : (row : ℕ → List ℕ) (days : List ℕ) (count : ℕ) → ListedWindow start rules ruleFlags from to days count → count ≤ 1024
+  pub plain-gives : (row : ℕ → List ℕ) (room : ℕ) (days : List ℕ) (count : ℕ) → ListedWindow start rules ruleFlags from to room days count → count ≤ room
       → (before after : List ℕ) (r k : ℕ) → Gives (fitted (sheetOn row start (take count days)) before) r k after
       → Gives (fitted (sheetBy row (isIn (loaded start rules ruleFlags excluded excludedFlags ids gone)) from to) before) r k after
-  plain-gives row days count l few before after r k g =
+  plain-gives row room days count l few before after r k g =
       subst (λ (sheet : List ℕ). Gives (fitted sheet before) r k after) (same-sheet row (take count days) (l .list few other)) g
 
 -- no more are taken than asked for
-pub few-taken : (l : List ℕ) (n most : ℕ) → n ≤ most → length (take n l) ≤ most
+few-taken : (l : List ℕ) (n most : ℕ) → n ≤ most → length (take n l) ≤ most
 few-taken l zero most h = omega arith
 few-taken [] (suc n) most h = omega arith
 few-taken (a ∷ l) (suc n) zero h = absurd (omega arith)
 few-taken (a ∷ l) (suc n) (suc most) h = let rest : length (take n l) ≤ most = few-taken l n most (omega arith) in omega arith
+
+pub few-lent : (l : List ℕ) (n room most : ℕ) → n ≤ room → room ≤ most → length (take n l) ≤ most
+few-lent l n room most h k = few-taken l n most (omega arith)

@@ -15,7 +15,7 @@ pub record Plain (rules excluded : Tracks) (ids : ℕ) : Type 0 where
   pub none : excluded .count ≡ 0
   pub unnamed : ids ≡ 0
 
--- The days of the window that the start or the first rule gives, at the start's time of day, unless they are more than 1,024.
-pub record ListedWindow (start : ℕ) (rules : Tracks) (flags : List Bool) (from to : ℕ) (days : List ℕ) (count : ℕ) : Type 0 where
-  pub list : count ≤ 1024 → (other : Track)
+-- The days of the window that the start or the first rule gives, unless there is no room for them.
+pub record ListedWindow (start : ℕ) (rules : Tracks) (flags : List Bool) (from to room : ℕ) (days : List ℕ) (count : ℕ) : Type 0 where
+  pub list : count ≤ room → (other : Track)
       → take count days ≡ listIn (startOr (getD (rules .list) 0 other) (take 1574 flags) (start / 86400)) (dayFrom start from) (dayFrom start to - dayFrom start from)

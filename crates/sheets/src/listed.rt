@@ -29,7 +29,7 @@ fn put_days(
     days: &[u32],
 )
     requires { ⌜ Ends (now text) (now ends) × ((List·length (now ids) ≡ List·length (now places)) × (Timed initial (now instants) (now offsets) (detailsBy (now text) (detailsIn (now text) own) (now ids) (now places))
-        × ((List·length (now days) ≤ 1024) × (28 * List·length (now days) + 12 ≤ List·length (now buffer))))) ⌝ }
+        × ((List·length (now days) ≤ 16384) × (28 * List·length (now days) + 12 ≤ List·length (now buffer))))) ⌝ }
     ensures { λ _. ⌜ now (buffer .exit) ≡ sets (now (buffer .entry)) 0 (sheetOn
         (rowBy floating initial (now (instants .entry)) (now (offsets .entry)) (detailsBy (now (text .entry)) (detailsIn (now (text .entry)) own) (now (ids .entry)) (now (places .entry))))
         (own .start) (now (days .entry))) ⌝ }
@@ -66,7 +66,7 @@ pub fn put_listed(
     days: &[u32],
 ) -> u32
     requires { ⌜ Ends (now text) (now ends) × ((List·length (now ids) ≡ List·length (now places)) × (Timed initial (now instants) (now offsets) (detailsBy (now text) (detailsIn (now text) own) (now ids) (now places))
-        × (List·length (now days) ≤ 1024))) ⌝ }
+        × (List·length (now days) ≤ 16384))) ⌝ }
     ensures { λ r. ⌜ Gives (fitted (sheetOn
         (rowBy floating initial (now (instants .entry)) (now (offsets .entry)) (detailsBy (now (text .entry)) (detailsIn (now (text .entry)) own) (now (ids .entry)) (now (places .entry))))
         (own .start) (now (days .entry))) (now (buffer .entry))) r (now (length .exit)) (now (buffer .exit)) ⌝ }

@@ -37,7 +37,7 @@ cast-list-dates-3 c =
 list-dates-requires : tie.Need-list-dates-requires
 list-dates-requires c κs =
     let p = c .before .before .before .before .before .before .before .before .pre in
-    rw (c .before .before .before .before .day-from .ensures, c .before .before .before .day-from2 .ensures) (window-asks _ _ (p .0) (p .1 .0) _ _ _ (p .1 .1 .0) _ _ _ (sym (taken (c .before .before .before .before .before .before .before .before .args .rulerows .now) _ (has-row _ _ (p .0) (p .1 .0)))) (p .1 .1 .1))
+    rw (c .before .before .before .before .day-from .ensures, c .before .before .before .day-from2 .ensures) (window-asks _ _ (p .0) (p .1 .0) _ _ _ (p .1 .1 .0) _ _ _ (sym (taken (c .before .before .before .before .before .before .before .before .args .rulerows .now) _ (has-row _ _ (p .0) (p .1 .0)))) (p .1 .1 .1 .0) (p .1 .1 .1 .1))
 
 same-length : tie.Need-same-length
 same-length c = search needs
@@ -45,7 +45,7 @@ same-length c = search needs
 returns : tie.Need-returns
 returns c =
     let p = c .before .before .before .before .before .before .before .before .before .before .before .pre in
-    window-listed _ _ (p .0) (p .1 .0) _ _ _ (p .1 .1 .0) _ _ _ _ _ (p .1 .1 .1) (rw (c .before .before .before .before .before .before .before .day-from .ensures, c .before .before .before .before .before .before .day-from2 .ensures) at (c .before .before .list-dates .ensures))
+    window-listed _ _ (p .0) (p .1 .0) _ _ _ (p .1 .1 .0) _ _ _ _ _ (rw (c .before .before .before .before .before .before .before .day-from .ensures, c .before .before .before .before .before .before .day-from2 .ensures) at (c .before .before .list-dates .ensures))
 
 pub list-window-spec : {M : Type 1} → statement M
 list-window-spec =
