@@ -31,6 +31,11 @@ use Rattle.sheets.specs.Plain.{Plain, ListedWindow}
 
 -- ---- the table of a list of days
 
+each-same : (a b : ℕ → List ℕ) → ((x : ℕ) → a x ≡ b x) → (xs : List ℕ) → rowsOf a xs ≡ rowsOf b xs
+unfolding rowsOf
+each-same a b same [] = refl
+each-same a b same (x ∷ xs) = ap₂ (λ (l m : List ℕ). l ++ m) (same x) (each-same a b same xs)
+
 module _ (row : ℕ → List ℕ) (size : (x : ℕ) → length (row x) ≡ 28) (start : ℕ) (days : List ℕ) where
   abbrev records : List ℕ
   records = rowsOf row (map (onDay start) days)
@@ -59,6 +64,11 @@ module _ (row : ℕ → List ℕ) (size : (x : ℕ) → length (row x) ≡ 28) (
         ∙ (ap (λ (l : List ℕ). sets l (28 * length days) (trailerOf (length days))) first
         ∙ (ap (λ (k : ℕ). sets (sets before 0 records) k (trailerOf (length days))) behind
         ∙ sym (sets-append records (trailerOf (length days)) before 0)))
+
+-- by other words for its rows
+rows-same : (a b : ℕ → List ℕ) → ((x : ℕ) → a x ≡ b x) → (start : ℕ) (days : List ℕ) → sheetOn a start days ≡ sheetOn b start days
+unfolding sheetOn
+rows-same a b same start days = ap (λ (l : List ℕ). l ++ trailerOf (length days)) (each-same a b same (map (onDay start) days))
 
 -- ---- the days of the window
 
@@ -129,11 +139,11 @@ module _ (start : ℕ) (rules : Tracks) (ruleFlags : List Bool) (excluded : Trac
       ap (λ (k : ℕ). rowsOf row (map (onDay start) days) ++ trailerOf k) (sym (length-map days (onDay start)))
       ∙ ap (λ (xs : List ℕ). rowsOf row xs ++ trailerOf (length xs)) seconds
 
-  pub plain-gives : (row : ℕ → List ℕ) (room : ℕ) (days : List ℕ) (count : ℕ) → ListedWindow start rules ruleFlags from to room days count → count ≤ room
-      → (before after : List ℕ) (r k : ℕ) → Gives (fitted (sheetOn row start (take count days)) before) r k after
+  pub plain-gives : (own row : ℕ → List ℕ) → ((x : ℕ) → own x ≡ row x) → (room : ℕ) (days : List ℕ) (count : ℕ) → ListedWindow start rules ruleFlags from to room days count → count ≤ room
+      → (before after : List ℕ) (r k : ℕ) → Gives (fitted (sheetOn own start (take count days)) before) r k after
       → Gives (fitted (sheetBy row (isIn (loaded start rules ruleFlags excluded excludedFlags ids gone)) from to) before) r k after
-  plain-gives row room days count l few before after r k g =
-      subst (λ (sheet : List ℕ). Gives (fitted sheet before) r k after) (same-sheet row (take count days) (l .list few other)) g
+  plain-gives own row same room days count l few before after r k g =
+      subst (λ (sheet : List ℕ). Gives (fitted sheet before) r k after) (rows-same own row same start (take count days) ∙ same-sheet row (take count days) (l .list few other)) g
 
 -- no more are taken than asked for
 few-taken : (l : List ℕ) (n most : ℕ) → n ≤ most → length (take n l) ≤ most

@@ -1,12 +1,11 @@
-// The table of a list of days.
+// The table of a list of days, of an event without overrides.
+ghost use mathlib.Core.Bool.{true};
 ghost use mathlib.Core.Path.{_≡_};
-ghost use Prim.Native.Nat.{_+_, _*_, _≤_};
+ghost use Prim.Native.Nat.{_+_, _*_, _≤_, _^_};
 ghost use lib.ListN.{length as List·length};
 ghost use lib.Seq.{sets};
-ghost use Rattle.json_ends.specs.Ends.{Ends};
-ghost use Rattle.override_text.specs.Meaning.{detailsIn};
-ghost use Rattle.writing.specs.Details.{detailsBy, rowBy};
-ghost use Rattle.writing.specs.Runs.{Timed};
+ghost use Rattle.zone.specs.Table.{validTable};
+ghost use Rattle.writing.specs.Details.{ownRow};
 ghost use Rattle.table.specs.Results.{Gives};
 ghost use Rattle.tables.specs.Sheet.{fitted};
 ghost use Rattle.sheets.specs.Days.{sheetOn};
@@ -17,36 +16,18 @@ use writing::listed::write_days;
 // The records of the days, and the trailer behind them.
 fn put_days(
     buffer: &mut [u8],
-    text: &[u8],
-    ends: &[u32],
     own: Own,
-    ids: &[u64],
-    places: &[usize],
     floating: bool,
     initial: i64,
     instants: &[i64],
     offsets: &[i64],
     days: &[u32],
 )
-    requires { ⌜ Ends (now text) (now ends) × ((List·length (now ids) ≡ List·length (now places)) × (Timed initial (now instants) (now offsets) (detailsBy (now text) (detailsIn (now text) own) (now ids) (now places))
-        × ((List·length (now days) ≤ 16384) × (28 * List·length (now days) + 12 ≤ List·length (now buffer))))) ⌝ }
-    ensures { λ _. ⌜ now (buffer .exit) ≡ sets (now (buffer .entry)) 0 (sheetOn
-        (rowBy floating initial (now (instants .entry)) (now (offsets .entry)) (detailsBy (now (text .entry)) (detailsIn (now (text .entry)) own) (now (ids .entry)) (now (places .entry))))
-        (own .start) (now (days .entry))) ⌝ }
+    requires { ⌜ (validTable initial (now instants) (now offsets) ≡ true) × ((86400 * own .days + own .seconds ≤ 2 ^ 40)
+        × ((List·length (now days) ≤ 16384) × (28 * List·length (now days) + 12 ≤ List·length (now buffer)))) ⌝ }
+    ensures { λ _. ⌜ now (buffer .exit) ≡ sets (now (buffer .entry)) 0 (sheetOn (ownRow floating initial (now (instants .entry)) (now (offsets .entry)) own) (own .start) (now (days .entry))) ⌝ }
 {
-    write_days(
-        buffer,
-        text,
-        ends,
-        own,
-        ids,
-        places,
-        floating,
-        initial,
-        instants,
-        offsets,
-        days,
-    );
+    write_days(buffer, own, floating, initial, instants, offsets, days);
     put_trailer(buffer, 28 * days.len(), days.len() as u64);
 }
 
@@ -54,41 +35,22 @@ fn put_days(
 pub fn put_listed(
     buffer: &mut [u8],
     length: &mut u64,
-    text: &[u8],
-    ends: &[u32],
     own: Own,
-    ids: &[u64],
-    places: &[usize],
     floating: bool,
     initial: i64,
     instants: &[i64],
     offsets: &[i64],
     days: &[u32],
 ) -> u32
-    requires { ⌜ Ends (now text) (now ends) × ((List·length (now ids) ≡ List·length (now places)) × (Timed initial (now instants) (now offsets) (detailsBy (now text) (detailsIn (now text) own) (now ids) (now places))
-        × (List·length (now days) ≤ 16384))) ⌝ }
-    ensures { λ r. ⌜ Gives (fitted (sheetOn
-        (rowBy floating initial (now (instants .entry)) (now (offsets .entry)) (detailsBy (now (text .entry)) (detailsIn (now (text .entry)) own) (now (ids .entry)) (now (places .entry))))
-        (own .start) (now (days .entry))) (now (buffer .entry))) r (now (length .exit)) (now (buffer .exit)) ⌝ }
+    requires { ⌜ (validTable initial (now instants) (now offsets) ≡ true) × ((86400 * own .days + own .seconds ≤ 2 ^ 40) × (List·length (now days) ≤ 16384)) ⌝ }
+    ensures { λ r. ⌜ Gives (fitted (sheetOn (ownRow floating initial (now (instants .entry)) (now (offsets .entry)) own) (own .start) (now (days .entry))) (now (buffer .entry))) r (now (length .exit)) (now (buffer .exit)) ⌝ }
 {
     *length = 0;
     let need = 28 * days.len() + 12;
     if buffer.len() < need {
         return 13;
     }
-    put_days(
-        buffer,
-        text,
-        ends,
-        own,
-        ids,
-        places,
-        floating,
-        initial,
-        instants,
-        offsets,
-        days,
-    );
+    put_days(buffer, own, floating, initial, instants, offsets, days);
     *length = need as u64;
     0
 }

@@ -126,11 +126,7 @@ fn put_long(
     put_listed(
         buffer,
         length,
-        text,
-        ends,
         own,
-        ids,
-        places,
         floating,
         initial,
         instants,
@@ -195,11 +191,7 @@ fn put_short(
     put_listed(
         buffer,
         length,
-        text,
-        ends,
         own,
-        ids,
-        places,
         floating,
         initial,
         instants,

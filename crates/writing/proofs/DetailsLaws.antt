@@ -17,11 +17,13 @@ use Rattle.event.specs.Types.{Details, Override}
 use Rattle.event.specs.Reading.{Reading}
 use Rattle.table.specs.Occurrence.{withStart}
 use Rattle.override_text.specs.declared.Patch.{Patch}
-use Rattle.override_text.specs.Meaning.{overrideIn}
+use Rattle.override_text.specs.declared.Own.{Own}
+use Rattle.override_text.specs.Meaning.{overrideIn, detailsIn}
 use Rattle.override_text.specs.Patched.{patchAt}
 use Rattle.record.specs.declared.Times.{Times}
-use Rattle.record.specs.Occurrences.{occurrenceRow}
-use Rattle.writing.specs.Details.{patchDetails, detailsBy, Passed, timesFrom, timesIn, patchTimes, rowBy}
+use Rattle.record.specs.Occurrences.{occurrenceRow, Small}
+use Rattle.writing.proofs.WriteLaws.{row-length}
+use Rattle.writing.specs.Details.{patchDetails, detailsBy, Passed, timesFrom, timesIn, patchTimes, rowBy, ownRow}
 
 -- ---- a patch that was read
 
@@ -87,3 +89,31 @@ module _ (fl : Bool) (b : ℤ) (ts ns : List ℤ) (f : SFits w64 b) (x : ℕ) (d
   pub put-row : after ≡ sets before at (occurrenceRow fl (toZ w64 (ofZ w64 b)) ts ns x t) → after ≡ sets before at (rowBy fl b ts ns details x)
   unfolding rowBy
   put-row e = (rw (toZ-ofZ f) at e) ∙ ap (λ (u : Times). sets before at (occurrenceRow fl b ts ns x u)) is
+
+-- ---- where there is no override
+
+module _ (fl : Bool) (b : ℤ) (ts ns : List ℤ) (s : List ℕ) (own : Own) (ids places : List ℕ) (none : length ids ≡ 0) (even : length ids ≡ length places) where
+  own-times : (x : ℕ) → timesFrom x (own .days) (own .seconds) (own .busy) (own .allday) ≡ timesIn (detailsBy s (detailsIn s own) ids places x)
+  own-times x = seen-none s (detailsIn s own) ids places even x 0 (omega arith) (omega arith, refl)
+
+  pub own-row : (x : ℕ) → ownRow fl b ts ns own x ≡ rowBy fl b ts ns (detailsBy s (detailsIn s own) ids places) x
+  unfolding ownRow rowBy
+  own-row x = ap (occurrenceRow fl b ts ns x) (own-times x)
+
+  pub own-small : timesIn (detailsBy s (detailsIn s own) ids places 0) .seconds ≤ 2 ^ 40 → 86400 * own .days + own .seconds ≤ 2 ^ 40
+  unfolding timesFrom
+  own-small h = subst (λ (t : Times). t .seconds ≤ 2 ^ 40) (sym (own-times 0)) h
+
+pub own-length : (fl : Bool) (b : ℤ) (ts ns : List ℤ) (own : Own) (x : ℕ) → length (ownRow fl b ts ns own x) ≡ 28
+unfolding ownRow occurrenceRow
+own-length fl b ts ns own x = row-length _ _ _ _
+
+pub own-is-small : (own : Own) (x : ℕ) (t : Times) → x < 2 ^ 60 → 86400 * own .days + own .seconds ≤ 2 ^ 40 → t ≡ timesFrom x (own .days) (own .seconds) (own .busy) (own .allday) → Small x t
+unfolding timesFrom
+own-is-small own x t low short is = subst (Small x) (sym is) (record { id-small = low; start-small = low; length-small = short })
+
+-- the record that is put
+pub put-own : (fl : Bool) (b : ℤ) (ts ns : List ℤ) (own : Own) (x : ℕ) (t : Times) → t ≡ timesFrom x (own .days) (own .seconds) (own .busy) (own .allday) → (at : ℕ) (before after : List ℕ)
+    → after ≡ sets before at (occurrenceRow fl b ts ns x t) → after ≡ sets before at (ownRow fl b ts ns own x)
+unfolding ownRow
+put-own fl b ts ns own x t is at before after e = e ∙ ap (λ (u : Times). sets before at (occurrenceRow fl b ts ns x u)) is

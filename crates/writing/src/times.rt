@@ -17,7 +17,7 @@ use record::Times;
 use record::occurrences::put_occurrence;
 use window::sorted::below;
 
-fn times(start: u64, days: u64, seconds: u64, busy: bool, allday: bool) -> Times
+pub fn times(start: u64, days: u64, seconds: u64, busy: bool, allday: bool) -> Times
     requires { ⌜ 86400 * days + seconds ≤ 2 ^ 40 ⌝ }
     ensures { λ r. ⌜ r ≡ timesFrom start days seconds busy allday ⌝ }
 {
