@@ -10,7 +10,8 @@ mod measure;
 mod texts;
 mod workloads;
 
-use measure::nanoseconds;
+use measure::{in_turns, nanoseconds};
+use std::hint::black_box;
 use workloads::Workload;
 
 fn main() {
@@ -43,9 +44,20 @@ fn print_line(workload: &Workload, libical: Option<&libical::Libical>) {
     let (answer, length) = workload.library(&mut buffer);
     assert_eq!((answer, length), workload.expander(&mut buffer), "{}", workload.name);
     let records = (length as usize).saturating_sub(12) / 28;
-    let library = nanoseconds(|| workload.library(&mut buffer));
-    let expander = nanoseconds(|| workload.expander(&mut buffer));
-    let other = libical.zip(workload.rule.as_ref()).map(|(libical, rule)| nanoseconds(|| libical.expand(rule, records)));
+    let mut other_buffer = buffer.clone();
+    let rule = libical.zip(workload.rule.as_ref());
+    let [library, expander, other] = in_turns([
+        &mut || {
+            black_box(workload.library(&mut buffer));
+        },
+        &mut || {
+            black_box(workload.expander(&mut other_buffer));
+        },
+        &mut || {
+            black_box(rule.map(|(libical, rule)| libical.expand(rule, records)));
+        },
+    ]);
+    let other = rule.map(|_| other);
     println!(
         "| {} | {} | {} | {:.3} | {:.0} | {} | {:.1} | {:.2} | {} |",
         workload.name,
@@ -77,10 +89,22 @@ fn print_beside(libical: &libical::Libical) {
         let records = (length as usize - 12) / 28;
         assert_eq!(libical.occurrences(&text, workload.window), spans(&buffer[..28 * records]), "{}", workload.name);
         let empty = workload.without_window();
-        let library = nanoseconds(|| workload.library(&mut buffer));
-        let library_rule = library - nanoseconds(|| empty.library(&mut buffer));
-        let other = nanoseconds(|| libical.occurrences(&text, workload.window));
-        let other_rule = workload.rule.as_ref().map_or(0.0, |rule| nanoseconds(|| libical.expand(rule, records)));
+        let mut empty_buffer = vec![0; workload.room()];
+        let [library, without, other, other_rule] = in_turns([
+            &mut || {
+                black_box(workload.library(&mut buffer));
+            },
+            &mut || {
+                black_box(empty.library(&mut empty_buffer));
+            },
+            &mut || {
+                black_box(libical.occurrences(&text, workload.window));
+            },
+            &mut || {
+                black_box(workload.rule.as_ref().map(|rule| libical.expand(rule, records)));
+            },
+        ]);
+        let library_rule = library - without;
         println!(
             "| {} | {records} | {:.1} | {:.1} | {:.0} | {:.0} | {:.0} | {:.0} |",
             workload.name,

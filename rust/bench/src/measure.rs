@@ -55,6 +55,20 @@ pub fn nanoseconds<T>(mut call: impl FnMut() -> T) -> f64 {
     best
 }
 
+/// How often each of several calls is measured, in turns.
+const ROUNDS: usize = 3;
+
+/// Nanoseconds of each of several calls, taken in turns: a machine that changes its pace changes it for all of them.
+pub fn in_turns<const N: usize>(mut calls: [&mut dyn FnMut(); N]) -> [f64; N] {
+    let mut best = [f64::INFINITY; N];
+    for _ in 0..ROUNDS {
+        for (call, best) in calls.iter_mut().zip(&mut best) {
+            *best = best.min(nanoseconds(call));
+        }
+    }
+    best
+}
+
 /// The machine's own words.
 pub fn machine() -> String {
     let cpu = std::fs::read_to_string("/proc/cpuinfo").unwrap_or_default();
