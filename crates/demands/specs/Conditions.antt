@@ -1,5 +1,5 @@
 -- 01, "Answer numbers": the numbers of the table, each with its condition.
-use Prim.Native.Nat.{ℕ, _<_}
+use Prim.Native.Nat.{ℕ, _+_, _<_}
 use mathlib.Core.Bool.{Bool, true, false, not, _&&_, _||_}
 use mathlib.Core.List.{List, [], _∷_, _++_}
 use mathlib.Core.Option.{Option, none, some}
@@ -7,10 +7,10 @@ use mathlib.Core.Path.{_≡_}
 use lib.Dec.{eqb, ltb}
 use lib.IntN.{ℤ}
 use lib.ListN.{length}
-use Rattle.json_text.specs.Bytes.{spaceAt}
+use Rattle.json_text.specs.Bytes.{spaceAt, next}
 use Rattle.json_text.specs.declared.Read.{Read}
 use Rattle.json_text.specs.declared.Read.the-variants.{To, Bad, Deep}
-use Rattle.json_value.specs.Values.{textAt, levels}
+use Rattle.json_value.specs.Values.{valueAt, endAt, textAt, levels}
 use Rattle.json_names.specs.Names.{faultAt}
 use Rattle.json.specs.Answer.{limit}
 use Rattle.json.specs.Surrogates.{pairsAt}
@@ -34,7 +34,7 @@ pub record Numbered : Type 0 where
 unfoldable pub applies : ℕ → List Numbered → Bool
 applies n l = any (λ c. eqb (c .number) n && c .holds) l
 
--- "The lowest number that applies is given", and 0 where none does.
+-- 01: "The lowest number that applies is given", and 0, "done", where none does.
 pub record Lowest (l : List Numbered) (answer : ℕ) : Type 0 where
   pub done : answer ≡ 0 → (n : ℕ) → applies n l ≡ false
   pub given : (answer ≡ 0 → ⊥) → applies answer l ≡ true
@@ -42,36 +42,42 @@ pub record Lowest (l : List Numbered) (answer : ℕ) : Type 0 where
 
 -- ---- 1 to 9, of a text
 
+-- The reader goes from byte to byte and stops at the first that cannot stand there. `Deep`: all bytes before an opening bracket are the beginning
+-- of a JSON text, and it opens a 17th level.
 abbrev pub isDeep : Read → Bool
 isDeep (To i) = false
 isDeep Bad = false
 isDeep Deep = true
-
-abbrev pub isBad : Read → Bool
-isBad (To i) = false
-isBad Bad = true
-isBad Deep = false
 
 abbrev pub isRead : Read → Bool
 isRead (To i) = true
 isRead Bad = false
 isRead Deep = false
 
+-- "a JSON text in valid UTF-8", however many levels it opens: JSON-text = ws value ws, with more levels than the text has bytes.
+unfoldable pub isJson : List ℕ → Bool
+isJson s = isRead (next (valueAt (levels + length s) s (spaceAt s 0)) (λ j. endAt s (spaceAt s j)))
+
+-- "an escaped surrogate without its partner"
+unfoldable pub isUnpaired : List ℕ → Bool
+isUnpaired s = not (isRead (pairsAt (length s) s 0))
+
 -- "the value is no object; `@type` is not `Event`; `uid`, `updated` or `start` is missing"
 unfoldable pub isNoEvent : Option Fields → Bool
 isNoEvent none = true
 isNoEvent (some fields) = noEvent fields
 
--- The lowest of 6 to 9 that the properties read have, each judged by its own definition.
+-- The lowest of 6 to 9 that the properties read have, each judged by its own definition, or 0.
 unfoldable pub readFault : Option Fields → ℕ
 readFault none = 0
 readFault (some fields) = eventIn fields .fault
 
+-- 01, "Answer numbers", 1 to 9: what each is given for stands in the table there.
 unfoldable pub textConditions : List ℕ → List Numbered
 textConditions s =
     record { number = 1; holds = ltb limit (length s) }
     ∷ record { number = 2; holds = isDeep (textAt s) }
-    ∷ record { number = 3; holds = isBad (textAt s) || not (isRead (pairsAt (length s) s 0)) }
+    ∷ record { number = 3; holds = not (isJson s) || isUnpaired s }
     ∷ record { number = 4; holds = faultAt levels s (spaceAt s 0) }
     ∷ record { number = 5; holds = isNoEvent (object (textTree s)) }
     ∷ record { number = 6; holds = eqb (readFault (object (textTree s))) 6 }

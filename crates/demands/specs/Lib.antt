@@ -1,4 +1,6 @@
 pub mod Conditions
+pub mod Sheet
 pub mod One
 pub mod Two
 pub mod Three
+pub mod Promises

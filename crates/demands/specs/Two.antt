@@ -1,54 +1,74 @@
--- Demand 2: "For an accepted event that is not secret and is answered 0, the recurrence ids strictly increase and are exactly those that RFC 8984
--- gives in the written profile; UTC times, marks and texts are the same document's."
+-- Demand 2, of one call: "When an accepted event that is not secret is answered 0, the recurrence ids on the sheet strictly increase, and a date-time
+-- of the window is there exactly when no override excludes it and either an override names it, or it is the start or a rule gives it, and no
+-- excluded rule does. RFC 8984 decides, in the written profile. UTC times, marks and words are those of the same document."
 use Prim.Native.Nat.{ℕ, _+_, _*_, _<_}
 use mathlib.Core.Bool.{true}
-use mathlib.Core.List.{List, [], _∷_}
+use mathlib.Core.List.{List, []}
 use mathlib.Core.Logic.{_↔_}
 use mathlib.Core.Option.{Option, none, some}
 use mathlib.Core.Path.{_≡_}
 use lib.IntN.{ℤ, pos, _+ℤ_}
-use lib.ListN.{length, take, drop, getD}
-use Rattle.little_endian.specs.Bytes.{bytesOf, twos}
-use Rattle.recurrence.specs.Order.{StrictlyIncreases, among}
-use Rattle.recurrence.specs.Occurs.{OccursWithin}
+use lib.ListN.{length, take, drop}
+use lib.Signed.{leZ, ltZ}
+use Rattle.recurrence.specs.Occurs.{Occurs}
 use Rattle.event.specs.Types.{Text, Details, Event}
 use Rattle.table.specs.Window.{since1600, since1970}
 use Rattle.table.specs.Occurrence.{datesOf, isOccurrence, detailsAt}
-use Rattle.table.specs.Bytes.{ZoneTable, utcOf, secondsIn, marksOf, trailerOf}
+use Rattle.table.specs.Bytes.{ZoneTable, utcOf, secondsIn, marksOf}
 use Rattle.table.specs.Answer.{dateTimeOf}
+use Rattle.demands.specs.Sheet.{idAt, startAt, endAt, marksAt, zerosAt, HasSheet}
 
--- One record of the table: the id, and of that occurrence, after its patch, the UTC times and the marks.
-pub record Row (zones : ZoneTable) (e : Event) (id : ℕ) (bytes : List ℕ) : Type 0 where
-  pub idIs : take 8 bytes ≡ bytesOf 8 (twos (since1970 id))
-  pub startIs : take 8 (drop 8 bytes) ≡ bytesOf 8 (twos (utcOf zones (e .zone) (since1970 (detailsAt e id .start))))
-  pub endIs : take 8 (drop 16 bytes)
-      ≡ bytesOf 8 (twos (utcOf zones (e .zone) (since1970 (detailsAt e id .start)) +ℤ pos (secondsIn (detailsAt e id .length))))
-  pub marksIs : drop 24 bytes ≡ marksOf (e .zone) (detailsAt e id) ∷ 0 ∷ 0 ∷ 0 ∷ []
+-- The id is that of one of the n records on the sheet.
+pub record OnSheet (n : ℕ) (sheet : List ℕ) (id : ℤ) : Type 0 where
+  pub place : ℕ
+  pub below : place < n
+  pub is : idAt sheet place ≡ id
 
--- The table that a call leaves: `size` is the length that it reports, `after` the buffer.
-pub record Listed (zones : ZoneTable) (e : Event) (from to : ℤ) (buffer : List ℕ) (size : ℕ) (after : List ℕ) (ids : List ℕ) : Type 0 where
-  -- "the recurrence ids strictly increase"
-  pub increase : StrictlyIncreases ids
-  -- "and are exactly those": x is one exactly when it lies in the window, no override excludes it, and either an override names it, or it is
-  -- the start or a rule gives it, and no excluded rule does
-  pub exactly : (x : ℕ) → (among x ids ≡ true) ↔ OccursWithin (datesOf e) (since1600 from) (since1600 to) x
-  -- "UTC times, marks": record by record in the order of the ids
-  pub rows : (k : ℕ) → k < length ids → Row zones e (getD ids k 0) (take 28 (drop (28 * k) after))
-  -- the trailer with their number, and behind it the bytes that were there
-  pub trailer : take 12 (drop (28 * length ids) after) ≡ trailerOf (length ids)
-  pub others : drop (28 * length ids + 12) after ≡ drop (28 * length ids + 12) buffer
-  pub whole : length after ≡ length buffer
-  pub sizeIs : size ≡ 28 * length ids + 12
+-- A date-time of the window, "the first included, the second not", that is an occurrence: "no override excludes it and either an override names it,
+-- or it is the start or a rule gives it, and no excluded rule does".
+pub record OccursIn (e : Event) (from to id : ℤ) : Type 0 where
+  pub notBefore : leZ from id ≡ true
+  pub before : ltZ id to ≡ true
+  pub occurs : Occurs (datesOf e) (since1600 id)
+
+-- The details of the occurrence that record k is of, after its patch.
+abbrev pub detailsOn : Event → List ℕ → ℕ → Details
+detailsOn e sheet k = detailsAt e (since1600 (idAt sheet k))
+
+-- What record k has beside its id.
+pub record Row (zones : ZoneTable) (e : Event) (sheet : List ℕ) (k : ℕ) : Type 0 where
+  pub startIs : startAt sheet k ≡ utcOf zones (e .zone) (since1970 (detailsOn e sheet k .start))
+  pub endIs : endAt sheet k ≡ startAt sheet k +ℤ pos (secondsIn (detailsOn e sheet k .length))
+  pub marksIs : marksAt sheet k ≡ marksOf (e .zone) (detailsOn e sheet k)
+  pub zeros : zerosAt sheet k ≡ 0
+
+-- The sheet that a call leaves in the buffer, which begins with it.
+pub record Listed (zones : ZoneTable) (e : Event) (from to : ℤ) (before : List ℕ) (size : ℕ) (after : List ℕ) : Type 0 where
+  pub count : ℕ
+  pub sheet : HasSheet count size before after
+  -- "the recurrence ids on the sheet strictly increase"
+  pub increase : (j k : ℕ) → j < k → k < count → ltZ (idAt after j) (idAt after k) ≡ true
+  -- "a date-time of the window is there exactly when .."
+  pub exactly : (id : ℤ) → OnSheet count after id ↔ OccursIn e from to id
+  -- "UTC times, marks .. are those of the same document."
+  pub rows : (k : ℕ) → k < count → Row zones e after k
 
 -- The bytes of a text that may be absent.
 unfoldable pub rawOf : Option Text → List ℕ
 rawOf none = []
 rawOf (some t) = t .raw
 
--- "texts": the part of the caller's own text that a call shows of a public event is the text of that occurrence, after its patch.
+-- "words": the part of the caller's own text that a call shows of a public event is the text of that occurrence, after its patch.
 pub record Told (which : Details → Option Text) (s : List ℕ) (e : Event) (date : ℤ) (start size : ℕ) : Type 0 where
   pub id : ℕ
   pub dated : dateTimeOf date ≡ some id
   pub occurs : isOccurrence e id ≡ true
   pub part : take size (drop start s) ≡ rawOf (which (detailsAt e id))
   pub sizeIs : size ≡ length (rawOf (which (detailsAt e id)))
+
+-- The same of a call that returns the part itself.
+pub record PartTold (which : Details → Option Text) (e : Event) (date : ℤ) (part : List ℕ) : Type 0 where
+  pub id : ℕ
+  pub dated : dateTimeOf date ≡ some id
+  pub occurs : isOccurrence e id ≡ true
+  pub bytes : part ≡ rawOf (which (detailsAt e id))

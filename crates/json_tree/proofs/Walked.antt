@@ -17,7 +17,7 @@ use Rattle.json_walk.specs.declared.MemberStep.{MemberStep}
 use Rattle.json_walk.specs.declared.MemberStep.the-variants.{One, End}
 use Rattle.json_walk.specs.declared.ElementStep.{ElementStep}
 use Rattle.json_walk.specs.declared.ElementStep.the-variants.{Next, Stop}
-use Rattle.json_value.proofs.Levels.{more-levels, object-keeps, array-keeps}
+use Rattle.json_value.proofs.Levels.{keeps, levels-stay, object-stays, array-stays}
 
 -- Behind an item: the closing bracket, which ends at j, or another item from which it goes on well.
 abbrev pub EndsItem : (ℕ → Type 0) → ℕ → Item → Type 0
@@ -96,11 +96,11 @@ pub object-walked : (l : ℕ) → l ≤ levels → (s : List ℕ) (i j : ℕ) �
 unfolding objectAt objectOf
 object-walked l h s i j e =
     item-ends _ _ j (λ k q. members-end (length s) s j k q) (firstAt 0x7D s (i + 1))
-    (object-keeps _ _ (λ k. more-levels l levels h s k) s i j e)
+    (keeps _ _ (object-stays _ _ (λ k. levels-stay l levels h s k) s i) j e)
 
 pub array-walked : (l : ℕ) → l ≤ levels → (s : List ℕ) (i j : ℕ) → arrayAt (suc l) s i ≡ To j
     → EndsItem (λ k. Finishes (length s) s j (elementAt s k)) j (firstAt 0x5D s (i + 1))
 unfolding arrayAt arrayOf
 array-walked l h s i j e =
     item-ends _ _ j (λ k q. elements-end (length s) s j k q) (firstAt 0x5D s (i + 1))
-    (array-keeps _ _ (λ k. more-levels l levels h s k) s i j e)
+    (keeps _ _ (array-stays _ _ (λ k. levels-stay l levels h s k) s i) j e)

@@ -1,15 +1,20 @@
 -- The bytes of a number, and the number of its bytes.
 use Prim.Native.Nat.{ℕ, zero, suc, _+_, _-_, _*_, _/_, _%_, _<_, _≤_, _^_}
-use mathlib.Core.List.{List, [], _∷_}
+use mathlib.Core.List.{List, [], _∷_, _++_}
 use mathlib.Core.Path.{_≡_, refl, ap}
 use native.Mathlib.Nat.{pow-succ'}
 use native.Mathlib.Numerals.{add-one, sub-one}
 use native.Mathlib.Omega.{arith}
+use borrow.Author.Tests.{lt-ltb, le-ltb}
+use lib.Dec.{ltb}
 use lib.IntN.{ℤ, pos, negsuc}
-use lib.ListN.{length, set}
-use lib.Seq.{sets}
+use lib.ListN.{length, set, take, drop}
+use lib.Seq.{sets, take-at, drop-at}
+use mir.Syntax.{w64}
+use mir.Val.{SFits}
+use Rattle.signed.specs.Choose.{if_then_else_}
 use Rattle.signed.specs.Parts.{posPart, negPart}
-use Rattle.little_endian.specs.Bytes.{bytesOf, twos}
+use Rattle.little_endian.specs.Bytes.{bytesOf, twos, valueOf, numberAt, signedOf}
 
 -- one byte stored, with those behind it still to be
 pub sets-more : (l : List ℕ) (i n v : ℕ) → 0 < n → sets l i (bytesOf n v) ≡ sets (set l i (v % 256)) (i + 1) (bytesOf (n - 1) (v / 256))
@@ -39,11 +44,7 @@ unfolding twos
 twos-above (pos n) h = refl
 twos-above (negsuc k) h = absurd (omega arith)
 
--- ---- the number that bytes stand for, the lowest first: no two numbers of n bytes have the same bytes
-
-unfoldable pub valueOf : List ℕ → ℕ
-valueOf [] = 0
-valueOf (b ∷ bs) = b + 256 * valueOf bs
+-- ---- no two numbers of n bytes have the same bytes
 
 below : (n v : ℕ) → v < 256 ^ suc n → v / 256 < 256 ^ n
 below n v h = let p = pow-succ' 256 n in omega arith
@@ -52,3 +53,24 @@ pub bytes-value : (n v : ℕ) → v < 256 ^ n → valueOf (bytesOf n v) ≡ v
 unfolding bytesOf valueOf
 bytes-value zero v h = omega arith
 bytes-value (suc n) v h = let e = bytes-value n (v / 256) (below n v h) in omega arith
+
+-- ---- the two's complement and back
+
+pub signed-twos : (z : ℤ) → SFits w64 z → signedOf (twos z) ≡ z
+unfolding signedOf twos
+signed-twos (pos n) f = rw (lt-ltb n (2 ^ 63) (f .sfits))
+signed-twos (negsuc k) f =
+    let h = f .sfits in
+    let e : 2 ^ 64 - 1 - (2 ^ 64 - suc k) ≡ k = omega arith in
+    rw (le-ltb (2 ^ 64 - suc k) (2 ^ 63) (omega arith), e)
+
+pub twos-small : (z : ℤ) → SFits w64 z → twos z < 256 ^ 8
+unfolding twos
+twos-small (pos n) f = let h = f .sfits in omega arith
+twos-small (negsuc k) f = let h = f .sfits in omega arith
+
+-- ---- a number that was written is read
+
+pub field-at : (n v : ℕ) (p q : List ℕ) (i : ℕ) → length p ≡ i → v < 256 ^ n → numberAt n i (p ++ (bytesOf n v ++ q)) ≡ v
+unfolding numberAt
+field-at n v p q i h b = rw (drop-at p (bytesOf n v ++ q) i h, take-at (bytesOf n v) q n (bytes-length n v)) (bytes-value n v b)

@@ -1,7 +1,10 @@
 -- Numbers as bytes (01, "The sheet and the words": "Little-endian.").
-use Prim.Native.Nat.{ℕ, zero, suc, _-_, _/_, _%_, _^_}
+use Prim.Native.Nat.{ℕ, zero, suc, _+_, _*_, _-_, _/_, _%_, _^_}
 use mathlib.Core.List.{List, [], _∷_}
+use lib.Dec.{ltb}
 use lib.IntN.{ℤ, pos, negsuc}
+use lib.ListN.{take, drop}
+use Rattle.signed.specs.Choose.{if_then_else_}
 
 -- the n lowest bytes of v, the lowest first
 unfoldable pub bytesOf : ℕ → ℕ → List ℕ
@@ -12,3 +15,17 @@ bytesOf (suc n) v = v % 256 ∷ bytesOf n (v / 256)
 unfoldable pub twos : ℤ → ℕ
 twos (pos n) = n
 twos (negsuc k) = 2 ^ 64 - suc k
+
+-- ---- and back: the number that bytes stand for, the lowest first
+
+unfoldable pub valueOf : List ℕ → ℕ
+valueOf [] = 0
+valueOf (b ∷ bs) = b + 256 * valueOf bs
+
+-- The number of the n bytes at i.
+unfoldable pub numberAt : ℕ → ℕ → List ℕ → ℕ
+numberAt n i s = valueOf (take n (drop i s))
+
+-- The signed number of which v is the two's complement in 64 bits.
+unfoldable pub signedOf : ℕ → ℤ
+signedOf v = if ltb v (2 ^ 63) then pos v else negsuc (2 ^ 64 - 1 - v)

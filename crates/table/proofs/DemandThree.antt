@@ -1,5 +1,5 @@
--- Demand 3, about the definitions: two accepted private events that agree are indistinguishable through the library, byte for byte in the
--- whole buffer, and two accepted secret ones are too, whatever they hold. For every zone table, window, buffer and date.
+-- Demand 3, about the definitions: two accepted private events that agree have the same sheet, byte for byte in the whole buffer, and the same
+-- answers for words; two accepted secret ones too, whatever they hold. For every zone table, window, buffer and date.
 use Prim.Native.Nat.{ℕ}
 use mathlib.Core.Bool.{Bool, true, false, not, _&&_, _||_}
 use mathlib.Core.List.{List, [], _∷_, _++_}
@@ -105,11 +105,15 @@ secret-answer : (zones : ZoneTable) (from to : ℤ) (c d : Privacy) (zone zone�
 unfolding answerFor
 secret-answer zones from to c d zone zone′ table buffer p q = rw (p, q)
 
+-- "A secret event has no records, only the trailer."
+pub secret-is : (table : ZoneTable) (e : Event) → e .privacy ≡ Secret → (from to : ℤ) → tableOf table e from to ≡ trailerOf 0
+unfolding tableOf listed recordsOf
+secret-is table e p from to = rw p
+
 -- two secret events, whatever they hold
 module _ (a b : Event) (p : a .privacy ≡ Secret) (q : b .privacy ≡ Secret) where
   secret-same : (table : ZoneTable) (from to : ℤ) → tableOf table a from to ≡ tableOf table b from to
-  unfolding tableOf listed recordsOf
-  secret-same table from to = rw (p, q)
+  secret-same table from to = secret-is table a p from to ∙ sym (secret-is table b q from to)
 
   -- 12 is never given, so the zones do not show
   pub secret-table : (table : ZoneTable) (from to : ℤ) (buffer : List ℕ) → expanded table a from to buffer ≡ expanded table b from to buffer
@@ -130,7 +134,7 @@ secret-text-answer e (some x) p = ap (λ (c : Privacy). textAnswerFor c (isOccur
 
 -- ---- on texts
 
-accepted-table : (privacy : Privacy) (s : List ℕ) → Accepted privacy s → (zones : ZoneTable) (from to : ℤ) (buffer : List ℕ)
+pub accepted-table : (privacy : Privacy) (s : List ℕ) → Accepted privacy s → (zones : ZoneTable) (from to : ℤ) (buffer : List ℕ)
     → expandText zones s from to buffer ≡ expanded zones (eventOf s) from to buffer
 unfolding expandText
 accepted-table privacy s h zones from to buffer = rw (h .accepted)
@@ -168,47 +172,32 @@ secret-shown which e (some x) p =
     ∙ secret-no-place (textAnswer e (some x)) (placeOf (which (detailsAt e x)))
     ∙ ap noPlace (secret-text-answer e (some x) p)
 
--- The definitions do not tell the two texts apart: the same answer, length and buffer of the table, the same answer of each text, and no words come
--- out.
-pub record Indistinguishable (s t : List ℕ) : Type 0 where
-  pub table : (zones : ZoneTable) (from to : ℤ) (buffer : List ℕ) → expandText zones s from to buffer ≡ expandText zones t from to buffer
-  pub texts : (which : Details → Option Text) (date : ℤ) → textOf which s date ≡ textOf which t date
-  pub noWords : (which : Details → Option Text) (date : ℤ) → (textOf which s date .length ≡ 0) × (textOf which t date .length ≡ 0)
+-- the words of a private event are none, and so are those of a secret one, whose answer is 14
+pub private-text : (s : List ℕ) → Accepted Private s → (which : Details → Option Text) (date : ℤ)
+    → textOf which s date ≡ noPlace (textAnswer (eventOf s) (dateTimeOf date))
+private-text s h which date = accepted-text Private s h which date ∙ private-shown which (eventOf s) (dateTimeOf date) (h .setting)
 
-pub demand-three-private : (s t : List ℕ) → Accepted Private s → Accepted Private t → Agree (eventOf s) (eventOf t) → Indistinguishable s t
-demand-three-private s t h k g =
-    record {
-      table =
-          λ zones from to buffer.
-          accepted-table Private s h zones from to buffer
-          ∙ private-table (eventOf s) (eventOf t) g (h .setting) (k .setting) zones from to buffer
-          ∙ sym (accepted-table Private t k zones from to buffer);
-      texts =
-          λ which date.
-          shown s h which date
-          ∙ ap noPlace (private-text-answer (eventOf s) (eventOf t) g (h .setting) (k .setting) (dateTimeOf date))
-          ∙ sym (shown t k which date);
-      noWords =
-          λ which date. (ap (λ (r : Shown). r .length) (shown s h which date), ap (λ (r : Shown). r .length) (shown t k which date));
-    }
-  where
-    shown : (s : List ℕ) → Accepted Private s → (which : Details → Option Text) (date : ℤ)
-        → textOf which s date ≡ noPlace (textAnswer (eventOf s) (dateTimeOf date))
-    shown s h which date = accepted-text Private s h which date ∙ private-shown which (eventOf s) (dateTimeOf date) (h .setting)
+pub secret-text : (s : List ℕ) → Accepted Secret s → (which : Details → Option Text) (date : ℤ) → textOf which s date ≡ noPlace 14
+secret-text s h which date = accepted-text Secret s h which date ∙ secret-shown which (eventOf s) (dateTimeOf date) (h .setting)
 
--- "two accepted secret ones are too, whatever they hold"
-pub demand-three-secret : (s t : List ℕ) → Accepted Secret s → Accepted Secret t → Indistinguishable s t
-demand-three-secret s t h k =
-    record {
-      table =
-          λ zones from to buffer.
-          accepted-table Secret s h zones from to buffer
-          ∙ secret-table (eventOf s) (eventOf t) (h .setting) (k .setting) zones from to buffer
-          ∙ sym (accepted-table Secret t k zones from to buffer);
-      texts = λ which date. shown s h which date ∙ sym (shown t k which date);
-      noWords =
-          λ which date. (ap (λ (r : Shown). r .length) (shown s h which date), ap (λ (r : Shown). r .length) (shown t k which date));
-    }
-  where
-    shown : (s : List ℕ) → Accepted Secret s → (which : Details → Option Text) (date : ℤ) → textOf which s date ≡ noPlace 14
-    shown s h which date = accepted-text Secret s h which date ∙ secret-shown which (eventOf s) (dateTimeOf date) (h .setting)
+-- two accepted private events that agree have the same table and the same words
+module _ (s t : List ℕ) (h : Accepted Private s) (k : Accepted Private t) (g : Agree (eventOf s) (eventOf t)) where
+  pub private-tables : (zones : ZoneTable) (from to : ℤ) (buffer : List ℕ) → expandText zones s from to buffer ≡ expandText zones t from to buffer
+  private-tables zones from to buffer =
+      accepted-table Private s h zones from to buffer
+      ∙ private-table (eventOf s) (eventOf t) g (h .setting) (k .setting) zones from to buffer
+      ∙ sym (accepted-table Private t k zones from to buffer)
+
+  pub private-texts : (which : Details → Option Text) (date : ℤ) → textOf which s date ≡ textOf which t date
+  private-texts which date =
+      private-text s h which date
+      ∙ ap noPlace (private-text-answer (eventOf s) (eventOf t) g (h .setting) (k .setting) (dateTimeOf date))
+      ∙ sym (private-text t k which date)
+
+-- two accepted secret events have the same table, whatever they hold
+pub secret-tables : (s t : List ℕ) → Accepted Secret s → Accepted Secret t
+    → (zones : ZoneTable) (from to : ℤ) (buffer : List ℕ) → expandText zones s from to buffer ≡ expandText zones t from to buffer
+secret-tables s t h k zones from to buffer =
+    accepted-table Secret s h zones from to buffer
+    ∙ secret-table (eventOf s) (eventOf t) (h .setting) (k .setting) zones from to buffer
+    ∙ sym (accepted-table Secret t k zones from to buffer)

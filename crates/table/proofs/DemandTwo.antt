@@ -84,11 +84,17 @@ module _ (zones : ZoneTable) (e : Event) (from to : ℤ) (buffer : List ℕ) whe
   unfolding tableOf ids
   table-is h = ap (λ (xs : List ℕ). recordsOf zones e xs ++ trailerOf (length xs)) (shown e (e .privacy) h (since1600 from) (since1600 to))
 
+  -- an answer of 0 is the table written, whatever the event
+  pub table-written : expanded zones e from to buffer .answer ≡ 0
+      → expanded zones e from to buffer ≡ record { answer = 0; length = length (tableOf zones e from to); buffer = sets buffer 0 (tableOf zones e from to) }
+  unfolding expanded
+  table-written h = answered (answerFor zones from to (e .privacy) (e .zone) (tableOf zones e from to) buffer) (tableOf zones e from to) buffer h
+
   pub demand-two : isSecret (e .privacy) ≡ false → expanded zones e from to buffer .answer ≡ 0
       → Listed zones e from to buffer (occurrences e (since1600 from) (since1600 to))
-  unfolding expanded occurrences ids
+  unfolding occurrences ids
   demand-two shownTo h =
-      let done = answered (answerFor zones from to (e .privacy) (e .zone) (tableOf zones e from to) buffer) (tableOf zones e from to) buffer h in
+      let done = table-written h in
       let said = recurrence.demand-two (datesOf e) (since1600 from) (since1600 to) in
       record {
         increase = said .0;

@@ -5,20 +5,22 @@ use mathlib.Core.Bool.{Bool, true, false}
 use mathlib.Core.Path.{_≡_}
 use Rattle.recurrence.specs.Event.{overrideExcludes, overrideNames}
 use Rattle.words.specs.declared.Privacy.{Privacy}
-use Rattle.event.specs.Types.{Length, Details, Event}
+use Rattle.event.specs.Types.{Details, Event}
 use Rattle.event.specs.Event.{eventOf}
 use Rattle.table.specs.Occurrence.{datesOf, detailsAt}
+use Rattle.table.specs.Bytes.{secondsIn}
 use Rattle.table.specs.Call.{textFault}
 
--- "its start .., length and marks": what is compared of the event itself and of an occurrence.
+-- "its start .., length and marks": what is compared of the event itself and of an occurrence. A length is one value: "A day is taken as 86,400
+-- seconds", so `P1D` and `PT24H` are equal, "however spelled".
 pub record Times : Type 0 where
   pub start : ℕ
-  pub length : Length
+  pub length : ℕ
   pub busy : Bool
   pub allDay : Bool
 
 unfoldable pub timesOf : Details → Times
-timesOf d = record { start = d .start; length = d .length; busy = d .busy; allDay = d .allDay }
+timesOf d = record { start = d .start; length = secondsIn (d .length); busy = d .busy; allDay = d .allDay }
 
 -- "two events agree on a point when the values read there are equal, defaults filled in, however spelled"
 pub record Agree (a b : Event) : Type 0 where

@@ -3,6 +3,7 @@ use Prim.Native.Nat.{ℕ}
 use mathlib.Core.List.{List}
 use mathlib.Core.Path.{_≡_}
 use lib.IntN.{ℤ}
+use lib.ListN.{take, drop}
 use Rattle.table.specs.Bytes.{ZoneTable}
 use Rattle.table.specs.Answer.{Outcome}
 use Rattle.table.specs.Call.{Shown}
@@ -22,3 +23,8 @@ pub record Shows (o : Shown) (answer start length : ℕ) : Type 0 where
   pub answer-is : answer ≡ o .answer
   pub start-is : start ≡ o .start
   pub length-is : length ≡ o .length
+
+-- A text's call that hands back the bytes themselves: its number, and the part of the caller's own text.
+pub record Tells (o : Shown) (s : List ℕ) (answer : ℕ) (part : List ℕ) : Type 0 where
+  pub answer-is : answer ≡ o .answer
+  pub part-is : part ≡ take (o .length) (drop (o .start) s)

@@ -1,11 +1,9 @@
 -- What the look-up's answers mean: the number and the place of the text, for every case.
 use Prim.Native.Nat.{ℕ, _+_, _≤_}
 use mathlib.Core.Bool.{Bool, true, false}
-use mathlib.Core.List.{List}
 use mathlib.Core.Option.{Option}
 use mathlib.Core.Path.{_≡_}
 use lib.Dec.{eqb}
-use lib.ListN.{take, drop}
 use Rattle.signed.specs.Choose.{if_then_else_}
 use Rattle.event.specs.Types.{Text, Details}
 use Rattle.table.specs.Call.{Shown, noPlace}
@@ -42,8 +40,3 @@ chosen false d = d .description
 -- What is shown of an event that is not secret: whether it is public, whether the date is an occurrence, and the place of its text.
 unfoldable pub shownBy : Bool → Bool → Shown → Shown
 shownBy isPublic occurs place = if occurs then (if isPublic then place else noPlace 0) else noPlace 14
-
--- A text's call that hands back the bytes themselves: its number, and the part of the caller's own text.
-pub record Tells (o : Shown) (s : List ℕ) (answer : ℕ) (part : List ℕ) : Type 0 where
-  pub answer-is : answer ≡ o .answer
-  pub part-is : part ≡ take (o .length) (drop (o .start) s)

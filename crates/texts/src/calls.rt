@@ -1,8 +1,8 @@
 // The calls for the texts of one occurrence. "the words need only text and date and answer 0 to 9 or 14"; a text is the caller's own bytes
 // between the quotes, and has none after a refusal.
 ghost use Rattle.table.specs.Call.{textOf, titleOf, descriptionOf};
-ghost use Rattle.table.specs.Results.{Shows};
-ghost use Rattle.texts.specs.Shown.{chosen, Tells};
+ghost use Rattle.table.specs.Results.{Shows, Tells};
+ghost use Rattle.texts.specs.Shown.{chosen};
 use crate::answered::told;
 
 // The place of the title or of the description in the text.
