@@ -1,2 +1,4 @@
 pub mod Ordered
 pub mod Exactly
+pub mod Candidates
+pub mod Few

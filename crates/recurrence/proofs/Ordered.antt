@@ -11,7 +11,8 @@ use Rattle.signed.specs.Choose.{if_then_else_}
 use Rattle.rule.specs.Lists.{any}
 use Rattle.rule.proofs.Bools.{by, or-left, or-right}
 use Rattle.recurrence.specs.Order.{IncreasesFrom, among}
-use Rattle.recurrence.specs.Ids.{insert, insertAll, keep}
+use Rattle.recurrence.specs.Ids.{keep}
+use Rattle.recurrence.specs.Inner.Candidates.{insert, insertAll}
 
 pub from-less : (a b : ℕ) (l : List ℕ) → a ≤ b → IncreasesFrom b l → IncreasesFrom a l
 from-less a b [] h u = tt

@@ -22,6 +22,11 @@ pub count-none : (p : ℕ → Bool) (a : ℕ) → countIn p a 0 ≡ 0
 unfolding countIn
 count-none p a = refl
 
+pub count-nothing : (p : ℕ → Bool) (a n : ℕ) → ((j : ℕ) → a ≤ j → j < a + n → p j ≡ false) → countIn p a n ≡ 0
+count-nothing p a zero h = count-none p a
+count-nothing p a (suc n) h =
+    count-less p a n (h a (omega arith) (omega arith)) ∙ count-nothing p (suc a) n (λ j low high. h j (omega arith) (omega arith))
+
 pub within-less : (a b : ℕ) (most : Option ℕ) → a ≤ b → within b most ≡ true → within a most ≡ true
 unfolding within
 within-less a b none h e = refl

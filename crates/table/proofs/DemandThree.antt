@@ -12,7 +12,7 @@ use Rattle.signed.specs.Choose.{if_then_else_}
 use Rattle.signed.proofs.Parts.{false-true}
 use Rattle.rule.specs.Lists.{any}
 use Rattle.recurrence.specs.Event.{inSet}
-use Rattle.recurrence.specs.Ids.{ids, inWindow}
+use Rattle.recurrence.specs.Inner.Candidates.{inWindow}
 use Rattle.recurrence.specs.Order.{among}
 use Rattle.recurrence.proofs.Ordered.{head-among}
 use Rattle.recurrence.proofs.Exactly.{ids-exactly}

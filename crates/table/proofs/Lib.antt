@@ -1,4 +1,5 @@
 pub mod Same
 pub mod DemandThree
 pub mod DemandTwo
+pub mod Few
 pub mod Invalid

@@ -1,5 +1,5 @@
 -- Events that agree have the same occurrences, with the same times.
-use Prim.Native.Nat.{ℕ, zero, suc}
+use Prim.Native.Nat.{ℕ, _-_}
 use mathlib.Core.Bool.{Bool, true, false, not, _&&_, _||_}
 use mathlib.Core.List.{List, [], _∷_, _++_, map}
 use mathlib.Core.Option.{Option, none, some}
@@ -10,10 +10,7 @@ use Rattle.signed.proofs.Parts.{true-false, false-true}
 use Rattle.rule.specs.Lists.{any}
 use Rattle.recurrence.specs.Event as recurrence
 use Rattle.recurrence.specs.Event.{overrideExcludes, overrideNames, isStart, someGives, ruleGives, excludedRuleGives, inSet}
-use Rattle.recurrence.specs.Ids.{ids, inWindow}
-use Rattle.recurrence.specs.Order.{among}
-use Rattle.recurrence.proofs.Ordered.{unique}
-use Rattle.recurrence.proofs.Exactly.{ids-increase, ids-exactly}
+use Rattle.recurrence.specs.Ids.{secondsFrom, keep, ids}
 use Rattle.event.specs.Types.{Length, Details, Override, Event}
 use Rattle.table.specs.Occurrence.{datesOf, isOccurrence, occurrences, overrideAt, withStart, patchedBy, detailsAt}
 use Rattle.table.specs.Agree.{Times, timesOf, Agree}
@@ -28,13 +25,8 @@ module _ (a b : Event) (g : Agree a b) where
   same-set x = rw (g .names x, g .excludes x, same-start, g .rules, g .excludedRules)
 
   pub same-occurrences : (from to : ℕ) → occurrences a from to ≡ occurrences b from to
-  unfolding occurrences
-  same-occurrences from to =
-      unique 0 (ids (datesOf a) from to) (ids (datesOf b) from to) (ids-increase (datesOf a) from to) (ids-increase (datesOf b) from to)
-      (λ x. ids-exactly (datesOf a) from to x ∙ ap (λ (t : Bool). inWindow from to x && t) (in-set x) ∙ sym (ids-exactly (datesOf b) from to x))
-    where
-      in-set : (x : ℕ) → inSet (datesOf a) x ≡ inSet (datesOf b) x
-      in-set x = unfold isOccurrence in (same-set x)
+  unfolding occurrences ids isOccurrence
+  same-occurrences from to = λ i. keep (λ (x : ℕ). same-set x i) (secondsFrom from (to - from))
 
 -- ---- what each occurrence has
 

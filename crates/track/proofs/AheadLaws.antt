@@ -10,7 +10,7 @@ use Rattle.signed.specs.Choose.{if_then_else_}
 use Rattle.rule.specs.declared.End.{End}
 use Rattle.rule.specs.Lists.{countIn}
 use Rattle.rule.proofs.Bools.{by}
-use Rattle.rule.proofs.Counting.{count-more, count-less, count-none, count-split, count-most}
+use Rattle.rule.proofs.Counting.{count-more, count-less, count-none, count-nothing, count-split, count-most}
 use Rattle.rule.specs.declared.Day.{Day}
 use Rattle.matcher.specs.declared.Terms.{Terms}
 use Rattle.matcher.proofs.WalkLaws.{number-is, day-again}
@@ -23,11 +23,6 @@ use Rattle.track.specs.Ahead.{EndAt, AheadAt, AheadOf, Resting, OutAfter
 use Rattle.track.proofs.LastLaws.{end-yes, end-no, end-leaps, falls-by}
 
 -- ---- how many of some days pass
-
-pub count-zero : (p : ℕ → Bool) (d g : ℕ) → ((j : ℕ) → d ≤ j → j < d + g → p j ≡ false) → countIn p d g ≡ 0
-count-zero p d zero out = count-none p d
-count-zero p d (suc g) out =
-    count-less p d g (out d (omega arith) (omega arith)) ∙ count-zero p (suc d) g (λ j low high. out j (omega arith) (omega arith))
 
 pub record CountAt (p : ℕ → Bool) (d n k found : ℕ) : Type 0 where
   pub within : k ≤ n
@@ -71,7 +66,7 @@ module _ (p : ℕ → Bool) (d n : ℕ) where
   pub count-passes : (k found g : ℕ) → CountAt p d n k found → k + g ≤ n → ((j : ℕ) → d + k ≤ j → j < d + k + g → p j ≡ false)
       → CountAt p d n (k + g) found
   count-passes k found g i h out =
-      record { within = h; few = omega (arith, i .few); sum = omega (arith, i .sum, count-parts k g h, count-zero p (d + k) g out) }
+      record { within = h; few = omega (arith, i .few); sum = omega (arith, i .sum, count-parts k g h, count-nothing p (d + k) g out) }
 
   -- some days that were counted
   pub count-adds : (k found g : ℕ) → CountAt p d n k found → k + g ≤ n → CountAt p d n (k + g) (found + countIn p (d + k) g)

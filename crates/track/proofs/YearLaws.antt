@@ -25,7 +25,7 @@ use Rattle.rule.specs.Period.{periodOf}
 use Rattle.rule.specs.Read.{untilFrom}
 use Rattle.rule.specs.Gives.{endDay, onDay}
 use Rattle.rule.proofs.Bools.{by}
-use Rattle.rule.proofs.Counting.{count-most}
+use Rattle.rule.proofs.Counting.{count-nothing, count-most}
 use Rattle.rule.proofs.DayLaws.{InCalendar, day-facts, year-start-of}
 use Rattle.rule.proofs.PeriodLaws.{day-number}
 use Rattle.matcher.specs.declared.Terms.{Terms}
@@ -37,7 +37,7 @@ use Rattle.track.specs.Ahead.{Resting}
 use Rattle.track.specs.Years.{ownsPlaces, isAlike, isFar, NewYear, phaseOf, idleIn, isIdle, slotOf, YearBegins, Alike, Spanning, YearAsked, Kept}
 use Rattle.track.specs.Skips.{Without, stepAt, stepOn}
 use Rattle.track.proofs.LastLaws.{falls-by}
-use Rattle.track.proofs.AheadLaws.{count-zero, falls-without}
+use Rattle.track.proofs.AheadLaws.{falls-without}
 use Rattle.track.proofs.SkipLaws.{periods-without, skip-out-of-step}
 use Rattle.track.proofs.YearDayLaws.{year-same}
 use Rattle.track.proofs.NeighbourLaws.{year-ends}
@@ -235,7 +235,7 @@ module _ (t : Terms) (x : Day) (begins : YearBegins t x) (idle : isIdle t x ≡ 
   pub idle-counts : (excluded : Bool) (end : End) (row : List Bool) (start : ℕ) → start / 86400 < x .number
       → 0 ≡ countIn (fallsOnBy excluded end t row start) (x .number) (x .yeardays)
   idle-counts excluded end row start after =
-      sym (count-zero (fallsOnBy excluded end t row start) (x .number) (x .yeardays)
+      sym (count-nothing (fallsOnBy excluded end t row start) (x .number) (x .yeardays)
       (falls-without excluded end t row start (x .number) (x .yeardays)
       (record { out = skip-out-of-step t row (x .number) (x .yeardays) idle-without; after = λ some-days. after })))
 

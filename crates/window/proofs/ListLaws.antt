@@ -1,27 +1,30 @@
 -- The date-times of a window as a list: its parts, its next, its length, and that it is the list of ids of an event.
-use Prim.Native.Nat.{ℕ, zero, suc, _+_, _-_, _*_, _/_, _<_, _≤_}
-use mathlib.Core.Bool.{Bool, true, false, false≢true, _&&_, _||_}
+use Prim.Native.Nat.{ℕ, zero, suc, _+_, _-_, _*_, _<_, _≤_}
+use mathlib.Core.Bool.{Bool, true, false}
 use mathlib.Core.List.{List, [], _∷_, _++_}
-use mathlib.Core.Path.{_≡_, refl, sym, ap, _∙_, subst}
+use mathlib.Core.Path.{_≡_, refl, sym, ap, _∙_}
 use native.Mathlib.Omega.{arith}
-use lib.Dec.{eqb, leb, ltb}
 use lib.ListN.{length}
-use borrow.Author.Tests.{ltb-true, ltb-false, leb-true, lt-ltb, le-ltb, le-leb, lt-leb, eqb-true, eqb-false, eq-eqb, ne-eqb}
 use Rattle.signed.specs.Choose.{if_then_else_}
-use Rattle.rule.specs.Lists.{any, countIn}
-use Rattle.rule.specs.Gives.{endDay}
-use Rattle.rule.proofs.Bools.{by, both, left, right, same-tests}
+use Rattle.rule.specs.Lists.{countIn}
 use Rattle.recurrence.specs.Event.{Event, inSet}
-use Rattle.recurrence.specs.Order.{IncreasesFrom, StrictlyIncreases, among}
-use Rattle.recurrence.specs.Ids.{inWindow, ids}
-use Rattle.recurrence.proofs.Ordered.{from-less, unique}
-use Rattle.recurrence.proofs.Exactly.{ids-increase, ids-exactly}
+use Rattle.recurrence.specs.Ids.{secondsFrom, keep, ids}
+use Rattle.recurrence.proofs.Few.{keep-length}
 use Rattle.dates.specs.Loaded.{Loaded, isIn}
 use Rattle.dates.specs.Stands.{Stands}
 use Rattle.dates.proofs.SetLaws.{in-set}
-use Rattle.window.specs.Next.{nextOf}
 use Rattle.window.specs.Lists.{listIn}
-use Rattle.window.proofs.NextLaws.{Next, next-is}
+use Rattle.window.proofs.NextLaws.{Next}
+
+-- ---- as what is kept of the stretch
+
+kept-list : (p : ℕ → Bool) (a n : ℕ) → keep p (secondsFrom a n) ≡ listIn p a n
+unfolding keep secondsFrom listIn
+kept-list p a zero = refl
+kept-list p a (suc n) = rw (kept-list p (suc a) n)
+
+pub list-length : (p : ℕ → Bool) (a n : ℕ) → length (listIn p a n) ≡ countIn p a n
+list-length p a n = ap length (sym (kept-list p a n)) ∙ keep-length p a n
 
 -- ---- parts
 
@@ -40,16 +43,6 @@ list-split p a (suc m) n =
         ≡ ((if b then a ∷ listIn p (suc a) m else listIn p (suc a) m) ++ listIn p (suc a + m) n)
     go true = refl
     go false = refl
-
-pub list-length : (p : ℕ → Bool) (a n : ℕ) → length (listIn p a n) ≡ countIn p a n
-unfolding listIn countIn
-list-length p a zero = refl
-list-length p a (suc n) = go (p a) (list-length p (suc a) n)
-  where
-    go : (b : Bool) → length (listIn p (suc a) n) ≡ countIn p (suc a) n
-        → length (if b then a ∷ listIn p (suc a) n else listIn p (suc a) n) ≡ (if b then 1 else 0) + countIn p (suc a) n
-    go true h = omega arith
-    go false h = omega arith
 
 pub list-same : (p q : ℕ → Bool) (a n : ℕ) → ((j : ℕ) → a ≤ j → j < a + n → p j ≡ q j) → listIn p a n ≡ listIn q a n
 unfolding listIn
@@ -83,71 +76,14 @@ module _ (p : ℕ → Bool) (a to r : ℕ) (f : Next p a to r) where
   pub list-over : to ≤ r → listIn p a (to - a) ≡ []
   list-over h = list-nothing p a (to - a) (λ j below above. f .none j below (omega arith))
 
--- ---- order and members
+-- ---- the ids of an event, of what the code keeps of it
 
-list-increases : (p : ℕ → Bool) (a n : ℕ) → IncreasesFrom a (listIn p a n)
-unfolding listIn
-list-increases p a zero = tt
-list-increases p a (suc n) = go (p a) (list-increases p (suc a) n)
-  where
-    go : (b : Bool) → IncreasesFrom (suc a) (listIn p (suc a) n) → IncreasesFrom a (if b then a ∷ listIn p (suc a) n else listIn p (suc a) n)
-    go true later = (omega arith, later)
-    go false later = from-less a (suc a) (listIn p (suc a) n) (omega arith) later
+module _ (e : Event) (from to : ℕ) (order : from ≤ to) (limit : ℕ) (l : Loaded) (s : Stands e limit l) (within : to ≤ 86400 * limit) where
+  pub ids-loaded : ids e from to ≡ listIn (isIn l) from (to - from)
+  unfolding ids
+  ids-loaded =
+      kept-list (inSet e) from (to - from)
+      ∙ list-same (inSet e) (isIn l) from (to - from) (λ j low high. sym (in-set e limit l s j (omega arith)))
 
-list-among : (p : ℕ → Bool) (a n x : ℕ) → among x (listIn p a n) ≡ ((leb a x && ltb x (a + n)) && p x)
-unfolding listIn among any
-list-among p a zero x =
-    by (leb a x)
-    (λ e. rw (e, le-ltb x (a + 0) (omega (arith, leb-true a x e))))
-    (λ e. rw e)
-list-among p a (suc n) x = go (p a) refl (list-among p (suc a) n x)
-  where
-    Rest : Type 0
-    Rest = among x (listIn p (suc a) n) ≡ ((leb (suc a) x && ltb x (suc a + n)) && p x)
-
-    later : Rest → (x ≡ a → ⊥) → among x (listIn p (suc a) n) ≡ ((leb a x && ltb x (a + suc n)) && p x)
-    later h other =
-        let there : suc a + n ≡ a + suc n = omega arith in
-        let low : leb (suc a) x ≡ leb a x =
-        same-tests (leb (suc a) x) (leb a x) (λ e. le-leb a x (omega (arith, leb-true (suc a) x e)))
-        (λ e. le-leb (suc a) x (omega (arith, leb-true a x e, other)))
-        in
-        h ∙ rw (there, low)
-
-    here : x ≡ a → (leb a x && ltb x (a + suc n)) ≡ true
-    here same = both (leb a x) (ltb x (a + suc n)) (le-leb a x (omega arith)) (lt-ltb x (a + suc n) (omega arith))
-
-    go : (b : Bool) → p a ≡ b → Rest → among x (if b then a ∷ listIn p (suc a) n else listIn p (suc a) n) ≡ ((leb a x && ltb x (a + suc n)) && p x)
-    go true e h =
-        by (eqb a x)
-        (λ f.
-        let same : x ≡ a = sym (eqb-true a x f) in
-        rw (f, here same) (sym (subst (λ (k : ℕ). p k ≡ true) (sym same) e)))
-        (λ f. rw f (later h (λ same. eqb-false a x f (sym same))))
-    go false e h =
-        by (eqb a x)
-        (λ f.
-        let same : x ≡ a = sym (eqb-true a x f) in
-        let early : leb (suc a) x ≡ false = lt-leb (suc a) x (omega arith) in
-        h ∙ rw (early, here same) (sym (subst (λ (k : ℕ). p k ≡ false) (sym same) e)))
-        (λ f. later h (λ same. eqb-false a x f (sym same)))
-
--- ---- the ids of an event
-
-module _ (e : Event) (from to : ℕ) (order : from ≤ to) where
-  pub ids-list : ids e from to ≡ listIn (inSet e) from (to - from)
-  unfolding inWindow
-  ids-list =
-      let end : from + (to - from) ≡ to = omega arith in
-      unique 0 (ids e from to) (listIn (inSet e) from (to - from)) (ids-increase e from to)
-      (from-less 0 from (listIn (inSet e) from (to - from)) (omega arith) (list-increases (inSet e) from (to - from)))
-      (λ x. ids-exactly e from to x ∙ sym (list-among (inSet e) from (to - from) x ∙ rw end))
-
-  -- the same of what the code keeps of the event
-  module _ (limit : ℕ) (l : Loaded) (s : Stands e limit l) (within : to ≤ 86400 * limit) where
-    pub ids-loaded : ids e from to ≡ listIn (isIn l) from (to - from)
-    ids-loaded =
-        ids-list ∙ list-same (inSet e) (isIn l) from (to - from) (λ j low high. sym (in-set e limit l s j (omega arith)))
-
-    pub ids-counted : length (ids e from to) ≡ countIn (isIn l) from (to - from)
-    ids-counted = ap length ids-loaded ∙ list-length (isIn l) from (to - from)
+  pub ids-counted : length (ids e from to) ≡ countIn (isIn l) from (to - from)
+  ids-counted = ap length ids-loaded ∙ list-length (isIn l) from (to - from)

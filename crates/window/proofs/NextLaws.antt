@@ -8,7 +8,7 @@ use borrow.Author.Tests.{ltb-true, ltb-false, eqb-true, eqb-false}
 use Rattle.signed.specs.Choose.{if_then_else_}
 use Rattle.rule.specs.Lists.{countIn}
 use Rattle.rule.proofs.Bools.{by, or-left, or-right}
-use Rattle.rule.proofs.Counting.{count-more, count-less, count-none, count-split}
+use Rattle.rule.proofs.Counting.{count-more, count-nothing, count-split}
 use Rattle.window.proofs.FirstLaws.{First, first-is, first-same}
 use Rattle.window.specs.Next.{firstFrom, nextOf, lower}
 
@@ -74,11 +74,6 @@ pub next-later : (p : ℕ → Bool) (a b to r : ℕ) → a ≤ b → b ≤ r →
 next-later p a b to r h k f = record { low = k; high = f .high; passes = f .passes; none = λ j low high. f .none j (omega arith) high }
 
 -- ---- counting by what is next
-
-pub count-nothing : (p : ℕ → Bool) (a n : ℕ) → ((j : ℕ) → a ≤ j → j < a + n → p j ≡ false) → countIn p a n ≡ 0
-count-nothing p a zero h = count-none p a
-count-nothing p a (suc n) h =
-    count-less p a n (h a (omega arith) (omega arith)) ∙ count-nothing p (suc a) n (λ j low high. h j (omega arith) (omega arith))
 
 module _ (p : ℕ → Bool) (a to r : ℕ) (f : Next p a to r) where
   pub count-next : r < to → countIn p a (to - a) ≡ 1 + countIn p (r + 1) (to - (r + 1))

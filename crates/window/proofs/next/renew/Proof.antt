@@ -1,6 +1,4 @@
 -- `window::next::renew` meets its contract.
-use Rattle.recurrence.specs.Event.{inSet}
-use Rattle.recurrence.specs.Ids.{candidates, ids, inWindow}
 use Rattle.window.specs.Next.{renewed}
 use borrow.Author.Tests.{le-ltb, lt-ltb}
 use borrow.Author.Needs.{needs}
@@ -11,7 +9,7 @@ next-kept-requires : tie.Need-next-kept-requires
 next-kept-requires c κs = search needs
 
 returns : tie.Need-returns
-unfolding candidates ids inSet inWindow renewed
+unfolding renewed
 returns c =
     rw (
       lt-ltb _ _ (c .before .if1 .taken),
@@ -19,7 +17,7 @@ returns c =
     )
 
 returns-2 : tie.Need-returns-2
-unfolding candidates ids inSet inWindow renewed
+unfolding renewed
 returns-2 c = rw (le-ltb _ _ (c .if1 .left))
 
 pub renew-spec : {M : Type 1} → statement M
