@@ -1,5 +1,5 @@
--- Demand 1 of every call that keeps its contract: `Gives (expandText ..)` is that of the table's calls, `Shows (titleOf ..)` and
--- `Shows (descriptionOf ..)` are those of the texts'.
+-- Demand 1 of every call that keeps its contract: `Gives (expandText ..)` is that of the sheet's calls, `Shows (textOf ..)` and
+-- `Tells (textOf ..)` are those of the texts'.
 use Prim.Native.Nat.{ℕ, _<_}
 use mathlib.Core.Bool.{Bool, true, false, not, _&&_, _||_}
 use mathlib.Core.List.{List, [], _∷_, _++_}
@@ -8,6 +8,7 @@ use mathlib.Core.Path.{_≡_, refl, sym, ap, _∙_, subst}
 use native.Mathlib.Omega.{arith}
 use lib.Dec.{eqb}
 use lib.IntN.{ℤ}
+use lib.ListN.{take, drop}
 use borrow.Author.Tests.{eqb-true, eq-eqb, ne-eqb}
 use Rattle.signed.specs.Choose.{if_then_else_}
 use Rattle.rule.proofs.Bools.{by}
@@ -17,10 +18,10 @@ use Rattle.event.specs.Event.{eventOf}
 use Rattle.table.specs.Occurrence.{isOccurrence, detailsAt}
 use Rattle.table.specs.Bytes.{ZoneTable, tableOf}
 use Rattle.table.specs.Answer.{Outcome, isSecret, isPublic, answerFor, outcomeBy, expanded, dateTimeOf, textAnswerFor, textAnswer}
-use Rattle.table.specs.Call.{textFault, expandText, Shown, placeFrom, placeOf, noPlace, shownFor, shownAt, textOf, titleOf, descriptionOf}
-use Rattle.table.specs.Results.{Gives, Shows}
+use Rattle.table.specs.Call.{textFault, expandText, Shown, placeFrom, placeOf, noPlace, shownFor, shownAt, textOf}
+use Rattle.table.specs.Results.{Gives, Shows, Tells}
 use Rattle.demands.specs.Conditions.{Numbered, Lowest, textConditions, callConditions, tableConditions, occursAt, wordsConditions}
-use Rattle.demands.specs.One.{TableAnswered, TextAnswered}
+use Rattle.demands.specs.One.{TableAnswered, TextAnswered, PartAnswered}
 use Rattle.demands.proofs.Lowest.{lowestOf, Rising, lowest-of}
 use Rattle.demands.proofs.TextAnswers.{lowest-join, text-lowest, text-rises}
 
@@ -82,6 +83,10 @@ module _ (zones : ZoneTable) (s : List ℕ) (from to : ℤ) (buffer : List ℕ) 
       }
 
 -- ---- a text's call
+
+-- no bytes, no part
+pub no-part : (o : Shown) (s : List ℕ) (answer : ℕ) (part : List ℕ) → Tells o s answer part → o .length ≡ 0 → part ≡ []
+no-part o s answer part g z = g .part-is ∙ ap (λ (n : ℕ). take n (drop (o .start) s)) z
 
 module _ (s : List ℕ) (date : ℤ) where
   words-rises : Rising 0 (wordsConditions s date)
@@ -145,8 +150,8 @@ module _ (s : List ℕ) (date : ℤ) where
     unfolding textOf
     said = by (eqb (textFault s) 0) (λ e. rw (words-lowest, e) (said-at (eventOf s) (dateTimeOf date))) (λ e. rw (words-lowest, e) (record { answer-is = refl; no-place = λ h. (refl, refl) }))
 
-    text-answered : (answer start length : ℕ) → Shows (textOf which s date) answer start length → TextAnswered s date answer start length
-    text-answered answer start length g =
+    pub text-answered : (answer start size : ℕ) → Shows (textOf which s date) answer start size → TextAnswered s date answer start size
+    text-answered answer start size g =
         record {
           one = subst (Lowest (wordsConditions s date)) (sym (g .answer-is ∙ said .answer-is)) (lowest-of 0 (wordsConditions s date) words-rises);
           refusedText =
@@ -155,10 +160,9 @@ module _ (s : List ℕ) (date : ℤ) where
               (g .start-is ∙ no .0, g .length-is ∙ no .1);
         }
 
-  pub title-answered : (answer start length : ℕ) → Shows (titleOf s date) answer start length → TextAnswered s date answer start length
-  unfolding titleOf
-  title-answered answer start length g = text-answered (λ d. d .title) answer start length g
-
-  pub description-answered : (answer start length : ℕ) → Shows (descriptionOf s date) answer start length → TextAnswered s date answer start length
-  unfolding descriptionOf
-  description-answered answer start length g = text-answered (λ d. d .description) answer start length g
+    -- the part is that of the place
+    pub part-answered : (answer : ℕ) (part : List ℕ) → Tells (textOf which s date) s answer part → PartAnswered s date answer part
+    part-answered answer part g =
+        let o = textOf which s date in
+        let t = text-answered answer (o .start) (o .length) (record { answer-is = g .answer-is; start-is = refl; length-is = refl }) in
+        record { one = t .one; refusedPart = λ h. no-part o s answer part g (t .refusedText h .1) }

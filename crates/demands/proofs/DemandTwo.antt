@@ -1,75 +1,151 @@
--- Demand 2 of every call for the table that keeps its contract, `Gives (expandText ..)`.
-use Prim.Native.Nat.{ℕ, _+_, _*_, _<_, _≤_}
-use mathlib.Core.Bool.{Bool, true, false, false≢true, not, _&&_, _||_}
-use mathlib.Core.List.{List, [], _∷_, _++_}
+-- Demand 2 of every call for the sheet that keeps its contract, `Gives (expandText ..)`.
+use Prim.Native.Nat.{ℕ, _+_, _*_, _<_, _≤_, _^_}
+use mathlib.Core.Bool.{Bool, true, false, false≢true, not, _||_}
+use mathlib.Core.List.{List, [], _++_}
+use mathlib.Core.Logic.{_↔_}
 use mathlib.Core.Path.{_≡_, refl, sym, ap, _∙_, subst}
 use native.Mathlib.Omega.{arith}
-use lib.Dec.{eqb, ltb}
-use lib.IntN.{ℤ}
-use lib.ListN.{length}
-use lib.Seq.{sets, length-sets}
+use lib.Dec.{ltb}
+use lib.IntN.{ℤ, pos, _+ℤ_}
+use lib.ListN.{length, getD}
+use lib.Seq.{sets}
+use lib.Signed.{ltZ}
 use borrow.Author.Tests.{ltb-false}
-use Rattle.signed.specs.Choose.{if_then_else_}
 use Rattle.rule.specs.Lists.{any}
-use Rattle.words.specs.declared.Privacy.{Privacy}
-use Rattle.words.specs.declared.Privacy.the-variants.{Public, Private, Secret}
+use Rattle.recurrence.specs.Order.{StrictlyIncreases, among}
+use Rattle.recurrence.specs.Occurs.{OccursWithin}
+use Rattle.zone.specs.Table.{validTable}
 use Rattle.event.specs.Types.{Event}
 use Rattle.event.specs.Event.{eventOf}
-use Rattle.table.specs.Window.{since1600}
-use Rattle.table.specs.Occurrence.{occurrences}
-use Rattle.table.specs.Bytes.{ZoneTable, recordsOf, trailerOf, tableOf, listed}
+use Rattle.table.specs.Window.{since1600, since1970, validWindow}
+use Rattle.table.specs.Occurrence.{datesOf, occurrences, detailsAt}
+use Rattle.table.specs.Bytes.{ZoneTable, utcOf, secondsIn, marksOf, recordsOf, trailerOf, tableOf}
 use Rattle.table.specs.Answer.{Outcome, isSecret, expanded}
 use Rattle.table.specs.Call.{textFault, expandText}
 use Rattle.table.specs.Results.{Gives}
 use Rattle.table.proofs.DemandTwo as definitions
+use Rattle.table.proofs.Few.{window-last, few-accepted}
 use Rattle.demands.specs.Conditions.{Numbered, applies, textConditions, callConditions, tableConditions}
-use Rattle.demands.specs.Two.{Listed}
+use Rattle.demands.specs.Sheet.{idAt, startAt, HasSheet}
+use Rattle.demands.specs.Two.{OnSheet, OccursIn, Row, Listed}
 use Rattle.demands.proofs.DemandOne.{table-answered}
-use Rattle.demands.proofs.TableParts.{table-length, row-at, trailer-at, others-stay}
+use Rattle.demands.proofs.SheetLaws.{has-sheet, id-back, start-back, end-back, marks-back, zeros-back}
+use Rattle.demands.proofs.Lists.{among-stands, at-among, increases-at}
+use Rattle.demands.proofs.WindowLaws.{back-1600, back-1970, earlier, low-enough, after-first, before-last, first-below, last-above}
+use Rattle.demands.proofs.Ranges.{id-fits, start-fits, end-fits}
 
-all-listed : (e : Event) (privacy : Privacy) → isSecret privacy ≡ false → (from to : ℕ) → listed e privacy from to ≡ occurrences e from to
-unfolding listed
-all-listed e Public h from to = refl
-all-listed e Private h from to = refl
-all-listed e Secret h from to = absurd (false≢true (sym h))
+-- ---- what does not apply to a call that is answered 0
 
 or-none : (b : Bool) → (b || false) ≡ false → b ≡ false
 or-none true h = h
 or-none false h = refl
 
+not-not : (b : Bool) → not b ≡ false → b ≡ true
+not-not true h = refl
+not-not false h = absurd (false≢true (sym h))
+
 module _ (zones : ZoneTable) (s : List ℕ) (from to : ℤ) (buffer : List ℕ) where
-  -- 13 does not apply to a call that is answered 0
-  room : applies 13 (tableConditions zones s from to buffer) ≡ false → length (tableOf zones (eventOf s) from to) ≤ length buffer
+  pub table-valid : applies 10 (tableConditions zones s from to buffer) ≡ false → validTable (zones .initial) (zones .instants) (zones .offsets) ≡ true
+  unfolding applies any tableConditions textConditions callConditions
+  table-valid h = not-not (validTable (zones .initial) (zones .instants) (zones .offsets)) (or-none (not (validTable (zones .initial) (zones .instants) (zones .offsets))) h)
+
+  pub window-valid : applies 11 (tableConditions zones s from to buffer) ≡ false → validWindow from to ≡ true
+  unfolding applies any tableConditions textConditions callConditions
+  window-valid h = not-not (validWindow from to) (or-none (not (validWindow from to)) h)
+
+  pub room : applies 13 (tableConditions zones s from to buffer) ≡ false → length (tableOf zones (eventOf s) from to) ≤ length buffer
   unfolding applies any tableConditions textConditions callConditions
   room h = ltb-false _ _ (or-none (ltb (length buffer) (length (tableOf zones (eventOf s) from to))) h)
 
-  accepted-outcome : textFault s ≡ 0 → expandText zones s from to buffer ≡ expanded zones (eventOf s) from to buffer
+  pub accepted-outcome : textFault s ≡ 0 → expandText zones s from to buffer ≡ expanded zones (eventOf s) from to buffer
   unfolding expandText
   accepted-outcome h = rw h
 
-  module _ (accepted : textFault s ≡ 0) (shown : isSecret (eventOf s .privacy) ≡ false) where
-    sized : length (tableOf zones (eventOf s) from to) ≡ 28 * length (occurrences (eventOf s) (since1600 from) (since1600 to)) + 12
-    unfolding tableOf
-    sized =
-        ap (λ (xs : List ℕ). length (recordsOf zones (eventOf s) xs ++ trailerOf (length xs))) (all-listed (eventOf s) (eventOf s .privacy) shown (since1600 from) (since1600 to))
-        ∙ table-length zones (eventOf s) (occurrences (eventOf s) (since1600 from) (since1600 to))
+-- ---- a sheet of the occurrences, read back
 
-    pub table-listed : (answer size : ℕ) (after : List ℕ) → Gives (expandText zones s from to buffer) answer size after → answer ≡ 0
-        → Listed zones (eventOf s) from to buffer size after (occurrences (eventOf s) (since1600 from) (since1600 to))
-    table-listed answer size after g done =
-        let ids = occurrences (eventOf s) (since1600 from) (since1600 to) in
-        let is = accepted-outcome accepted in
-        let o = sym (g .answer-is ∙ ap (λ (u : Outcome). u .answer) is) ∙ done in
-        let said = definitions.demand-two zones (eventOf s) from to buffer shown o in
-        let bytes = g .buffer-is ∙ ap (λ (u : Outcome). u .buffer) is ∙ said .bytes in
-        let none = table-answered zones s from to buffer answer size after g .one .done done 13 in
-        let fits : 28 * length (occurrences (eventOf s) (since1600 from) (since1600 to)) + 12 ≤ length buffer = omega (arith, room none, sized) in
+module _ (zones : ZoneTable) (s : List ℕ) (from to : ℤ) (before after : List ℕ) (accepted : textFault s ≡ 0)
+    (table : validTable (zones .initial) (zones .instants) (zones .offsets) ≡ true) (window : validWindow from to ≡ true) where
+  abbrev e : Event
+  e = eventOf s
+
+  abbrev xs : List ℕ
+  xs = occurrences (eventOf s) (since1600 from) (since1600 to)
+
+  module _ (increase : StrictlyIncreases xs) (exactly : (x : ℕ) → (among x xs ≡ true) ↔ OccursWithin (datesOf e) (since1600 from) (since1600 to) x)
+      (is : after ≡ sets before 0 (recordsOf zones e xs ++ trailerOf (length xs))) (fits : 28 * length xs + 12 ≤ length before) where
+    small : (k : ℕ) → k < length xs → getD xs k 0 < 2 ^ 60
+    small k h = omega (arith, exactly (getD xs k 0) .0 (at-among xs k h) .before, window-last from to window)
+
+    id-is : (k : ℕ) → k < length xs → idAt after k ≡ since1970 (getD xs k 0)
+    id-is k h = id-back zones e xs before after is fits k h (id-fits (getD xs k 0) (small k h))
+
+    id-of : (k : ℕ) → k < length xs → getD xs k 0 ≡ since1600 (idAt after k)
+    id-of k h = sym (ap since1600 (id-is k h) ∙ back-1600 (getD xs k 0))
+
+    ids-increase : (j k : ℕ) → j < k → k < length xs → ltZ (idAt after j) (idAt after k) ≡ true
+    ids-increase j k h b =
+        rw (id-is j (omega arith), id-is k b) (earlier (getD xs j 0) (getD xs k 0) (increases-at xs increase j k h b))
+
+    there : (id : ℤ) → OnSheet (length xs) after id → OccursIn e from to id
+    there id o =
+        let x = getD xs (o .place) 0 in
+        let w = exactly x .0 (at-among xs (o .place) (o .below)) in
+        let same : since1970 x ≡ id = sym (id-is (o .place) (o .below)) ∙ o .is in
+        subst (OccursIn e from to) same
+        (record {
+          notBefore = after-first from to window x (w .notBefore);
+          before = before-last from to window x (w .before);
+          occurs = rw (back-1600 x) (w .occurs);
+        })
+
+    found : (id : ℤ) → OccursIn e from to id → OnSheet (length xs) after id
+    found id o =
+        let x = since1600 id in
+        let w : OccursWithin (datesOf e) (since1600 from) (since1600 to) x = record { notBefore = first-below from to window id (o .notBefore); before = last-above from to window id (o .notBefore) (o .before); occurs = o .occurs } in
+        let p = among-stands xs x (exactly x .1 w) in
         record {
-          increase = said .increase;
-          exactly = said .exactly;
-          rows = row-at zones (eventOf s) _ buffer after bytes fits;
-          trailer = trailer-at zones (eventOf s) _ buffer after bytes fits;
-          others = others-stay zones (eventOf s) _ buffer after bytes fits;
-          whole = ap length bytes ∙ length-sets buffer 0 (recordsOf zones (eventOf s) ids ++ trailerOf (length ids));
-          sizeIs = g .length-is ∙ ap (λ (u : Outcome). u .length) is ∙ said .size;
+          place = p .place;
+          below = p .below;
+          is = id-is (p .place) (p .below) ∙ ap since1970 (p .is) ∙ back-1970 id (low-enough from to window id (o .notBefore));
         }
+
+    row-at : (k : ℕ) → k < length xs → Row zones e after k
+    row-at k h =
+        let x = getD xs k 0 in
+        let is-x = id-of k h in
+        let start = start-back zones e xs before after is fits k h (start-fits zones table s accepted (e .zone) x (small k h)) in
+        let end = end-back zones e xs before after is fits k h (end-fits zones table s accepted (e .zone) x (small k h)) in
+        record {
+          startIs = rw (← is-x) start;
+          endIs = rw (← is-x) (end ∙ ap (λ (t : ℤ). t +ℤ pos (secondsIn (detailsAt e x .length))) (sym start));
+          marksIs = rw (← is-x) (marks-back zones e xs before after is fits k h);
+          zeros = zeros-back zones e xs before after is fits k h;
+        }
+
+    sheet-listed : (size : ℕ) → size ≡ 28 * length xs + 12 → Listed zones e from to before size after
+    sheet-listed size sized =
+        record {
+          count = length xs;
+          sheet = has-sheet zones e xs before after is fits (few-accepted s from to accepted window) size sized;
+          increase = ids-increase;
+          exactly = λ id. (there id, found id);
+          rows = row-at;
+        }
+
+-- ---- the call
+
+module _ (zones : ZoneTable) (s : List ℕ) (from to : ℤ) (buffer : List ℕ) (accepted : textFault s ≡ 0) (shown : isSecret (eventOf s .privacy) ≡ false) where
+  pub table-listed : (answer size : ℕ) (after : List ℕ) → Gives (expandText zones s from to buffer) answer size after → answer ≡ 0
+      → Listed zones (eventOf s) from to buffer size after
+  table-listed answer size after g done =
+      let is = accepted-outcome zones s from to buffer accepted in
+      let o = sym (g .answer-is ∙ ap (λ (u : Outcome). u .answer) is) ∙ done in
+      let said = definitions.demand-two zones (eventOf s) from to buffer shown o in
+      let bytes = g .buffer-is ∙ ap (λ (u : Outcome). u .buffer) is ∙ said .bytes in
+      let sized = g .length-is ∙ ap (λ (u : Outcome). u .length) is ∙ said .size in
+      let none = table-answered zones s from to buffer answer size after g .one .done done in
+      let written = definitions.table-written zones (eventOf s) from to buffer o in
+      let long = sym (ap (λ (u : Outcome). u .length) written) ∙ said .size in
+      let fits : 28 * length (occurrences (eventOf s) (since1600 from) (since1600 to)) + 12 ≤ length buffer = omega (arith, room zones s from to buffer (none 13), long) in
+      sheet-listed zones s from to buffer after accepted (table-valid zones s from to buffer (none 10)) (window-valid zones s from to buffer (none 11))
+      (said .increase) (said .exactly) bytes fits size sized

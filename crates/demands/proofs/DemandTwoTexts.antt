@@ -1,4 +1,4 @@
--- Demand 2, "texts are the same document's", of every call for a text that keeps its contract.
+-- Demand 2, "UTC times, marks and words are those of the same document", of every call for a text that keeps its contract.
 use Prim.Native.Nat.{ℕ}
 use mathlib.Core.Bool.{Bool, true, false, not, _&&_}
 use mathlib.Core.List.{List, [], _∷_}
@@ -13,13 +13,12 @@ use Rattle.words.specs.declared.Privacy.{Privacy}
 use Rattle.words.specs.declared.Privacy.the-variants.{Public}
 use Rattle.event.specs.Types.{Text, Details, Event}
 use Rattle.event.specs.Event.{eventOf}
-use Rattle.table.specs.Agree.{Accepted}
 use Rattle.table.specs.Occurrence.{isOccurrence, detailsAt}
 use Rattle.table.specs.Answer.{isPublic, isSecret, dateTimeOf, textAnswerFor, textAnswer}
-use Rattle.table.specs.Call.{Shown, textFault, placeFrom, placeOf, noPlace, shownFor, shownAt, textOf, titleOf, descriptionOf}
-use Rattle.table.specs.Results.{Shows}
-use Rattle.demands.specs.Two.{rawOf, Told}
-use Rattle.demands.proofs.OwnBytes.{Own, OwnIn, title-own, description-own}
+use Rattle.table.specs.Call.{Shown, textFault, placeFrom, placeOf, noPlace, shownFor, shownAt, textOf}
+use Rattle.table.specs.Results.{Shows, Tells}
+use Rattle.demands.specs.Two.{rawOf, Told, PartTold}
+use Rattle.demands.proofs.OwnBytes.{Own, OwnIn}
 
 -- The part that a place names is a text.
 record Names (s : List ℕ) (o : Option Text) (p : Shown) : Type 0 where
@@ -64,7 +63,7 @@ module _ (which : Details → Option Text) (s : List ℕ) (owned : (x : ℕ) →
     unfolding textOf
     accepted-text h = rw h
 
-    text-told : textFault s ≡ 0 → (answer start size : ℕ) → Shows (textOf which s date) answer start size → answer ≡ 0 → Told which s (eventOf s) date start size
+    pub text-told : textFault s ≡ 0 → (answer start size : ℕ) → Shows (textOf which s date) answer start size → answer ≡ 0 → Told which s (eventOf s) date start size
     text-told h answer start size g done =
         let is = accepted-text h in
         let p = at-placed (dateTimeOf date) (sym (g .answer-is ∙ ap (λ (u : Shown). u .answer) is) ∙ done) in
@@ -78,14 +77,8 @@ module _ (which : Details → Option Text) (s : List ℕ) (owned : (x : ℕ) →
           sizeIs = long ∙ p .names .sized;
         }
 
-pub title-told : (s : List ℕ) → Accepted Public s → (date : ℤ) (answer start size : ℕ) → Shows (titleOf s date) answer start size → answer ≡ 0
-    → Told (λ d. d .title) s (eventOf s) date start size
-unfolding titleOf
-title-told s h date answer start size g done =
-    text-told (λ d. d .title) s (title-own s) date (h .setting) (h .accepted) answer start size g done
-
-pub description-told : (s : List ℕ) → Accepted Public s → (date : ℤ) (answer start size : ℕ) → Shows (descriptionOf s date) answer start size → answer ≡ 0
-    → Told (λ d. d .description) s (eventOf s) date start size
-unfolding descriptionOf
-description-told s h date answer start size g done =
-    text-told (λ d. d .description) s (description-own s) date (h .setting) (h .accepted) answer start size g done
+    pub part-told : textFault s ≡ 0 → (answer : ℕ) (part : List ℕ) → Tells (textOf which s date) s answer part → answer ≡ 0 → PartTold which (eventOf s) date part
+    part-told h answer part g done =
+        let o = textOf which s date in
+        let t = text-told h answer (o .start) (o .length) (record { answer-is = g .answer-is; start-is = refl; length-is = refl }) done in
+        record { id = t .id; dated = t .dated; occurs = t .occurs; bytes = g .part-is ∙ t .part }

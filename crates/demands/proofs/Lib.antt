@@ -2,8 +2,12 @@ pub mod Lowest
 pub mod FaultLaws
 pub mod TextAnswers
 pub mod DemandOne
-pub mod TableParts
+pub mod SheetLaws
+pub mod Lists
+pub mod WindowLaws
+pub mod Ranges
 pub mod DemandTwo
-pub mod DemandThree
 pub mod OwnBytes
 pub mod DemandTwoTexts
+pub mod DemandThree
+pub mod Promises

@@ -4,11 +4,12 @@ use mathlib.Core.Bool.{Bool, true, false, _&&_, _||_}
 use mathlib.Core.List.{List, [], _∷_}
 use mathlib.Core.Path.{_≡_, refl, sym, ap, ap₂, _∙_}
 use native.Mathlib.Omega.{arith}
-use lib.Dec.{eqb}
-use borrow.Author.Tests.{eqb-true, ne-eqb, eq-eqb}
+use lib.Dec.{eqb, ltb}
+use borrow.Author.Tests.{eqb-true, ne-eqb, eq-eqb, ltb-true, ltb-false}
 use Rattle.signed.specs.Choose.{if_then_else_}
 use Rattle.signed.proofs.Parts.{false-true, true-false}
 use Rattle.rule.specs.Lists.{any}
+use Rattle.rule.proofs.Bools.{by}
 use Rattle.demands.specs.Conditions.{Numbered, applies, Lowest}
 
 unfoldable pub lowestOf : List Numbered → ℕ
@@ -63,3 +64,14 @@ lowest-of m (c ∷ l) r = by (c .holds) refl (lowest-of (c .number) l (r .1))
     by : (t : Bool) → c .holds ≡ t → Lowest l (lowestOf l) → Lowest (c ∷ l) (if t then c .number else lowestOf l)
     by true e rest = here e
     by false e rest = later e rest
+
+-- ---- "one answer"
+
+not-lower : (l : List Numbered) (a b : ℕ) → Lowest l a → Lowest l b → a < b → ⊥
+not-lower l zero b p q h = false-true (sym (p .done refl b) ∙ q .given (λ z. omega arith))
+not-lower l (suc a) b p q h = false-true (sym (q .lowest (suc a) h) ∙ p .given (λ z. omega arith))
+
+pub lowest-one : (l : List Numbered) (a b : ℕ) → Lowest l a → Lowest l b → a ≡ b
+lowest-one l a b p q =
+    by (ltb a b) (λ e. absurd (not-lower l a b p q (ltb-true a b e)))
+    (λ e. by (ltb b a) (λ f. absurd (not-lower l b a q p (ltb-true b a f))) (λ f. omega (arith, ltb-false a b e, ltb-false b a f)))

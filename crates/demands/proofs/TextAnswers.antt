@@ -1,30 +1,32 @@
 -- The definitions ask 1 to 9 one after the other: what they give is the lowest of the conditions that holds.
-use Prim.Native.Nat.{ℕ, zero, suc, _<_, _≤_}
+use Prim.Native.Nat.{ℕ, zero, suc, _+_, _<_, _≤_}
 use mathlib.Core.Bool.{Bool, true, false, not, _&&_, _||_}
 use mathlib.Core.List.{List, [], _∷_, _++_}
-use mathlib.Core.Logic.{⊎-elim}
+use mathlib.Core.Logic.{⊎-elim, _↔_}
 use mathlib.Core.Option.{Option, none, some}
-use mathlib.Core.Path.{_≡_, refl, sym, ap, _∙_}
+use mathlib.Core.Path.{_≡_, refl, sym, ap, _∙_, subst}
 use native.Mathlib.Omega.{arith}
 use lib.Dec.{eqb, leb, ltb}
 use lib.ListN.{length}
 use borrow.Author.Tests.{eqb-true, eqb-false, ne-eqb, leb-true}
 use Rattle.signed.specs.Choose.{if_then_else_}
 use Rattle.json_text.specs.Choice as choice
-use Rattle.json_text.specs.Bytes.{spaceAt}
+use Rattle.json_text.specs.Bytes.{spaceAt, next}
 use Rattle.json_text.specs.declared.Read.{Read}
 use Rattle.json_text.specs.declared.Read.the-variants.{To, Bad, Deep}
-use Rattle.json_value.specs.Values.{textAt, levels}
+use Rattle.json_value.specs.Values.{valueAt, endAt, textAt, levels}
+use Rattle.json_value.proofs.Levels.{Stays, to-deep, bad-deep, text-stays}
 use Rattle.json_names.specs.Names.{faultAt}
 use Rattle.json.specs.Answer.{limit, pairedAnswer, readAnswer, answerOf}
 use Rattle.json.specs.Surrogates.{pairsAt}
 use Rattle.json_tree.specs.Tree.{Fields, textTree}
+use Rattle.signed.proofs.Parts.{false-true}
 use Rattle.rule.proofs.Bools.{by, or-either, left, right}
 use Rattle.event.specs.Values.{object}
 use Rattle.event.specs.Event.{noEvent, eventIn, objectFault, eventFault}
 use Rattle.table.specs.Call.{textFault}
-use Rattle.demands.specs.Conditions.{Numbered, isDeep, isBad, isRead, isNoEvent, readFault, textConditions}
-use Rattle.demands.proofs.Lowest.{lowestOf, Rising}
+use Rattle.demands.specs.Conditions.{Numbered, Lowest, applies, isDeep, isRead, isJson, isUnpaired, isNoEvent, readFault, textConditions}
+use Rattle.demands.proofs.Lowest.{lowestOf, Rising, lowest-of}
 use Rattle.demands.proofs.FaultLaws.{isFault, event-fault}
 
 -- of two lists the first decides, where it has a number at all
@@ -46,13 +48,19 @@ module _ (s : List ℕ) where
   jsonConditions =
       record { number = 1; holds = ltb limit (length s) }
       ∷ record { number = 2; holds = isDeep (textAt s) }
-      ∷ record { number = 3; holds = isBad (textAt s) || not (isRead (pairsAt (length s) s 0)) }
+      ∷ record { number = 3; holds = not (isJson s) || isUnpaired s }
       ∷ record { number = 4; holds = faultAt levels s (spaceAt s 0) }
       ∷ []
 
+  -- a text that is not too deep is read with more levels as with 16
+  json-is : Stays (textAt s) (next (valueAt (levels + length s) s (spaceAt s 0)) (λ j. endAt s (spaceAt s j)))
+      → (textAt s ≡ Deep → ⊥) → isJson s ≡ isRead (textAt s)
+  unfolding isJson
+  json-is stays h = ap isRead (sym (stays h))
+
   json-lowest : lowestOf jsonConditions ≡ answerOf s
-  unfolding jsonConditions lowestOf answerOf readAnswer pairedAnswer
-  json-lowest = go (ltb limit (length s)) (textAt s)
+  unfolding jsonConditions lowestOf answerOf readAnswer pairedAnswer isUnpaired
+  json-lowest = go (ltb limit (length s)) (textAt s) (json-is (text-stays (levels + length s) (omega arith) s))
     where
       named : (t : Bool) → _≡_ {A = ℕ} (if t then 4 else 0) (choice.if_then_else_ t 4 0)
       named true = refl
@@ -63,13 +71,13 @@ module _ (s : List ℕ) where
       paired Bad = refl
       paired Deep = refl
 
-      go : (long : Bool) (r : Read)
-          → (if long then 1 else if isDeep r then 2 else if isBad r || not (isRead (pairsAt (length s) s 0)) then 3 else if faultAt levels s (spaceAt s 0) then 4 else 0)
+      go : (long : Bool) (r : Read) → ((r ≡ Deep → ⊥) → isJson s ≡ isRead r)
+          → (if long then 1 else if isDeep r then 2 else if not (isJson s) || not (isRead (pairsAt (length s) s 0)) then 3 else if faultAt levels s (spaceAt s 0) then 4 else 0)
           ≡ choice.if_then_else_ long 1 (readAnswer s r)
-      go true r = refl
-      go false (To i) = paired (pairsAt (length s) s 0)
-      go false Bad = refl
-      go false Deep = refl
+      go true r h = refl
+      go false (To i) h = rw (h (to-deep i)) (paired (pairsAt (length s) s 0))
+      go false Bad h = rw (h bad-deep)
+      go false Deep h = refl
 
   -- ---- 5 to 9
 
@@ -122,3 +130,15 @@ module _ (s : List ℕ) where
   pub text-rises : Rising 0 (textConditions s)
   unfolding textConditions
   text-rises = (omega arith, (omega arith, (omega arith, (omega arith, (omega arith, (omega arith, (omega arith, (omega arith, (omega arith, tt)))))))))
+
+  pub text-answer : Lowest (textConditions s) (textFault s)
+  text-answer = subst (Lowest (textConditions s)) text-lowest (lowest-of 0 (textConditions s) text-rises)
+
+  -- "An event is accepted when none of 1 to 9 applies to its text."
+  pub accepted-none : (textFault s ≡ 0) ↔ ((n : ℕ) → applies n (textConditions s) ≡ false)
+  accepted-none = (text-answer .done, none-applies)
+    where
+      none-applies : ((n : ℕ) → applies n (textConditions s) ≡ false) → textFault s ≡ 0
+      none-applies h =
+          by (eqb (textFault s) 0) (λ e. eqb-true (textFault s) 0 e)
+          (λ e. false-true (sym (h (textFault s)) ∙ text-answer .given (eqb-false (textFault s) 0 e)))

@@ -21,10 +21,10 @@ abbrev pub Stays : Read → Read → Type 0
 Stays a b = (a ≡ Deep → ⊥) → a ≡ b
 
 -- no reading is two
-to-deep : {P : Type 0} (k : ℕ) → To k ≡ Deep → P
+pub to-deep : {P : Type 0} (k : ℕ) → To k ≡ Deep → P
 to-deep k e = let z : _≡_ {A = ℕ} 0 1 = cc in absurd (omega arith)
 
-bad-deep : {P : Type 0} → Bad ≡ Deep → P
+pub bad-deep : {P : Type 0} → Bad ≡ Deep → P
 bad-deep e = let z : _≡_ {A = ℕ} 0 1 = cc in absurd (omega arith)
 
 same-stays : (a : Read) → Stays a a

@@ -27,7 +27,7 @@ unfolding since1600
 since-last (pos n) e = omega (arith, leb-true n 253370764800 e)
 since-last (negsuc n) e = omega (arith, subℕ-pos epoch (suc n))
 
-window-last : (from to : ℤ) → validWindow from to ≡ true → since1600 to ≤ 265046860800
+pub window-last : (from to : ℤ) → validWindow from to ≡ true → since1600 to ≤ 265046860800
 unfolding validWindow
 window-last from to valid = since-last to (right (leZ from to) _ (right (leZ (negℤ (pos 11644473600)) from) _ valid))
 
@@ -43,7 +43,7 @@ few-records e from to valid few = omega (arith, few-occurrences e (since1600 fro
 
 -- ---- of an accepted text
 
-accepted-event : (s : List ℕ) → textFault s ≡ 0 → eventFault s ≡ 0
+pub accepted-event : (s : List ℕ) → textFault s ≡ 0 → eventFault s ≡ 0
 unfolding textFault
 accepted-event s e = go (eqb (answerOf s) 0) refl e
   where

@@ -1,0 +1,63 @@
+-- The three demands hold: one value for all statements of specs/Promises.
+use mathlib.Core.List.{List}
+use mathlib.Core.Option.{Option}
+use Prim.Native.Nat.{ℕ}
+use Rattle.event.specs.Types.{Text, Details}
+use Rattle.event.specs.Event.{eventOf}
+use Rattle.table.specs.Occurrence.{detailsAt}
+use Rattle.table.specs.Call.{textOf, titleOf, descriptionOf}
+use Rattle.demands.specs.Promises.{TablePromises, TextPromises, Promises}
+use Rattle.demands.proofs.Lowest.{lowest-one}
+use Rattle.demands.proofs.TextAnswers.{accepted-none}
+use Rattle.demands.proofs.DemandOne.{table-answered, text-answered, part-answered}
+use Rattle.demands.proofs.DemandTwo.{table-listed}
+use Rattle.demands.proofs.OwnBytes.{OwnIn, title-own, description-own}
+use Rattle.demands.proofs.DemandTwoTexts.{text-told, part-told}
+use Rattle.demands.proofs.DemandThree.{private-same, secret-same, silent, silent-part, private-words, private-parts, fourteen}
+
+table-promises : TablePromises
+table-promises =
+    record {
+      answered = table-answered;
+      listed = λ zones s from to buffer accepted shown. table-listed zones s from to buffer accepted shown;
+      private =
+          λ s t h k agree zones from to buffer answer answer′ size size′ after after′.
+          private-same zones from to buffer answer answer′ size size′ after after′ s t h k agree;
+      secret =
+          λ s t h k zones from to buffer answer answer′ size size′ after after′.
+          secret-same zones from to buffer answer answer′ size size′ after after′ s t h k;
+    }
+
+-- of a text whose bytes are the caller's own
+text-promises : (which : Details → Option Text) → ((s : List ℕ) (x : ℕ) → OwnIn s (which (detailsAt (eventOf s) x))) → TextPromises (textOf which) which
+text-promises which owned =
+    record {
+      answered = λ s date. text-answered s date which;
+      answeredPart = λ s date. part-answered s date which;
+      told = λ s h date. text-told which s (owned s) date (h .setting) (h .accepted);
+      toldPart = λ s h date. part-told which s (owned s) date (h .setting) (h .accepted);
+      silent = silent which;
+      silentPart = silent-part which;
+      private = λ s t h k agree date answer answer′. private-words which s t h k agree date answer answer′;
+      privatePart = λ s t h k agree date answer answer′. private-parts which s t h k agree date answer answer′;
+      secret = λ s h date answer start size g. fourteen which s h date answer (g .answer-is);
+      secretPart = λ s h date answer part g. fourteen which s h date answer (g .answer-is);
+    }
+
+title-promises : TextPromises titleOf (λ d. d .title)
+unfolding titleOf
+title-promises = text-promises (λ d. d .title) title-own
+
+description-promises : TextPromises descriptionOf (λ d. d .description)
+unfolding descriptionOf
+description-promises = text-promises (λ d. d .description) description-own
+
+pub promises : Promises
+promises =
+    record {
+      oneAnswer = lowest-one;
+      accepted = accepted-none;
+      table = table-promises;
+      title = title-promises;
+      description = description-promises;
+    }

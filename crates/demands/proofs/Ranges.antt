@@ -1,0 +1,124 @@
+-- The numbers of a record fit into its 8 bytes: what is known of an accepted event, of its window and of its zone table.
+use Prim.Native.Nat.{ℕ, suc, _+_, _*_, _<_, _≤_, _^_}
+use mathlib.Core.Bool.{Bool, true, false}
+use mathlib.Core.List.{List, [], _∷_}
+use mathlib.Core.Option.{Option, none, some}
+use mathlib.Core.Path.{_≡_, refl}
+use native.Mathlib.Omega.{arith}
+use lib.Dec.{eqb}
+use lib.IntN.{ℤ, pos, natAbs, subℕ, _+ℤ_}
+use lib.ListN.{length, getD}
+use mir.Syntax.{w64}
+use mir.Val.{SFits}
+use Rattle.signed.specs.Choose.{if_then_else_}
+use Rattle.signed.proofs.Parts.{parts-abs, subℕ-pos, subℕ-neg}
+use Rattle.fault.proofs.Laws.{lower-zero}
+use Rattle.zone.specs.Table.{validTable}
+use Rattle.zone.proofs.RangeLaws.{abs-fits, sum-abs}
+use Rattle.zone.proofs.LookupLaws.{utc-abs}
+use Rattle.json_tree.specs.Tree.{Json, Fields, textTree}
+use Rattle.event.specs.Types.{Length, Details, Override, Event}
+use Rattle.event.specs.Values.{object}
+use Rattle.event.specs.Reading.{orWrong, optional}
+use Rattle.event.specs.Properties.{noLength, readLength}
+use Rattle.event.specs.Overrides.{readOverrides}
+use Rattle.event.specs.Event.{detailsIn, noEvent, nothing, eventIn, objectFault, eventFault, eventOf}
+use Rattle.property.proofs.Ranges.{Short, length-range}
+use Rattle.override_text.proofs.RangeLaws.{InRange, read-range}
+use Rattle.table.specs.Window.{epoch, since1970}
+use Rattle.table.specs.Occurrence.{overrideAt, withStart, patchedBy, detailsAt}
+use Rattle.table.specs.Bytes.{ZoneTable, utcOf, secondsIn}
+use Rattle.table.specs.Call.{textFault}
+use Rattle.table.proofs.Few.{accepted-event}
+
+-- ---- an accepted event
+
+record Known (e : Event) : Type 0 where
+  short : Short (e .details .length)
+  ranged : (k : ℕ) → k < length (e .overrides) → (d : Override) → InRange (getD (e .overrides) k d)
+
+short-length : (o : Option Json) → Short (optional noLength readLength o .value)
+unfolding optional
+short-length none = omega arith
+short-length (some v) = length-range v
+
+overrides-ranged : (own : Details) → Short (own .length) → (o : Option Json) → optional [] (readOverrides own) o .fault ≡ 0 → (k : ℕ)
+    → k < length (optional [] (readOverrides own) o .value) → (d : Override) → InRange (getD (optional [] (readOverrides own) o .value) k d)
+unfolding optional
+overrides-ranged own short none e k h d = absurd (omega arith)
+overrides-ranged own short (some v) e k h d = read-range own short v e k h d
+
+event-known : (fields : Fields) → eventIn fields .fault ≡ 0 → Known (eventIn fields .value)
+unfolding eventIn detailsIn
+event-known fields e =
+    let details = lower-zero _ _ (lower-zero _ _ (lower-zero _ _ (lower-zero _ _ e .1) .1) .1) .1 in
+    let overrides = lower-zero _ _ (lower-zero _ _ (lower-zero _ _ details .1) .1) .1 in
+    let short = short-length _ in
+    record { short = short; ranged = overrides-ranged _ short _ (lower-zero _ _ overrides .0) }
+
+object-known : (o : Option Fields) → objectFault o ≡ 0 → Known (orWrong nothing eventIn o .value)
+unfolding objectFault orWrong
+object-known none e = absurd (omega (arith, e))
+object-known (some fields) e = go (noEvent fields) e
+  where
+    go : (c : Bool) → (if c then 5 else eventIn fields .fault) ≡ 0 → Known (eventIn fields .value)
+    go true p = absurd (omega (arith, p))
+    go false p = event-known fields p
+
+known : (s : List ℕ) → textFault s ≡ 0 → Known (eventOf s)
+unfolding eventFault eventOf
+known s h = object-known (object (textTree s)) (accepted-event s h)
+
+-- ---- an occurrence of it
+
+record Small (d : Details) : Type 0 where
+  start : d .start < 2 ^ 60
+  short : Short (d .length)
+
+module _ (own : Details) (short : Short (own .length)) (x : ℕ) (h : x < 2 ^ 60) where
+  patched-small : (os : List Override) → ((k : ℕ) → k < length os → (d : Override) → InRange (getD os k d)) → Small (patchedBy own x (overrideAt os x))
+  unfolding overrideAt patchedBy withStart
+  patched-small [] range = record { start = h; short = short }
+  patched-small (o ∷ os) range = go (patched-small os (λ k p d. range (suc k) (omega arith) d)) (eqb (o .id) x)
+    where
+      go : Small (patchedBy own x (overrideAt os x)) → (c : Bool) → Small (patchedBy own x (if c then some o else overrideAt os x))
+      go rest true = let r = range 0 (omega arith) o in record { start = omega (arith, r .start .to); short = r .short }
+      go rest false = rest
+
+details-small : (s : List ℕ) → textFault s ≡ 0 → (x : ℕ) → x < 2 ^ 60 → Small (detailsAt (eventOf s) x)
+unfolding detailsAt
+details-small s a x h = let k = known s a in patched-small (eventOf s .details) (k .short) x h (eventOf s .overrides) (k .ranged)
+
+-- ---- its numbers
+
+local-abs : (x : ℕ) → x < 2 ^ 60 → natAbs (since1970 x) ≤ 2 ^ 61
+unfolding since1970
+local-abs x h = parts-abs (subℕ x epoch) (2 ^ 61) (omega (arith, subℕ-pos x epoch)) (omega (arith, subℕ-neg x epoch))
+
+pub id-fits : (x : ℕ) → x < 2 ^ 60 → SFits w64 (since1970 x)
+id-fits x h = abs-fits (since1970 x) (omega (arith, local-abs x h))
+
+module _ (zones : ZoneTable) (valid : validTable (zones .initial) (zones .instants) (zones .offsets) ≡ true) where
+  of-abs : (zone : Option (List ℕ)) (t : ℤ) → natAbs (utcOf zones zone t) ≤ natAbs t + 86399
+  unfolding utcOf
+  of-abs none t = omega arith
+  of-abs (some name) t = utc-abs (zones .initial) (zones .instants) (zones .offsets) valid t
+
+  module _ (s : List ℕ) (accepted : textFault s ≡ 0) (zone : Option (List ℕ)) (x : ℕ) (h : x < 2 ^ 60) where
+    pub start-fits : SFits w64 (utcOf zones zone (since1970 (detailsAt (eventOf s) x .start)))
+    start-fits =
+        let small = details-small s accepted x h in
+        abs-fits _ (omega (arith, of-abs zone (since1970 (detailsAt (eventOf s) x .start)), local-abs (detailsAt (eventOf s) x .start) (small .start)))
+
+    pub end-fits : SFits w64 (utcOf zones zone (since1970 (detailsAt (eventOf s) x .start)) +ℤ pos (secondsIn (detailsAt (eventOf s) x .length)))
+    unfolding secondsIn
+    end-fits =
+        let small = details-small s accepted x h in
+        let start = utcOf zones zone (since1970 (detailsAt (eventOf s) x .start)) in
+        let n = 86400 * detailsAt (eventOf s) x .length .days + detailsAt (eventOf s) x .length .seconds in
+        abs-fits _
+        (omega
+        (arith,
+        sum-abs start (pos n) (366 * 86400) (small .short),
+        of-abs zone (since1970 (detailsAt (eventOf s) x .start)),
+        local-abs (detailsAt (eventOf s) x .start) (small .start)))
