@@ -11,7 +11,7 @@ use borrow.Author.Tests.{ltb-false}
 use Rattle.signed.specs.Choose.{if_then_else_}
 use Rattle.fault.proofs.Laws.{lower-zero}
 use Rattle.json_tree.specs.Tree.{Json, Fields, textTree}
-use Rattle.event.specs.Types.{Details, Override}
+use Rattle.event.specs.Types.{Details}
 use Rattle.event.specs.Values.{object}
 use Rattle.event.specs.Reading.{orWrong, optional, atMost, limited}
 use Rattle.event.specs.Overrides.{overridesIn, readOverrides}

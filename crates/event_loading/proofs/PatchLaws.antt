@@ -18,7 +18,8 @@ use Rattle.event.specs.Reading.{optional}
 use Rattle.event.specs.Types.{Details, Override}
 use Rattle.override_text.specs.Patched.{patchAt}
 use Rattle.override_text.proofs.ListLaws.{places-many, override-at}
-use Rattle.override_text.proofs.RangeLaws.{InRange, read-range, read-most}
+use Rattle.override_text.proofs.RangeLaws.{InRange, read-range}
+use Rattle.event.proofs.Limits.{read-most}
 use Rattle.rule_text.proofs.CollectLaws.{take-sets}
 use Rattle.event_text.specs.Front.{inner}
 use Rattle.table.specs.Occurrence.{overrideAt, withStart, patchedBy}

@@ -1,19 +1,18 @@
--- What is known of overrides that have no fault: date-times of the years 1601 to 9998, lengths of at most 366 days, and at most 256 of them.
+-- What is known of overrides that have no fault: date-times of the years 1601 to 9998, lengths of at most 366 days. There are at most 256 of them
+-- (`event` proofs/Limits `read-most`).
 use Prim.Native.Nat.{ℕ, zero, suc, _*_, _≤_, _<_}
 use mathlib.Core.Bool.{Bool, true, false}
 use mathlib.Core.List.{List, [], map}
 use mathlib.Core.Option.{Option, none, some}
-use mathlib.Core.Path.{_≡_, refl, ap, _∙_}
+use mathlib.Core.Path.{_≡_, ap, _∙_}
 use native.Mathlib.Omega.{arith}
-use borrow.Author.Tests.{ltb-false}
-use lib.Dec.{ltb}
 use lib.ListN.{length, getD, take, length-map}
 use lib.Seq.{sets, take-all}
 use Rattle.signed.specs.Choose.{if_then_else_}
 use Rattle.json_tree.specs.Tree.{Json, Fields, noField, field}
 use Rattle.event.specs.Types.{Length, Details, Override}
 use Rattle.event.specs.Values.{isNull, object}
-use Rattle.event.specs.Reading.{right, orWrong, limited, atMost}
+use Rattle.event.specs.Reading.{right, orWrong, limited}
 use Rattle.event.specs.Properties.{noLength, dateTime, readLength}
 use Rattle.event.specs.Overrides.{patched, patchedStart, patchIn, overrideOf, overridesIn, readOverrides}
 use Rattle.fault.proofs.Laws.{lower-zero}
@@ -83,25 +82,7 @@ module _ (own : Details) (h : Short (own .length)) where
       go none e k p d = absurd (omega (arith, e))
       go (some fields) e k p d = overrides-range fields (lower-zero _ _ e .0) k p d
 
--- ---- at most 256
-
-at-most : (n : ℕ) → _≡_ {A = ℕ} (if ltb 256 n then 9 else 0) 0 → n ≤ 256
-at-most n e = go (ltb 256 n) refl e
-  where
-    go : (c : Bool) → ltb 256 n ≡ c → _≡_ {A = ℕ} (if c then 9 else 0) 0 → n ≤ 256
-    go true p q = absurd (omega (arith, q))
-    go false p q = ltb-false 256 n p
-
-pub read-most : (own : Details) (v : Json) → readOverrides own v .fault ≡ 0 → length (readOverrides own v .value) ≤ 256
-unfolding readOverrides limited orWrong atMost
-read-most own v = go (object v)
-  where
-    go : (o : Option Fields) → orWrong [] (λ (fields : Fields). limited 256 (overridesIn own fields)) o .fault ≡ 0
-        → length (orWrong [] (λ (fields : Fields). limited 256 (overridesIn own fields)) o .value) ≤ 256
-    go none e = absurd (omega (arith, e))
-    go (some fields) e = at-most _ (lower-zero _ _ e .1)
-
--- so the lists in the slices are those of all overrides
+-- ---- at most 256, so the lists in the slices are those of all overrides
 stored : {A : Type 0} (was vs : List A) (n : ℕ) → length vs ≡ n → n ≤ 256 → sets was 0 (take 256 vs) ≡ sets was 0 vs
 stored {A} was vs n e h = ap (λ (l : List A). sets was 0 l) (take-all 256 vs (omega (arith, e, h)))
 

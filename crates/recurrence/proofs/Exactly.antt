@@ -1,6 +1,6 @@
 -- Demand 2 about the definitions: the ids of a window strictly increase, and a date-time is among them exactly when it lies in the
 -- window and in the set.
-use Prim.Native.Nat.{ℕ, zero, suc, _+_, _-_, _≤_}
+use Prim.Native.Nat.{ℕ, zero, suc, _+_, _-_}
 use mathlib.Core.Bool.{Bool, true, not, and-comm, _&&_, _||_}
 use mathlib.Core.Logic.{_↔_, inl, inr, ⊎-elim}
 use mathlib.Core.Path.{_≡_, refl, sym, _∙_}

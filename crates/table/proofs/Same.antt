@@ -1,17 +1,17 @@
 -- Events that agree have the same occurrences, with the same times.
 use Prim.Native.Nat.{ℕ, _-_}
 use mathlib.Core.Bool.{Bool, true, false, not, _&&_, _||_}
-use mathlib.Core.List.{List, [], _∷_, _++_, map}
-use mathlib.Core.Option.{Option, none, some}
-use mathlib.Core.Path.{_≡_, refl, sym, ap, ap₂, _∙_}
-use lib.Dec.{eqb, leb, ltb}
+use mathlib.Core.List.{List, [], _∷_, map}
+use mathlib.Core.Option.{none, some}
+use mathlib.Core.Path.{_≡_, refl, sym, ap, _∙_}
+use lib.Dec.{eqb}
 use Rattle.signed.specs.Choose.{if_then_else_}
 use Rattle.signed.proofs.Parts.{true-false, false-true}
 use Rattle.rule.specs.Lists.{any}
 use Rattle.recurrence.specs.Event as recurrence
-use Rattle.recurrence.specs.Event.{overrideExcludes, overrideNames, isStart, someGives, ruleGives, excludedRuleGives, inSet}
+use Rattle.recurrence.specs.Event.{overrideExcludes, overrideNames, isStart, ruleGives, excludedRuleGives, inSet}
 use Rattle.recurrence.specs.Ids.{secondsFrom, keep, ids}
-use Rattle.event.specs.Types.{Length, Details, Override, Event}
+use Rattle.event.specs.Types.{Details, Override, Event}
 use Rattle.table.specs.Occurrence.{datesOf, isOccurrence, occurrences, overrideAt, withStart, patchedBy, detailsAt}
 use Rattle.table.specs.Agree.{Times, timesOf, Agree}
 
