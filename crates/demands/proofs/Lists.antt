@@ -21,11 +21,11 @@ pub record StandsAt (l : List ℕ) (x : ℕ) : Type 0 where
 pub among-stands : (l : List ℕ) (x : ℕ) → among x l ≡ true → StandsAt l x
 unfolding among any
 among-stands [] x e = false-true e
-among-stands (y ∷ l) x e = by (eqb y x) refl e
+among-stands (y ∷ l) x e = by (eqb y x) refl e (λ q. among-stands l x q)
   where
-    by : (t : Bool) → eqb y x ≡ t → (t || any (λ (z : ℕ). eqb z x) l) ≡ true → StandsAt (y ∷ l) x
-    by true p q = record { place = 0; below = omega arith; is = eqb-true y x p }
-    by false p q = let r = among-stands l x q in record { place = suc (r .place); below = omega (arith, r .below); is = r .is }
+    by : (t : Bool) → eqb y x ≡ t → (t || any (λ (z : ℕ). eqb z x) l) ≡ true → (any (λ (z : ℕ). eqb z x) l ≡ true → StandsAt l x) → StandsAt (y ∷ l) x
+    by true p q later = record { place = 0; below = omega arith; is = eqb-true y x p }
+    by false p q later = let r = later q in record { place = suc (r .place); below = omega (arith, r .below); is = r .is }
 
 pub at-among : (l : List ℕ) (k : ℕ) → k < length l → among (getD l k 0) l ≡ true
 unfolding among any

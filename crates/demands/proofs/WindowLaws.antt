@@ -1,5 +1,5 @@
 -- Local seconds from 1970, as the sheet has them, and from 1600, as the definitions count them, in a valid window.
-use Prim.Native.Nat.{ℕ, _+_, _<_, _≤_, _^_}
+use Prim.Native.Nat.{ℕ, _+_, _-_, _<_, _≤_}
 use mathlib.Core.Bool.{true}
 use mathlib.Core.Path.{_≡_, ap}
 use native.Mathlib.Omega.{arith}
@@ -33,14 +33,18 @@ earlier x y h = parts-lt (subℕ x epoch) (subℕ y epoch) (omega (arith, subℕ
 
 -- ---- a valid window
 
+first-low : (t : ℤ) → leZ (negℤ (pos 11644473600)) t ≡ true → negPart t ≤ 11644473600
+first-low (pos n) e = omega arith
+first-low (negsuc n) e = omega (arith, le-parts (negℤ (pos 11644473600)) (negsuc n) e)
+
 module _ (from to : ℤ) (valid : validWindow from to ≡ true) where
   from-low : negPart from ≤ 11644473600
   unfolding validWindow
-  from-low = omega (arith, le-parts (negℤ (pos 11644473600)) from (left _ _ valid))
+  from-low = first-low from (left (leZ (negℤ (pos 11644473600)) from) _ valid)
 
   in-order : posPart from + negPart to ≤ posPart to + negPart from
   unfolding validWindow
-  in-order = le-parts from to (left _ _ (right _ _ valid))
+  in-order = le-parts from to (left (leZ from to) (leZ to (pos 253370764800)) (right (leZ (negℤ (pos 11644473600)) from) _ valid))
 
   to-low : negPart to ≤ epoch
   to-low = low from to from-low in-order

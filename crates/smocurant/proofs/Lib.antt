@@ -1,3 +1,2 @@
 pub mod ArrayLent
 pub mod EntryLaws
-pub mod PartLaws
