@@ -11,7 +11,7 @@ use Rattle.gregorian.specs.Days.{dayCount}
 use Rattle.rule.specs.declared.Day.{Day}
 use Rattle.rule.specs.Day.{dayAt}
 use Rattle.rule.specs.Gives.{endDay}
-use Rattle.rule.proofs.DayLaws.{InCalendar}
+use Rattle.rule.specs.Inner.Bounds.{InCalendar}
 use Rattle.matcher.specs.declared.Terms.{Terms}
 use Rattle.matcher.specs.Flags.{monthBy}
 use Rattle.matcher.specs.Walk.{Asked, stepBy, picksOnBy}

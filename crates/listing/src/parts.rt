@@ -5,7 +5,7 @@ ghost use Rattle.matcher.specs.Walk.{Asked};
 ghost use Rattle.months.specs.Rows.{Kept};
 ghost use Rattle.track.specs.Alike.{firstWeekday};
 ghost use Rattle.track.specs.Plain.{InMonth};
-ghost use Rattle.rule.proofs.DayLaws.{InCalendar};
+ghost use Rattle.rule.specs.Inner.Bounds.{InCalendar};
 ghost use Rattle.matcher.specs.Walk.{picksOnBy};
 ghost use Rattle.listing.specs.Lists.{Listed};
 ghost use Rattle.listing.specs.Parts.{ByMonths, Chosen, Kinds, Room, ListedPart};

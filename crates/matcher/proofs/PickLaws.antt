@@ -18,9 +18,10 @@ use Rattle.rule.specs.Lists.{any, meets, absent, countIn}
 use Rattle.rule.specs.Period.{periodOf, sinceFirst, daysOf, inStep}
 use Rattle.rule.specs.Stays.{countsInYear, stays, staysOn, isPlace, picked}
 use Rattle.rule.specs.Gives.{endDay}
+use Rattle.rule.specs.Inner.Bounds.{InCalendar}
 use Rattle.rule.proofs.Bools.{by}
 use Rattle.rule.proofs.Counting.{count-same}
-use Rattle.rule.proofs.DayLaws.{InCalendar, day-facts}
+use Rattle.rule.proofs.DayLaws.{day-facts}
 use Rattle.rule.proofs.PeriodLaws.{day-number}
 use Rattle.matcher.specs.declared.Terms.{Terms}
 use Rattle.matcher.specs.Flags.{Places, named, staysBy}

@@ -15,8 +15,9 @@ use Rattle.rule.specs.Day.{onDate, dayAt}
 use Rattle.rule.specs.Lists.{countIn}
 use Rattle.rule.specs.Period.{periodOf, sinceFirst, daysOf}
 use Rattle.rule.specs.Gives.{endDay}
+use Rattle.rule.specs.Inner.Bounds.{InCalendar}
 use Rattle.rule.proofs.Counting.{count-more, count-less, count-none, count-most, count-place}
-use Rattle.rule.proofs.DayLaws.{InCalendar, day-facts, of-day}
+use Rattle.rule.proofs.DayLaws.{day-facts, of-day}
 use Rattle.rule.proofs.PeriodLaws.{day-number, since-in, days-most, period-within}
 use Rattle.matcher.specs.declared.Terms.{Terms}
 use Rattle.matcher.specs.Flags.{Places, named, staysBy}

@@ -3,7 +3,7 @@ ghost use mathlib.Core.Path.{_≡_};
 ghost use Prim.Native.Nat.{_+_, _-_, _<_, _≤_};
 ghost use lib.ListN.{length};
 ghost use Rattle.matcher.specs.Flags.{Row, Places, named, nthBy, monthBy, dateBy, dayBy, staysBy};
-ghost use Rattle.rule.proofs.DayLaws.{InCalendar};
+ghost use Rattle.rule.specs.Inner.Bounds.{InCalendar};
 use rule::Day;
 
 // A place of `count` places, from 1: by its own number or by its number from the end.

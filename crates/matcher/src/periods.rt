@@ -3,7 +3,7 @@ ghost use mathlib.Core.Path.{_≡_};
 ghost use Prim.Native.Nat.{_<_};
 ghost use Rattle.gregorian.specs.Days.{dayCount};
 ghost use Rattle.rule.specs.Period.{periodOf, sinceFirst, daysOf};
-ghost use Rattle.rule.proofs.DayLaws.{InCalendar};
+ghost use Rattle.rule.specs.Inner.Bounds.{InCalendar};
 use rule::Day;
 use rule::Frequency;
 

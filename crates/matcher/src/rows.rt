@@ -6,7 +6,7 @@ ghost use lib.Dec.{eqb};
 ghost use Rattle.gregorian.specs.Days.{dayCount};
 ghost use Rattle.rule.specs.Implied.{daysFrom, monthDaysFrom, monthsFrom};
 ghost use Rattle.rule.specs.Read.{written, Sized};
-ghost use Rattle.rule.proofs.DayLaws.{InCalendar};
+ghost use Rattle.rule.specs.Inner.Bounds.{InCalendar};
 ghost use Rattle.matcher.specs.Flags.{Row};
 ghost use Rattle.matcher.specs.Marks.{markMonths, markDates, markWeekdays, markPlaces, markRow};
 ghost use Rattle.matcher.specs.Rows.{impliesDay, impliesDate, impliesMonth, yearly, Termed};

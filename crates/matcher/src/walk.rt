@@ -5,7 +5,7 @@ ghost use lib.ListN.{length};
 ghost use Rattle.gregorian.specs.Days.{dayCount};
 ghost use Rattle.rule.specs.Day.{dayAt};
 ghost use Rattle.rule.specs.Lists.{countIn};
-ghost use Rattle.rule.proofs.DayLaws.{InCalendar};
+ghost use Rattle.rule.specs.Inner.Bounds.{InCalendar};
 ghost use Rattle.matcher.specs.Flags.{Row};
 ghost use Rattle.matcher.specs.Walk.{staysOnBy, stepBy};
 use super::Terms;

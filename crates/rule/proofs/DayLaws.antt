@@ -18,20 +18,8 @@ use Rattle.gregorian.proofs.RoundTrips.{date-parts, day-date-day, date-day-date
 use Rattle.rule.specs.declared.Day.{Day}
 use Rattle.rule.specs.Day.{onDate, dayAt}
 use Rattle.rule.specs.Gives.{endDay}
+use Rattle.rule.specs.Inner.Bounds.{InCalendar}
 use Rattle.rule.proofs.Bools.{by}
-
--- the parts of a day, within their bounds
-pub record InCalendar (x : Day) : Type 0 where
-  pub weekday : x .weekday < 7
-  pub year-low : 1600 ≤ x .year
-  pub year-high : x .year ≤ 9999
-  pub yearday : x .yearday < x .yeardays
-  pub yeardays : x .yeardays ≤ 366
-  pub month-low : 1 ≤ x .month
-  pub month-high : x .month ≤ 12
-  pub monthday-low : 1 ≤ x .monthday
-  pub monthday-high : x .monthday ≤ x .monthdays
-  pub monthdays : x .monthdays ≤ 31
 
 no-month : (y : ℕ) → monthLength y 0 ≡ 0
 unfolding monthLength lengthIn

@@ -9,7 +9,8 @@ use Rattle.rule.specs.declared.Day.{Day}
 use Rattle.rule.specs.Day.{onDate, dayAt}
 use Rattle.rule.specs.Gives.{endDay}
 use Rattle.rule.specs.Period.{periodOf, sinceFirst, daysOf}
-use Rattle.rule.proofs.DayLaws.{InCalendar, day-facts, year-within}
+use Rattle.rule.specs.Inner.Bounds.{InCalendar}
+use Rattle.rule.proofs.DayLaws.{day-facts, year-within}
 
 pub day-number : (n : ℕ) → dayAt n .number ≡ n
 unfolding dayAt onDate

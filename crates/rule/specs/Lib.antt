@@ -6,3 +6,4 @@ pub mod Implied
 pub mod Stays
 pub mod Gives
 pub mod Read
+pub mod Inner

@@ -19,8 +19,8 @@ use Rattle.rule.specs.declared.Day.{Day}
 use Rattle.rule.specs.Day.{onDate, dayAt}
 use Rattle.rule.specs.Lists.{countIn}
 use Rattle.rule.specs.Period.{periodOf, sinceFirst, daysOf}
+use Rattle.rule.specs.Inner.Bounds.{InCalendar}
 use Rattle.rule.proofs.Bools.{by}
-use Rattle.rule.proofs.DayLaws.{InCalendar}
 use Rattle.matcher.specs.declared.Terms.{Terms}
 use Rattle.matcher.specs.Flags.{named, nthBy, monthBy, dateBy, dayBy, staysBy}
 use Rattle.matcher.specs.Walk.{Asked, staysOnBy, stepBy, placedBy, picksBy, picksOnBy}

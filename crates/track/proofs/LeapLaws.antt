@@ -16,8 +16,9 @@ use Rattle.gregorian.proofs.DayLaws.{Parts, is-date}
 use Rattle.gregorian.proofs.RoundTrips.{date-parts, day-date-day, date-day-date}
 use Rattle.rule.specs.declared.Day.{Day}
 use Rattle.rule.specs.Day.{onDate, dayAt}
+use Rattle.rule.specs.Inner.Bounds.{InCalendar}
 use Rattle.rule.proofs.Bools.{by}
-use Rattle.rule.proofs.DayLaws.{InCalendar, january, january-length, year-start-of}
+use Rattle.rule.proofs.DayLaws.{january, january-length, year-start-of}
 use Rattle.track.proofs.SpanLaws.{year-length-of}
 use Rattle.matcher.proofs.WalkLaws.{in-calendar}
 

@@ -14,8 +14,9 @@ use Rattle.gregorian.specs.Days.{dayCount, weekdayOf}
 use Rattle.rule.specs.declared.Day.{Day}
 use Rattle.rule.specs.Day.{onDate, dayAt}
 use Rattle.rule.specs.Gives.{endDay}
+use Rattle.rule.specs.Inner.Bounds.{InCalendar}
 use Rattle.rule.proofs.Bools.{by}
-use Rattle.rule.proofs.DayLaws.{InCalendar, day-facts, step-month, step-year, step-next-year, year-within}
+use Rattle.rule.proofs.DayLaws.{day-facts, step-month, step-year, step-next-year, year-within}
 use Rattle.rule.proofs.PeriodLaws.{day-number}
 use Rattle.matcher.specs.Flags.{monthBy, dateBy, dayBy, nthBy, staysBy}
 use Rattle.track.specs.Years.{NewYear}

@@ -16,10 +16,11 @@ use Rattle.rule.specs.Day.{dayAt}
 use Rattle.rule.specs.Lists.{countIn}
 use Rattle.rule.specs.Period.{sinceFirst, daysOf}
 use Rattle.rule.specs.Gives.{endDay}
+use Rattle.rule.specs.Inner.Bounds.{InCalendar}
 use Rattle.rule.proofs.Bools.{by}
 use Rattle.rule.proofs.Counting.{count-more, count-less, count-none, count-split, count-most}
 use Rattle.rule.proofs.PeriodLaws.{day-number}
-use Rattle.rule.proofs.DayLaws.{InCalendar, of-day, step-month, step-year, step-next-year}
+use Rattle.rule.proofs.DayLaws.{of-day, step-month, step-year, step-next-year}
 use Rattle.matcher.specs.declared.Terms.{Terms}
 use Rattle.matcher.specs.Flags.{Places, named, staysBy}
 use Rattle.matcher.specs.Walk.{Asked, staysOnBy, stepBy, placedBy, picksBy, picksOnBy}

@@ -15,8 +15,9 @@ use Rattle.rule.specs.declared.Day.{Day}
 use Rattle.rule.specs.Day.{onDate, dayAt}
 use Rattle.rule.specs.Period.{periodOf, sinceFirst, daysOf}
 use Rattle.rule.specs.Gives.{endDay}
+use Rattle.rule.specs.Inner.Bounds.{InCalendar}
 use Rattle.rule.proofs.Bools.{by}
-use Rattle.rule.proofs.DayLaws.{InCalendar, step-month, step-year, step-next-year}
+use Rattle.rule.proofs.DayLaws.{step-month, step-year, step-next-year}
 use Rattle.rule.proofs.PeriodLaws.{day-number}
 use Rattle.matcher.specs.Flags.{monthBy, dateBy, dayBy, nthBy, staysBy}
 use Rattle.matcher.proofs.WalkLaws.{in-calendar}

@@ -24,9 +24,10 @@ use Rattle.rule.specs.Lists.{countIn, notAfter}
 use Rattle.rule.specs.Period.{periodOf}
 use Rattle.rule.specs.Read.{untilFrom}
 use Rattle.rule.specs.Gives.{endDay, onDay}
+use Rattle.rule.specs.Inner.Bounds.{InCalendar}
 use Rattle.rule.proofs.Bools.{by}
 use Rattle.rule.proofs.Counting.{count-nothing, count-most}
-use Rattle.rule.proofs.DayLaws.{InCalendar, day-facts, year-start-of}
+use Rattle.rule.proofs.DayLaws.{day-facts, year-start-of}
 use Rattle.rule.proofs.PeriodLaws.{day-number}
 use Rattle.matcher.specs.declared.Terms.{Terms}
 use Rattle.matcher.specs.Walk.{stepBy, picksOnBy}
