@@ -10,7 +10,6 @@ use lib.Dec.{eqb, leb, ltb}
 use lib.ListN.{length}
 use borrow.Author.Tests.{eqb-true, eqb-false, ne-eqb, leb-true}
 use Rattle.signed.specs.Choose.{if_then_else_}
-use Rattle.json_text.specs.Choice as choice
 use Rattle.json_text.specs.Bytes.{spaceAt}
 use Rattle.json_text.specs.declared.Read.{Read}
 use Rattle.json_text.specs.declared.Read.the-variants.{To, Bad, Deep}
@@ -54,18 +53,14 @@ module _ (s : List ℕ) where
   unfolding jsonConditions lowestOf answerOf readAnswer pairedAnswer
   json-lowest = go (ltb limit (length s)) (textAt s)
     where
-      named : (t : Bool) → _≡_ {A = ℕ} (if t then 4 else 0) (choice.if_then_else_ t 4 0)
-      named true = refl
-      named false = refl
-
       paired : (p : Read) → (if not (isRead p) then 3 else (if faultAt levels s (spaceAt s 0) then 4 else 0)) ≡ pairedAnswer s p
-      paired (To i) = named (faultAt levels s (spaceAt s 0))
+      paired (To i) = refl
       paired Bad = refl
       paired Deep = refl
 
       go : (long : Bool) (r : Read)
           → (if long then 1 else if isDeep r then 2 else if isBad r || not (isRead (pairsAt (length s) s 0)) then 3 else if faultAt levels s (spaceAt s 0) then 4 else 0)
-          ≡ choice.if_then_else_ long 1 (readAnswer s r)
+          ≡ (if long then 1 else readAnswer s r)
       go true r = refl
       go false (To i) = paired (pairsAt (length s) s 0)
       go false Bad = refl

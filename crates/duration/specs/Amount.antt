@@ -3,7 +3,7 @@ use Prim.Native.Nat.{ℕ, _+_, _*_, _≤_}
 use mathlib.Core.List.{List, [], _∷_}
 use mathlib.Core.Path.{_≡_}
 use lib.Dec.{eqb, ltb}
-use Rattle.json_text.specs.Choice.{if_then_else_}
+use Rattle.signed.specs.Choose.{if_then_else_}
 use Rattle.json_text.specs.Bytes.{isDigit}
 use Rattle.digits.specs.Digits.{digit}
 use Rattle.duration_grammar.specs.Letter.{upper}

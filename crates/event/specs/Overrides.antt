@@ -8,7 +8,7 @@ use Rattle.signed.specs.Choose.{if_then_else_}
 use Rattle.fault.specs.Fault.{lower}
 use Rattle.json_walk.specs.Strings.{same}
 use Rattle.json_tree.specs.Tree.{Json, Fields, noField, field}
-use Rattle.event.specs.Ascii.{ascii}
+use Rattle.json_text.specs.Ascii.{ascii}
 use Rattle.event.specs.Values.{isNull, object, member}
 use Rattle.event.specs.Types.{Text, Details, Override}
 use Rattle.event.specs.Reading.{Reading, right, wrong, orWrong, limited}

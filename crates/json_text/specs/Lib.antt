@@ -1,4 +1,4 @@
-pub mod Choice
+pub mod Ascii
 pub mod Bytes
 pub mod Utf8
 pub mod Strings

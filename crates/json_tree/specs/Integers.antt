@@ -5,7 +5,7 @@ use mathlib.Core.Bool.{Bool, true, false}
 use mathlib.Core.List.{List, [], _∷_}
 use lib.Dec.{eqb, leb}
 use lib.ListN.{drop}
-use Rattle.json_text.specs.Choice.{if_then_else_}
+use Rattle.signed.specs.Choose.{if_then_else_}
 use Rattle.json_text.specs.Bytes.{byte, isDigit, digitsAt}
 use Rattle.json_tree.specs.declared.Integer.{Integer}
 use Rattle.json_tree.specs.declared.Integer.the-variants.{Is, No}

@@ -8,7 +8,7 @@ use lib.Dec.{T, eqb, eqb→eq, ltb, leb→le}
 use lib.ListN.{length, getD}
 use borrow.Author.Tests.{eq-eqb, eqb-true}
 use Rattle.gregorian.proofs.Computed.{all-below}
-use Rattle.json_text.specs.Choice.{if_then_else_}
+use Rattle.signed.specs.Choose.{if_then_else_}
 use Rattle.json_text.specs.Bytes.{byte}
 use Rattle.json_walk.proofs.Laws.{bytes-ahead, length-bytes}
 use Rattle.json_walk.specs.Strings.{bytesAt, rawAt, same, ahead, within}

@@ -4,7 +4,7 @@ use mathlib.Core.List.{List}
 use mathlib.Core.Path.{_≡_}
 use lib.Dec.{eqb}
 use lib.ListN.{length, getD, set}
-use Rattle.json_text.specs.Choice.{if_then_else_}
+use Rattle.signed.specs.Choose.{if_then_else_}
 use Rattle.json_walk.specs.Walk.{membersOf}
 use Rattle.json_tree.specs.Finds.{findIn}
 use Rattle.json_tree.specs.declared.Found.{Found}
