@@ -8,7 +8,7 @@ use Rattle.json_text.specs.Bytes.{run, past, isSpace, isDigit, spaceAt, digitsA
 use Rattle.json_text.specs.Numbers.{someDigitsAt, intAt, fracAt, powerAt, expAt, unsignedAt, numberAt}
 use Rattle.json_text.specs.Strings.{isHex, hexAt, isEscaped, escapeAt, charAt, charsAt, stringAt}
 use Rattle.json_text.specs.Utf8.{isTail, tailsAt, secondAt, multiAt}
-use Rattle.json_text.specs.Words.{fourAt, scalarAt}
+use Rattle.json_text.specs.Words.{wordAt, scalarAt}
 use Rattle.json_value.specs.Values.{afterAt, firstAt, colonAt, nameAt, elementsAt, membersAt, arrayOf, objectOf, valueOf, valueAt, arrayAt, objectAt, endAt, textAt}
 use Rattle.json_walk.specs.Strings.{bytesAt, rawAt, same, slashed, ahead}
 use Rattle.json_walk.specs.Walk.{memberAt, firstMemberAt, nextMemberAt, membersFrom, membersOf, elementAt, firstElementAt, nextElementAt, elementsFrom, elementsOf}
@@ -23,7 +23,7 @@ use Rattle.date_time.specs.Local.{isLocal, fractionFault, secondsAt, localOf}
 use Rattle.date_time.specs.Parts.{dateAt, isTime, isReal, secondOfDay}
 use Rattle.date_time.specs.Picture.{meets, follows}
 use Rattle.date_time.specs.Utc.{endsInZ, isUtc}
-use Rattle.digits.specs.Digits.{twoAt, fourAt as fourAt-digits}
+use Rattle.digits.specs.Digits.{twoAt, fourAt}
 use Rattle.digits.specs.Fraction.{allDigits, nonZero, lastOf, endsInZero, legalFraction}
 use Rattle.digits.specs.Judged.{judged}
 use Rattle.duration.specs.Amount.{before, amountOf, capped}
@@ -85,5 +85,5 @@ cases =
     ∷ []
 
 pub worked : map (λ (c : Case). eventFault (ascii (c .text))) cases ≡ map (λ (c : Case). c .fault) cases
-unfolding cases run past isSpace isDigit spaceAt digitsAt someDigitsAt intAt fracAt powerAt expAt unsignedAt numberAt isHex hexAt isEscaped escapeAt charAt charsAt stringAt isTail tailsAt secondAt multiAt fourAt scalarAt afterAt firstAt colonAt nameAt elementsAt membersAt arrayOf objectOf valueOf valueAt arrayAt objectAt endAt textAt bytesAt rawAt same slashed ahead memberAt firstMemberAt nextMemberAt membersFrom membersOf elementAt firstElementAt nextElementAt elementsFrom elementsOf fieldNamed fieldsRepeat fieldsSlashed fieldsBad findIn lookUp decimal goesOn signed sizeAt wholeAt integerAt scalarTree fieldsOf itemsOf treeBy treeAt textTree kindAt freeBusyOf privacyOf monthWritten monthOf frequencyOf weekdayOf skipFault rscaleFault isLocal fractionFault secondsAt localOf dateAt isTime isReal secondOfDay meets follows endsInZ isUtc twoAt fourAt-digits allDigits nonZero lastOf endsInZero legalFraction judged before amountOf capped pointAt daysOf secondsOf wholeOf fractionOf lengthOf letterAt unitAt secondAt-duration-grammar minuteAt hourAt clockAt timeAt dayAt weekAt calAt datedAt durationAt isDuration upper lower isDate dayOf fromMonth fromYear dateOf weekdayOf-gregorian lengthIn startIn monthLength monthStart monthDay isLeap yearLength leapYears firstOfYear missing noEvent detailsIn eventIn objectFault eventFault eventOf patched patchedStart hasMark nameFault nameFaults alone excludedFault patchIn overrideOf overridesIn readOverrides filled readUid readUpdated dateTime readStart readUntil named readZone readLength readBusy readBoolean readPrivacy readText orWrong optional unsupported readAll atMost limited required readFrequency typed atLeastOne readCount signedUpTo readSigned readWeekday readNth ndayIn readNDay readMonth entriesOf byList readScale readSkip unsupportedLists bothEnds anyNth nthUnder maybe ruleIn readRule readRules plain word listOf member isText isType
+unfolding cases run past isSpace isDigit spaceAt digitsAt someDigitsAt intAt fracAt powerAt expAt unsignedAt numberAt isHex hexAt isEscaped escapeAt charAt charsAt stringAt isTail tailsAt secondAt multiAt wordAt scalarAt afterAt firstAt colonAt nameAt elementsAt membersAt arrayOf objectOf valueOf valueAt arrayAt objectAt endAt textAt bytesAt rawAt same slashed ahead memberAt firstMemberAt nextMemberAt membersFrom membersOf elementAt firstElementAt nextElementAt elementsFrom elementsOf fieldNamed fieldsRepeat fieldsSlashed fieldsBad findIn lookUp decimal goesOn signed sizeAt wholeAt integerAt scalarTree fieldsOf itemsOf treeBy treeAt textTree kindAt freeBusyOf privacyOf monthWritten monthOf frequencyOf weekdayOf skipFault rscaleFault isLocal fractionFault secondsAt localOf dateAt isTime isReal secondOfDay meets follows endsInZ isUtc twoAt fourAt allDigits nonZero lastOf endsInZero legalFraction judged before amountOf capped pointAt daysOf secondsOf wholeOf fractionOf lengthOf letterAt unitAt secondAt-duration-grammar minuteAt hourAt clockAt timeAt dayAt weekAt calAt datedAt durationAt isDuration upper lower isDate dayOf fromMonth fromYear dateOf weekdayOf-gregorian lengthIn startIn monthLength monthStart monthDay isLeap yearLength leapYears firstOfYear missing noEvent detailsIn eventIn objectFault eventFault eventOf patched patchedStart hasMark nameFault nameFaults alone excludedFault patchIn overrideOf overridesIn readOverrides filled readUid readUpdated dateTime readStart readUntil named readZone readLength readBusy readBoolean readPrivacy readText orWrong optional unsupported readAll atMost limited required readFrequency typed atLeastOne readCount signedUpTo readSigned readWeekday readNth ndayIn readNDay readMonth entriesOf byList readScale readSkip unsupportedLists bothEnds anyNth nthUnder maybe ruleIn readRule readRules plain word listOf member isText isType
 worked = refl
