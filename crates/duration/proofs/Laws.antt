@@ -16,7 +16,8 @@ use Rattle.json_text.proofs.Laws.{past-more, past-stop}
 use Rattle.digits.specs.Digits.{digit}
 use Rattle.digits.specs.Fraction.{allDigits, nonZero, legalFraction}
 use Rattle.duration_grammar.specs.Letter.{upper}
-use Rattle.duration.specs.Amount.{before, enough, capped}
+use Rattle.duration.specs.Amount.{before}
+use Rattle.duration.specs.Inner.Capped.{enough, capped}
 use Rattle.duration.specs.Length.{noPoint, limit}
 
 pub capped-low : (n : ℕ) → n < enough → capped n ≡ n

@@ -9,13 +9,17 @@ use Rattle.json_text.specs.Numbers.{someDigitsAt, intAt, fracAt, powerAt, expAt
 use Rattle.json_text.specs.Strings.{isHex, hexAt, isEscaped, escapeAt, charAt, charsAt, stringAt}
 use Rattle.json_text.specs.Utf8.{isTail, tailsAt, secondAt, multiAt}
 use Rattle.json_text.specs.Words.{wordAt, scalarAt}
-use Rattle.json_value.specs.Values.{afterAt, firstAt, colonAt, nameAt, elementsAt, membersAt, arrayOf, objectOf, valueOf, valueAt, arrayAt, objectAt, endAt, textAt}
-use Rattle.json_walk.specs.Strings.{bytesAt, rawAt, same, slashed, ahead}
+use Rattle.json_value.specs.Values.{afterAt, firstAt, colonAt, nameAt, elementsAt, membersAt, arrayOf, objectOf, valueOf, valueAt, endAt, textAt}
+use Rattle.json_value.specs.Inner.Groups.{arrayAt, objectAt}
+use Rattle.json_walk.specs.Strings.{bytesAt, rawAt, same, slashed}
+use Rattle.json_walk.specs.Inner.Within.{ahead}
 use Rattle.json_walk.specs.Walk.{memberAt, firstMemberAt, nextMemberAt, membersFrom, membersOf, elementAt, firstElementAt, nextElementAt, elementsFrom, elementsOf}
 use Rattle.json_tree.specs.Faults.{fieldNamed, fieldsRepeat, fieldsSlashed, fieldsBad}
-use Rattle.json_tree.specs.Finds.{findIn, lookUp}
+use Rattle.json_tree.specs.Finds.{lookUp}
+use Rattle.json_tree.specs.Inner.Members.{findIn}
 use Rattle.json_tree.specs.Integers.{decimal, goesOn, signed, sizeAt, wholeAt, integerAt}
-use Rattle.json_tree.specs.Tree.{scalarTree, fieldsOf, itemsOf, treeBy, treeAt, textTree, kindAt}
+use Rattle.json_tree.specs.Tree.{scalarTree, fieldsOf, itemsOf, treeBy, treeAt, textTree}
+use Rattle.json_tree.specs.Inner.Kinds.{kindAt}
 use Rattle.words.specs.Marks.{freeBusyOf, privacyOf}
 use Rattle.words.specs.Months.{monthWritten, monthOf}
 use Rattle.words.specs.Rules.{frequencyOf, weekdayOf, skipFault, rscaleFault}
@@ -26,7 +30,8 @@ use Rattle.date_time.specs.Utc.{endsInZ, isUtc}
 use Rattle.digits.specs.Digits.{twoAt, fourAt}
 use Rattle.digits.specs.Fraction.{allDigits, nonZero, lastOf, endsInZero, legalFraction}
 use Rattle.digits.specs.Judged.{judged}
-use Rattle.duration.specs.Amount.{before, amountOf, capped}
+use Rattle.duration.specs.Amount.{before, amountOf}
+use Rattle.duration.specs.Inner.Capped.{capped}
 use Rattle.duration.specs.Length.{pointAt, daysOf, secondsOf, wholeOf, fractionOf, lengthOf}
 use Rattle.duration_grammar.specs.Grammar.{letterAt, unitAt, secondAt as secondAt-duration-grammar, minuteAt, hourAt, clockAt, timeAt, dayAt, weekAt, calAt, datedAt, durationAt, isDuration}
 use Rattle.duration_grammar.specs.Letter.{upper}

@@ -1,13 +1,13 @@
 -- 01, "Rules of recurrence", its first paragraph: how a rule is read.
 use Prim.Native.Nat.{ℕ, zero, suc}
-use mathlib.Core.Bool.{Bool, true, false, _||_, _&&_, not}
+use mathlib.Core.Bool.{Bool, true, false, _||_, _&&_}
 use mathlib.Core.List.{List, [], _∷_}
 use mathlib.Core.Option.{Option, none, some}
-use lib.Dec.{eqb, leb}
+use lib.Dec.{leb}
 use lib.IntN.{ℤ, pos, negsuc, natAbs}
 use Rattle.signed.specs.Choose.{if_then_else_}
 use Rattle.fault.specs.Fault.{lower}
-use Rattle.json_tree.specs.Tree.{Json, Fields, noField}
+use Rattle.json_tree.specs.Tree.{Json, Fields}
 use Rattle.rule.specs.declared.Frequency.{Frequency}
 use Rattle.rule.specs.declared.Frequency.the-variants.{Daily, Weekly, Monthly, Yearly}
 use Rattle.rule.specs.Written.{NDay, RecurrenceRule}

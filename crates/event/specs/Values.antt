@@ -11,7 +11,7 @@ use Rattle.json_tree.specs.declared.Integer.{Integer}
 use Rattle.json_tree.specs.declared.Integer.the-variants.{Is, No}
 use Rattle.json_tree.specs.Finds
 use Rattle.json_tree.specs.Finds.{Value?, lookUp}
-use Rattle.json_tree.specs.Tree.{Json, Items, Fields, nullAt, falseAt, trueAt, numberOf, stringOf, arrayOf, objectOf, noItem, item, noField, field}
+use Rattle.json_tree.specs.Tree.{Json, Items, Fields, nullAt, falseAt, trueAt, numberOf, stringOf, arrayOf, objectOf, noItem, item}
 
 abbrev pub isNull : Json → Bool
 isNull (nullAt i) = true

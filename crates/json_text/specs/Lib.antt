@@ -5,3 +5,4 @@ pub mod Strings
 pub mod Numbers
 pub mod Words
 pub mod Plain
+pub mod Inner

@@ -15,7 +15,8 @@ use Rattle.json_walk.specs.Walk.{memberAt, firstMemberAt, membersFrom, membersO
 use Rattle.json_walk.specs.declared.Member.{Member}
 use Rattle.json_walk.specs.declared.MemberStep.the-variants.{End}
 use Rattle.json_tree.proofs.Trees.{find-tree}
-use Rattle.json_tree.specs.Finds.{findIn, lookUp, valueFound}
+use Rattle.json_tree.specs.Finds.{lookUp}
+use Rattle.json_tree.specs.Inner.Members.{findIn, valueFound}
 use Rattle.json_tree.specs.Tree.{Json, Fields, fieldsOf, treeAt}
 use Rattle.json_tree.specs.declared.Found.{Found}
 use Rattle.json_tree.specs.declared.Found.the-variants.{Here, Missing}

@@ -22,7 +22,7 @@ use Rattle.json_walk.specs.Walk.{memberTo, memberMore, memberAt, firstMemberAt,
 use Rattle.json_walk.specs.declared.Member.{Member}
 use Rattle.json_walk.specs.declared.MemberStep.{MemberStep}
 use Rattle.json_walk.specs.declared.MemberStep.the-variants.{One, End}
-use Rattle.json_tree.specs.Finds.{findIn}
+use Rattle.json_tree.specs.Inner.Members.{findIn}
 use Rattle.json_tree.specs.Tree.{fieldsOf, treeAt}
 use Rattle.json_tree.specs.declared.Found.{Found}
 use Rattle.json_tree.specs.declared.Found.the-variants.{Here, Missing}

@@ -5,7 +5,8 @@ use lib.Dec.{eqb, ltb}
 use lib.ListN.{getD}
 use Rattle.signed.specs.Choose.{if_then_else_}
 use Rattle.json_text.specs.Bytes.{byte}
-use Rattle.json_walk.specs.Strings.{rawAt, same, ahead, within}
+use Rattle.json_walk.specs.Strings.{rawAt, same}
+use Rattle.json_walk.specs.Inner.Within.{ahead, within}
 use Rattle.json_text.specs.Ascii.{ascii}
 
 -- Those of an NDay, of a patch, of an event, of a rule.

@@ -5,7 +5,7 @@ ghost use Rattle.json_ends.specs.Ends.{Ends};
 ghost use Rattle.property.specs.Rows.{RowTo, placed};
 ghost use Rattle.property.specs.Vocabulary.{wordOf};
 ghost use Rattle.json_walk.specs.Walk.{membersOf};
-ghost use Rattle.json_tree.specs.Finds.{findIn};
+ghost use Rattle.json_tree.specs.Inner.Members.{findIn};
 ghost use Rattle.json_text.specs.Ascii.{ascii};
 ghost use Rattle.event.specs.Rules.{readSigned, readMonth, readNDay, byList};
 ghost use Rattle.rule_text.specs.Members.{memberAt};
