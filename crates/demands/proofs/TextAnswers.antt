@@ -10,11 +10,10 @@ use lib.Dec.{eqb, leb, ltb}
 use lib.ListN.{length}
 use borrow.Author.Tests.{eqb-true, eqb-false, ne-eqb, leb-true}
 use Rattle.signed.specs.Choose.{if_then_else_}
-use Rattle.json_text.specs.Bytes.{spaceAt}
 use Rattle.json_text.specs.declared.Read.{Read}
 use Rattle.json_text.specs.declared.Read.the-variants.{To, Bad, Deep}
-use Rattle.json_value.specs.Values.{textAt, levels}
-use Rattle.json_names.specs.Names.{faultAt}
+use Rattle.json_value.specs.Values.{textAt}
+use Rattle.json_tree.specs.Faults.{faulty}
 use Rattle.json.specs.Answer.{limit, pairedAnswer, readAnswer, answerOf}
 use Rattle.json.specs.Surrogates.{pairsAt}
 use Rattle.json_tree.specs.Tree.{Fields, textTree}
@@ -46,20 +45,20 @@ module _ (s : List ℕ) where
       record { number = 1; holds = ltb limit (length s) }
       ∷ record { number = 2; holds = isDeep (textAt s) }
       ∷ record { number = 3; holds = isBad (textAt s) || not (isRead (pairsAt (length s) s 0)) }
-      ∷ record { number = 4; holds = faultAt levels s (spaceAt s 0) }
+      ∷ record { number = 4; holds = faulty (textTree s) }
       ∷ []
 
   json-lowest : lowestOf jsonConditions ≡ answerOf s
   unfolding jsonConditions lowestOf answerOf readAnswer pairedAnswer
   json-lowest = go (ltb limit (length s)) (textAt s)
     where
-      paired : (p : Read) → (if not (isRead p) then 3 else (if faultAt levels s (spaceAt s 0) then 4 else 0)) ≡ pairedAnswer s p
+      paired : (p : Read) → (if not (isRead p) then 3 else (if faulty (textTree s) then 4 else 0)) ≡ pairedAnswer s p
       paired (To i) = refl
       paired Bad = refl
       paired Deep = refl
 
       go : (long : Bool) (r : Read)
-          → (if long then 1 else if isDeep r then 2 else if isBad r || not (isRead (pairsAt (length s) s 0)) then 3 else if faultAt levels s (spaceAt s 0) then 4 else 0)
+          → (if long then 1 else if isDeep r then 2 else if isBad r || not (isRead (pairsAt (length s) s 0)) then 3 else if faulty (textTree s) then 4 else 0)
           ≡ (if long then 1 else readAnswer s r)
       go true r = refl
       go false (To i) = paired (pairsAt (length s) s 0)

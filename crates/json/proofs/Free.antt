@@ -15,6 +15,7 @@ use Rattle.json_text.specs.declared.Read.the-variants.{To, Bad, Deep}
 use Rattle.json_value.specs.Values.{levels}
 use Rattle.json_names.specs.Names.{faultAt}
 use Rattle.json.specs.Answer.{pairedAnswer}
+use Rattle.json.proofs.Faulted.{text-tree}
 use Rattle.json.specs.Slashes.{differ, lacksD, isD, front, NoFront, isTo}
 use Rattle.json.specs.Surrogates.{hexValue, unitAt, isFirst, isSecond, pairAt, escapedAt, pairsAt}
 
@@ -170,6 +171,6 @@ free-pairs s h = sym (free-from s h (length s) 0)
 -- The answer asks no more of a pass over escapes.
 pub paired-answer : (s : List ℕ) (r : Read) → pairedAnswer s r ≡ (if isTo r then (if faultAt levels s (spaceAt s 0) then 4 else 0) else 3)
 unfolding pairedAnswer
-paired-answer s (To i) = refl
+paired-answer s (To i) = rw (text-tree s)
 paired-answer s Bad = refl
 paired-answer s Deep = refl

@@ -1,4 +1,4 @@
--- Faults of member names, about the tree: two equal names in one object, or a backslash in a name, anywhere.
+-- 01, 4: "two equal member names in one object, or a backslash in any member name".
 use Prim.Native.Nat.{ℕ}
 use mathlib.Core.Bool.{Bool, true, false}
 use mathlib.Core.List.{List}
