@@ -3,7 +3,7 @@ use Prim.Native.Nat.{ℕ, _+_, _*_}
 use mathlib.Core.Bool.{Bool, true, false}
 use mathlib.Core.List.{List}
 use lib.Dec.{ltb, leb}
-use Rattle.json_text.specs.Choice.{if_then_else_}
+use Rattle.signed.specs.Choose.{if_then_else_}
 use Rattle.digits.specs.Digits.{twoAt, fourAt}
 use Rattle.gregorian.specs.declared.Date.{Date}
 use Rattle.gregorian.specs.Month.{monthLength}

@@ -7,7 +7,8 @@ use Prim.Native.Nat.{ℕ}
 use mathlib.Core.Bool.{Bool, true, false}
 use mathlib.Core.List.{List, [], _∷_}
 use lib.Dec.{eqb}
-use Rattle.json_text.specs.Choice.{if_then_else_}
+use Rattle.signed.specs.Choose.{if_then_else_}
+use Rattle.json_text.specs.Ascii.{ascii}
 use Rattle.json_text.specs.Bytes.{isDigit}
 
 -- A picture's 0 stands for any digit, any other byte for itself. (So the letter T is upper-case only. 004: "any letters MUST be in
@@ -23,6 +24,4 @@ follows (p ∷ ps) (b ∷ bs) = if meets p b then follows ps bs else false
 
 -- 01: "`YYYY-MM-DDTHH:MM:SS`"
 abbrev pub picture : List ℕ
-picture =
-    0x30 ∷ 0x30 ∷ 0x30 ∷ 0x30 ∷ 0x2D ∷ 0x30 ∷ 0x30 ∷ 0x2D ∷ 0x30 ∷ 0x30 ∷ 0x54 ∷
-    0x30 ∷ 0x30 ∷ 0x3A ∷ 0x30 ∷ 0x30 ∷ 0x3A ∷ 0x30 ∷ 0x30 ∷ []
+picture = ascii "0000-00-00T00:00:00"

@@ -8,7 +8,6 @@ use lib.Dec.{eqb, leb, ltb}
 use lib.IntN.{ℤ, pos, negsuc, natAbs}
 use lib.ListN.{length, take, drop}
 use Rattle.signed.specs.Choose.{if_then_else_}
-use Rattle.json_text.specs.Choice as choice
 use Rattle.fault.specs.Fault.{lower}
 use Rattle.digits.specs.Fraction.{legalFraction}
 use Rattle.json_text.specs.Bytes.{byte}
@@ -26,7 +25,6 @@ use Rattle.words.specs.declared.Named.{Named}
 use Rattle.words.specs.declared.Named.the-variants as named-as
 use Rattle.words.specs.declared.FreeBusy.{FreeBusy}
 use Rattle.words.specs.declared.FreeBusy.the-variants as status
-use Rattle.words.specs.Spelled.{daily, weekly, monthly, yearly, hourly, minutely, secondly, mo, tu, we, th, fr, sa, su, omit, forward, backward, gregorian, free, busy}
 use Rattle.date_time.specs.declared.DateTime.{DateTime}
 use Rattle.date_time.specs.declared.DateTime.the-variants as local
 use Rattle.date_time.specs.Local.{isLocal, secondsAt, fractionFault, localOf}
@@ -35,9 +33,9 @@ use Rattle.duration_grammar.specs.Grammar.{isDuration}
 use Rattle.duration.specs.declared.Span.{Span}
 use Rattle.duration.specs.declared.Span.the-variants as span
 use Rattle.duration.specs.Length.{limit, pointAt, daysOf, secondsOf, wholeOf, fractionOf, lengthOf}
-use Rattle.event.specs.Ascii.{ascii}
+use Rattle.json_text.specs.Ascii.{ascii}
 use Rattle.event.specs.Types.{Text, Details, Override}
-use Rattle.event.specs.Values.{isNull, boolean, string, word, array, object, integer, member}
+use Rattle.event.specs.Values.{isNull, boolean, string, word, array, object, integer, member, isType}
 use Rattle.event.specs.Reading.{Reading, orWrong, optional, unsupported, readAll, atMost, limited}
 use Rattle.event.specs.Properties
 use Rattle.event.specs.Properties.{filled, readUid, readUpdated, fromLocal, dateTime, readStart, readUntil, readZone, fromSpan, readLength, fromStatus, readBusy, readBoolean, readPrivacy, readText, noLength}
@@ -58,10 +56,6 @@ module _ {A : Type 0} (P : A → Type 0) where
   pub pick : (t : Bool) (a b : A) → P a → P b → P (if t then a else b)
   pick true a b p q = p
   pick false a b p q = q
-
-  pub pick-text : (t : Bool) (a b : A) → P a → P b → P (choice.if_then_else_ t a b)
-  pick-text true a b p q = p
-  pick-text false a b p q = q
 
 either : (a b : ℕ) → Judged a → Judged b → Judged (lower a b)
 unfolding lower
@@ -102,11 +96,11 @@ Rated r = Judged (fromRate r .fault)
 rate-fault : (s : List ℕ) → Rated (frequencyOf s)
 unfolding frequencyOf
 rate-fault s =
-    pick-text Rated (same s daily) _ _ refl
-    (pick-text Rated (same s weekly) _ _ refl
-    (pick-text Rated (same s monthly) _ _ refl
-    (pick-text Rated (same s yearly) _ _ refl
-    (pick-text Rated (same s hourly) _ _ refl (pick-text Rated (same s minutely) _ _ refl (pick-text Rated (same s secondly) _ _ refl refl))))))
+    pick Rated (same s (ascii "daily")) _ _ refl
+    (pick Rated (same s (ascii "weekly")) _ _ refl
+    (pick Rated (same s (ascii "monthly")) _ _ refl
+    (pick Rated (same s (ascii "yearly")) _ _ refl
+    (pick Rated (same s (ascii "hourly")) _ _ refl (pick Rated (same s (ascii "minutely")) _ _ refl (pick Rated (same s (ascii "secondly")) _ _ refl refl))))))
 
 abbrev NamedOk : Named → Type 0
 NamedOk n = Judged (fromNamed n .fault)
@@ -114,33 +108,33 @@ NamedOk n = Judged (fromNamed n .fault)
 weekday-fault : (s : List ℕ) → NamedOk (weekdayOf s)
 unfolding weekdayOf
 weekday-fault s =
-    pick-text NamedOk (same s mo) _ _ refl
-    (pick-text NamedOk (same s tu) _ _ refl
-    (pick-text NamedOk (same s we) _ _ refl
-    (pick-text NamedOk (same s th) _ _ refl
-    (pick-text NamedOk (same s fr) _ _ refl (pick-text NamedOk (same s sa) _ _ refl (pick-text NamedOk (same s su) _ _ refl refl))))))
+    pick NamedOk (same s (ascii "mo")) _ _ refl
+    (pick NamedOk (same s (ascii "tu")) _ _ refl
+    (pick NamedOk (same s (ascii "we")) _ _ refl
+    (pick NamedOk (same s (ascii "th")) _ _ refl
+    (pick NamedOk (same s (ascii "fr")) _ _ refl (pick NamedOk (same s (ascii "sa")) _ _ refl (pick NamedOk (same s (ascii "su")) _ _ refl refl))))))
 
 month-fault : (s : List ℕ) → NamedOk (monthOf s)
 unfolding monthOf
 month-fault s =
-    pick-text NamedOk (leb 1 (monthWritten s)) _ _ refl
-    (pick-text NamedOk (eqb (length s) 0) _ _ refl
-    (pick-text NamedOk (eqb (byte s (length s - 1)) 0x4C) _ _ (pick-text NamedOk (leb 1 (monthWritten (take (length s - 1) s))) _ _ refl refl) refl))
+    pick NamedOk (leb 1 (monthWritten s)) _ _ refl
+    (pick NamedOk (eqb (length s) 0) _ _ refl
+    (pick NamedOk (eqb (byte s (length s - 1)) 0x4C) _ _ (pick NamedOk (leb 1 (monthWritten (take (length s - 1) s))) _ _ refl refl) refl))
 
 skip-fault : (s : List ℕ) → Judged (skipFault s)
 unfolding skipFault
-skip-fault s = pick-text Judged (same s omit) _ _ refl (pick-text Judged (same s forward) _ _ refl (pick-text Judged (same s backward) _ _ refl refl))
+skip-fault s = pick Judged (same s (ascii "omit")) _ _ refl (pick Judged (same s (ascii "forward")) _ _ refl (pick Judged (same s (ascii "backward")) _ _ refl refl))
 
 scale-fault : (s : List ℕ) → Judged (rscaleFault s)
 unfolding rscaleFault
-scale-fault s = pick-text Judged (same s gregorian) _ _ refl refl
+scale-fault s = pick Judged (same s (ascii "gregorian")) _ _ refl refl
 
 abbrev StatusOk : FreeBusy → Type 0
 StatusOk f = Judged (fromStatus f .fault)
 
 status-fault : (s : List ℕ) → StatusOk (freeBusyOf s)
 unfolding freeBusyOf
-status-fault s = pick-text StatusOk (same s free) _ _ refl (pick-text StatusOk (same s busy) _ _ refl refl)
+status-fault s = pick StatusOk (same s (ascii "free")) _ _ refl (pick StatusOk (same s (ascii "busy")) _ _ refl refl)
 
 -- ---- date-times and durations
 
@@ -149,11 +143,11 @@ LocalOk d = Judged (fromLocal d .fault)
 
 fraction-fault : (s : List ℕ) → Judged (fractionFault s)
 unfolding fractionFault
-fraction-fault s = pick-text Judged (eqb (byte s 19) 0x2E) _ _ (pick-text Judged (legalFraction (drop 20 s)) _ _ refl refl) refl
+fraction-fault s = pick Judged (eqb (byte s 19) 0x2E) _ _ (pick Judged (legalFraction (drop 20 s)) _ _ refl refl) refl
 
 local-fault : (last : ℕ) (s : List ℕ) → LocalOk (localOf last s)
 unfolding localOf
-local-fault last s = pick-text LocalOk (isLocal last s) _ _ (pick-text LocalOk (eqb (length s) 19) _ _ refl (fraction-fault s)) refl
+local-fault last s = pick LocalOk (isLocal last s) _ _ (pick LocalOk (eqb (length s) 19) _ _ refl (fraction-fault s)) refl
 
 abbrev SpanOk : Span → Type 0
 SpanOk d = Judged (fromSpan d .fault)
@@ -161,11 +155,11 @@ SpanOk d = Judged (fromSpan d .fault)
 span-fault : (s : List ℕ) → SpanOk (lengthOf s)
 unfolding lengthOf fractionOf wholeOf
 span-fault s =
-    pick-text SpanOk (isDuration s) _ _
-    (pick-text SpanOk (ltb (pointAt s) (length s)) _ _
-    (pick-text SpanOk (legalFraction (take (length s - 1 - (pointAt s + 1)) (drop (pointAt s + 1) s))) _ _
-    (pick-text SpanOk (leb limit (86400 * daysOf s + secondsOf 0x2E s)) _ _ refl refl) refl)
-    (pick-text SpanOk (ltb limit (86400 * daysOf s + secondsOf 0x53 s)) _ _ refl refl))
+    pick SpanOk (isDuration s) _ _
+    (pick SpanOk (ltb (pointAt s) (length s)) _ _
+    (pick SpanOk (legalFraction (take (length s - 1 - (pointAt s + 1)) (drop (pointAt s + 1) s))) _ _
+    (pick SpanOk (leb limit (86400 * daysOf s + secondsOf 0x2E s)) _ _ refl refl) refl)
+    (pick SpanOk (ltb limit (86400 * daysOf s + secondsOf 0x53 s)) _ _ refl refl))
     refl
 
 -- ---- the properties
@@ -256,8 +250,7 @@ frequency-fault v = or-wrong _ _ rate-fault (word v)
 
 typed-fault : (name : List ℕ) (o : Option Json) → Judged (typed name o)
 unfolding typed
-typed-fault name o =
-    must-be true _ (λ v. or-wrong true _ (λ raw. pick (λ (r : Reading Bool). Judged (r .fault)) (same raw name) _ _ refl refl) (word v)) o
+typed-fault name o = pick Judged (isType name o) _ _ refl refl
 
 count-fault : Read readCount
 unfolding readCount

@@ -10,7 +10,6 @@ use lib.Dec.{eqb}
 use lib.ListN.{length, take, drop, getD}
 use lib.Seq.{drop-cons}
 use Rattle.signed.specs.Choose.{if_then_else_}
-use Rattle.json_text.specs.Choice as choice
 use Rattle.json_text.specs.Bytes.{byte, spaceAt}
 use Rattle.json_text.specs.Strings.{stringAt}
 use Rattle.json_text.specs.declared.Read.{Read}
@@ -26,7 +25,7 @@ use Rattle.json_tree.specs.Tree.{Json, Items, Fields, noField, noItem, field, e
 use Rattle.property.specs.Words.{wordAt}
 use Rattle.property.proofs.Ends.{string-end}
 use Rattle.property.proofs.Words.{raw-none, string-text}
-use Rattle.event.specs.Ascii.{ascii}
+use Rattle.json_text.specs.Ascii.{ascii}
 use Rattle.event.specs.Types.{Text, Details, Override, Event}
 use Rattle.event.specs.Values.{isNull, string, object, asOption, member}
 use Rattle.event.specs.Reading.{Reading, orWrong, optional, limited}
@@ -34,7 +33,7 @@ use Rattle.event.specs.Properties.{dateTime, readText}
 use Rattle.event.specs.Overrides.{patched, patchIn, overrideOf, overridesIn, readOverrides}
 use Rattle.event.specs.Event.{detailsIn, nothing, eventIn, eventOf}
 use Rattle.table.specs.Occurrence.{overrideAt, withStart, patchedBy, detailsAt}
-use Rattle.demands.proofs.FaultLaws.{pick, pick-text}
+use Rattle.demands.proofs.FaultLaws.{pick}
 
 -- ---- the bytes of a string
 
@@ -66,7 +65,7 @@ string-own : (l : ℕ) (s : List ℕ) (i : ℕ) → OwnIn s (string (treeAt l s 
 unfolding wordAt
 string-own l s i = subst (OwnIn s) (sym (string-text l s i)) (go (eqb (byte s i) 0x22))
   where
-    go : (q : Bool) → OwnIn s (choice.if_then_else_ q (some (record { at = i + 1; raw = wordAt s i })) none)
+    go : (q : Bool) → OwnIn s (if q then some (record { at = i + 1; raw = wordAt s i }) else none)
     go true = raw-own s i (stringAt s i) refl
     go false = tt
 
@@ -100,11 +99,11 @@ ObjectGrown s v = FieldsGrown s (object v)
 by-grown : (fields : Fields) (items : Items) (s : List ℕ) (i : ℕ) → AllGrown s fields → ObjectGrown s (treeBy fields items s i)
 unfolding treeBy scalarTree
 by-grown fields items s i h =
-    pick-text (ObjectGrown s) (eqb (byte s i) 0x7B) _ _ h
-    (pick-text (ObjectGrown s) (eqb (byte s i) 0x5B) _ _ tt
-    (pick-text (ObjectGrown s) (eqb (byte s i) 0x22) _ _ tt
-    (pick-text (ObjectGrown s) (eqb (byte s i) 0x66) _ _ tt
-    (pick-text (ObjectGrown s) (eqb (byte s i) 0x6E) _ _ tt (pick-text (ObjectGrown s) (eqb (byte s i) 0x74) _ _ tt tt)))))
+    pick (ObjectGrown s) (eqb (byte s i) 0x7B) _ _ h
+    (pick (ObjectGrown s) (eqb (byte s i) 0x5B) _ _ tt
+    (pick (ObjectGrown s) (eqb (byte s i) 0x22) _ _ tt
+    (pick (ObjectGrown s) (eqb (byte s i) 0x66) _ _ tt
+    (pick (ObjectGrown s) (eqb (byte s i) 0x6E) _ _ tt (pick (ObjectGrown s) (eqb (byte s i) 0x74) _ _ tt tt)))))
 
 tree-grown : (l : ℕ) (s : List ℕ) (i : ℕ) → ObjectGrown s (treeAt l s i)
 unfolding treeAt
@@ -122,7 +121,7 @@ unfolding member lookUp
 member-grown s name noField h = tt
 member-grown s name (field at given v fields) h = go (same given name) (member-grown s name fields (h .1))
   where
-    go : (t : Bool) → GrownIn s (asOption (lookUp name fields)) → GrownIn s (asOption (choice.if_then_else_ t (Finds.some v) (lookUp name fields)))
+    go : (t : Bool) → GrownIn s (asOption (lookUp name fields)) → GrownIn s (asOption (if t then Finds.some v else lookUp name fields))
     go true later = h .0
     go false later = later
 

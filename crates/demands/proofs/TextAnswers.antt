@@ -10,13 +10,12 @@ use lib.Dec.{eqb, leb, ltb}
 use lib.ListN.{length}
 use borrow.Author.Tests.{eqb-true, eqb-false, ne-eqb, leb-true}
 use Rattle.signed.specs.Choose.{if_then_else_}
-use Rattle.json_text.specs.Choice as choice
 use Rattle.json_text.specs.Bytes.{spaceAt, next}
 use Rattle.json_text.specs.declared.Read.{Read}
 use Rattle.json_text.specs.declared.Read.the-variants.{To, Bad, Deep}
 use Rattle.json_value.specs.Values.{valueAt, endAt, textAt, levels}
 use Rattle.json_value.proofs.Levels.{Stays, to-deep, bad-deep, text-stays}
-use Rattle.json_names.specs.Names.{faultAt}
+use Rattle.json_tree.specs.Faults.{faulty}
 use Rattle.json.specs.Answer.{limit, pairedAnswer, readAnswer, answerOf}
 use Rattle.json.specs.Surrogates.{pairsAt}
 use Rattle.json_tree.specs.Tree.{Fields, textTree}
@@ -49,7 +48,7 @@ module _ (s : List ℕ) where
       record { number = 1; holds = ltb limit (length s) }
       ∷ record { number = 2; holds = isDeep (textAt s) }
       ∷ record { number = 3; holds = not (isJson s) || isUnpaired s }
-      ∷ record { number = 4; holds = faultAt levels s (spaceAt s 0) }
+      ∷ record { number = 4; holds = faulty (textTree s) }
       ∷ []
 
   -- a text that is not too deep is read with more levels as with 16
@@ -62,18 +61,14 @@ module _ (s : List ℕ) where
   unfolding jsonConditions lowestOf answerOf readAnswer pairedAnswer isUnpaired
   json-lowest = go (ltb limit (length s)) (textAt s) (json-is (text-stays (levels + length s) (omega arith) s))
     where
-      named : (t : Bool) → _≡_ {A = ℕ} (if t then 4 else 0) (choice.if_then_else_ t 4 0)
-      named true = refl
-      named false = refl
-
-      paired : (p : Read) → (if not (isRead p) then 3 else (if faultAt levels s (spaceAt s 0) then 4 else 0)) ≡ pairedAnswer s p
-      paired (To i) = named (faultAt levels s (spaceAt s 0))
+      paired : (p : Read) → (if not (isRead p) then 3 else (if faulty (textTree s) then 4 else 0)) ≡ pairedAnswer s p
+      paired (To i) = refl
       paired Bad = refl
       paired Deep = refl
 
       go : (long : Bool) (r : Read) → ((r ≡ Deep → ⊥) → isJson s ≡ isRead r)
-          → (if long then 1 else if isDeep r then 2 else if not (isJson s) || not (isRead (pairsAt (length s) s 0)) then 3 else if faultAt levels s (spaceAt s 0) then 4 else 0)
-          ≡ choice.if_then_else_ long 1 (readAnswer s r)
+          → (if long then 1 else if isDeep r then 2 else if not (isJson s) || not (isRead (pairsAt (length s) s 0)) then 3 else if faulty (textTree s) then 4 else 0)
+          ≡ (if long then 1 else readAnswer s r)
       go true r h = refl
       go false (To i) h = rw (h (to-deep i)) (paired (pairsAt (length s) s 0))
       go false Bad h = rw (h bad-deep)

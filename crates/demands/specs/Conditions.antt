@@ -11,10 +11,10 @@ use Rattle.json_text.specs.Bytes.{spaceAt, next}
 use Rattle.json_text.specs.declared.Read.{Read}
 use Rattle.json_text.specs.declared.Read.the-variants.{To, Bad, Deep}
 use Rattle.json_value.specs.Values.{valueAt, endAt, textAt, levels}
-use Rattle.json_names.specs.Names.{faultAt}
 use Rattle.json.specs.Answer.{limit}
 use Rattle.json.specs.Surrogates.{pairsAt}
 use Rattle.json_tree.specs.Tree.{Fields, textTree}
+use Rattle.json_tree.specs.Faults.{faulty}
 use Rattle.zone.specs.Table.{validTable}
 use Rattle.rule.specs.Lists.{any}
 use Rattle.event.specs.Types.{Event}
@@ -78,7 +78,7 @@ textConditions s =
     record { number = 1; holds = ltb limit (length s) }
     ∷ record { number = 2; holds = isDeep (textAt s) }
     ∷ record { number = 3; holds = not (isJson s) || isUnpaired s }
-    ∷ record { number = 4; holds = faultAt levels s (spaceAt s 0) }
+    ∷ record { number = 4; holds = faulty (textTree s) }
     ∷ record { number = 5; holds = isNoEvent (object (textTree s)) }
     ∷ record { number = 6; holds = eqb (readFault (object (textTree s))) 6 }
     ∷ record { number = 7; holds = eqb (readFault (object (textTree s))) 7 }

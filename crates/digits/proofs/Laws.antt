@@ -9,7 +9,7 @@ use lib.Dec.{eqb}
 use lib.ListN.{length, getD, drop, drop-of-length-le}
 use lib.Seq.{drop-cons}
 use borrow.Author.Tests.{eqb-true}
-use Rattle.json_text.specs.Choice.{if_then_else_}
+use Rattle.signed.specs.Choose.{if_then_else_}
 use Rattle.json_text.specs.Bytes.{isDigit}
 use Rattle.digits.specs.Fraction.{allDigits, nonZero, lastOf, endsInZero, legalFraction}
 use Rattle.digits.specs.Judged.{judged}

@@ -1,7 +1,6 @@
 -- Digits, and what they write. RFC 5234, B.1: DIGIT = %x30-39
-use Prim.Native.Nat.{ℕ, _+_, _-_, _*_, _≤_}
+use Prim.Native.Nat.{ℕ, _+_, _-_, _*_}
 use mathlib.Core.List.{List}
-use mathlib.Core.Path.{_≡_}
 use Rattle.json_text.specs.Bytes.{byte}
 
 -- The value of a digit.
@@ -11,11 +10,6 @@ digit b = b - 0x30
 -- 2DIGIT at a place, as a number
 unfoldable pub twoAt : List ℕ → ℕ → ℕ
 twoAt s i = 10 * digit (byte s i) + digit (byte s (i + 1))
-
--- What is known of the number r that was read of two bytes at the place i: which it is, and that any two bytes give a small one.
-pub record TwoAt (s : List ℕ) (i r : ℕ) : Type 0 where
-  pub is : r ≡ twoAt s i
-  pub small : r ≤ 2277
 
 -- 4DIGIT at a place, as a number
 unfoldable pub fourAt : List ℕ → ℕ → ℕ

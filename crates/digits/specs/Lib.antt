@@ -1,3 +1,4 @@
 pub mod Digits
 pub mod Fraction
 pub mod Judged
+pub mod Inner

@@ -1,7 +1,8 @@
 // Digits in the bytes of a string: the numbers that they write, and fractions of a second.
 ghost use mathlib.Core.Path.{_≡_};
 ghost use Prim.Native.Nat.{_<_};
-ghost use Rattle.digits.specs.Digits.{digit, TwoAt, fourAt};
+ghost use Rattle.digits.specs.Digits.{digit, fourAt};
+ghost use Rattle.digits.specs.Inner.Small.{TwoAt};
 ghost use Rattle.digits.specs.Fraction.{legalFraction};
 use json_text::bytes::byte;
 use json_text::bytes::is_digit;

@@ -10,13 +10,14 @@ use lib.Dec.{eqb, ltb}
 use lib.ListN.{length, getD, take, drop, drop-of-length-le}
 use lib.Seq.{drop-cons}
 use borrow.Author.Tests.{lt-ltb, le-ltb, eq-eqb, ne-eqb}
-use Rattle.json_text.specs.Choice.{if_then_else_}
+use Rattle.signed.specs.Choose.{if_then_else_}
 use Rattle.json_text.specs.Bytes.{isDigit, past, run}
 use Rattle.json_text.proofs.Laws.{past-more, past-stop}
 use Rattle.digits.specs.Digits.{digit}
 use Rattle.digits.specs.Fraction.{allDigits, nonZero, legalFraction}
 use Rattle.duration_grammar.specs.Letter.{upper}
-use Rattle.duration.specs.Amount.{before, enough, capped}
+use Rattle.duration.specs.Amount.{before}
+use Rattle.duration.specs.Inner.Capped.{enough, capped}
 use Rattle.duration.specs.Length.{noPoint, limit}
 
 pub capped-low : (n : ℕ) → n < enough → capped n ≡ n

@@ -5,7 +5,7 @@ use mathlib.Core.Bool.{Bool, not}
 use mathlib.Core.List.{List}
 use lib.Dec.{eqb, ltb, leb}
 use lib.ListN.{length, take, drop}
-use Rattle.json_text.specs.Choice.{if_then_else_}
+use Rattle.signed.specs.Choose.{if_then_else_}
 use Rattle.json_text.specs.Bytes.{past}
 use Rattle.digits.specs.Fraction.{legalFraction}
 use Rattle.duration_grammar.specs.Grammar.{isDuration}
@@ -20,11 +20,11 @@ noPoint b = not (eqb b 0x2E)
 unfoldable pub pointAt : List ℕ → ℕ
 pointAt s = past noPoint s 0
 
--- 004: "A week is always the same as seven days."
+-- 004: "A week is always the same as seven days." W is 0x57, D is 0x44.
 unfoldable pub daysOf : List ℕ → ℕ
 daysOf s = 7 * amountOf 0x57 s + amountOf 0x44 s
 
--- Hours, minutes and the whole seconds, whose number stands before the byte c: "S", or the "." of a fraction.
+-- Hours (H, 0x48), minutes (M, 0x4D) and the whole seconds, whose number stands before the byte c: "S", 0x53, or the "." of a fraction, 0x2E.
 unfoldable pub secondsOf : ℕ → List ℕ → ℕ
 secondsOf c s = 3600 * amountOf 0x48 s + 60 * amountOf 0x4D s + amountOf c s
 

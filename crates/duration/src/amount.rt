@@ -2,7 +2,8 @@
 ghost use mathlib.Core.Path.{_≡_};
 ghost use Prim.Native.Nat.{_+_, _*_, _≤_};
 ghost use Rattle.digits.specs.Digits.{digit};
-ghost use Rattle.duration.specs.Amount.{amountOf, enough, Capped};
+ghost use Rattle.duration.specs.Amount.{amountOf};
+ghost use Rattle.duration.specs.Inner.Capped.{enough, Capped};
 use digits::digit;
 use duration_grammar::letter::upper;
 use json_text::bytes::byte;

@@ -2,7 +2,7 @@
 ghost use mathlib.Core.Path.{_≡_};
 ghost use Prim.Native.Nat.{_<_};
 ghost use lib.ListN.{length};
-ghost use Rattle.duration.specs.Amount.{Capped};
+ghost use Rattle.duration.specs.Inner.Capped.{Capped};
 ghost use Rattle.duration.specs.Length.{pointAt, daysOf, secondsOf, wholeOf, fractionOf, lengthOf};
 use crate::Span;
 use crate::amount::amount;

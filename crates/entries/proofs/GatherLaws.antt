@@ -12,7 +12,7 @@ use lib.ListN.{length, getD, set, take, drop}
 use lib.Seq.{sets, drop-cons, take-all, take-length, length-take-le}
 use Rattle.signed.specs.Choose.{if_then_else_}
 use Rattle.entries.specs.declared.Transition.{Transition}
-use Rattle.entries.specs.Gather.{lesser, gathered}
+use Rattle.entries.specs.Inner.Gathers.{lesser, gathered}
 
 pub lesser-le : (a b : ℕ) → lesser a b ≤ a
 unfolding lesser

@@ -7,7 +7,8 @@ use lib.IntN.{ℤ}
 use lib.ListN.{length, take, drop, length-map, length-take}
 use lib.Seq.{sets, sets-eq, take-append-seam}
 use Rattle.entries.specs.declared.Transition.{Transition}
-use Rattle.entries.specs.Gather.{gathered, instantsOf, offsetsOf, Gathers}
+use Rattle.entries.specs.Gather.{instantsOf, offsetsOf}
+use Rattle.entries.specs.Inner.Gathers.{gathered, Gathers}
 
 pub gathered-most : (ys : List Transition) → length (gathered ys) ≤ 1025
 unfolding gathered

@@ -11,7 +11,8 @@ use lib.ListN.{length, take, length-map, length-take}
 use lib.Seq.{take-all}
 use Rattle.zone.specs.Table.{validTable}
 use Rattle.entries.specs.declared.Transition.{Transition}
-use Rattle.entries.specs.Gather.{gathered, instantsOf, offsetsOf}
+use Rattle.entries.specs.Gather.{instantsOf, offsetsOf}
+use Rattle.entries.specs.Inner.Gathers.{gathered}
 
 too-long : (initial : ℤ) (entries : List Transition) → 1024 < length entries → validTable initial (instantsOf entries) (offsetsOf entries) ≡ false
 unfolding validTable instantsOf

@@ -2,7 +2,7 @@
 ghost use mathlib.Core.Path.{_≡_};
 ghost use Prim.Native.Nat.{_≤_};
 ghost use lib.ListN.{length};
-ghost use Rattle.entries.specs.Gather.{lesser, Gathers};
+ghost use Rattle.entries.specs.Inner.Gathers.{lesser, Gathers};
 
 // "a run of entries, each an instant and an offset from then on"
 #[repr(C)]

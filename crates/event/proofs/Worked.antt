@@ -3,31 +3,35 @@ use Prim.Native.Nat.{ℕ}
 use Prim.Native.String.{String}
 use mathlib.Core.List.{List, [], _∷_, map}
 use mathlib.Core.Path.{_≡_, refl}
-use Rattle.event.specs.Ascii.{ascii}
+use Rattle.json_text.specs.Ascii.{ascii}
 use Rattle.json_text.specs.Bytes.{run, past, isSpace, isDigit, spaceAt, digitsAt}
 use Rattle.json_text.specs.Numbers.{someDigitsAt, intAt, fracAt, powerAt, expAt, unsignedAt, numberAt}
 use Rattle.json_text.specs.Strings.{isHex, hexAt, isEscaped, escapeAt, charAt, charsAt, stringAt}
 use Rattle.json_text.specs.Utf8.{isTail, tailsAt, secondAt, multiAt}
-use Rattle.json_text.specs.Words.{fourAt, scalarAt}
-use Rattle.json_value.specs.Values.{afterAt, firstAt, colonAt, nameAt, elementsAt, membersAt, arrayOf, objectOf, valueOf, valueAt, arrayAt, objectAt, endAt, textAt}
-use Rattle.json_walk.specs.Strings.{bytesAt, rawAt, same, slashed, ahead}
+use Rattle.json_text.specs.Words.{wordAt, scalarAt}
+use Rattle.json_value.specs.Values.{afterAt, firstAt, colonAt, nameAt, elementsAt, membersAt, arrayOf, objectOf, valueOf, valueAt, endAt, textAt}
+use Rattle.json_value.specs.Inner.Groups.{arrayAt, objectAt}
+use Rattle.json_walk.specs.Strings.{bytesAt, rawAt, same, slashed}
+use Rattle.json_walk.specs.Inner.Within.{ahead}
 use Rattle.json_walk.specs.Walk.{memberAt, firstMemberAt, nextMemberAt, membersFrom, membersOf, elementAt, firstElementAt, nextElementAt, elementsFrom, elementsOf}
 use Rattle.json_tree.specs.Faults.{fieldNamed, fieldsRepeat, fieldsSlashed, fieldsBad}
-use Rattle.json_tree.specs.Finds.{findIn, lookUp}
+use Rattle.json_tree.specs.Finds.{lookUp}
+use Rattle.json_tree.specs.Inner.Members.{findIn}
 use Rattle.json_tree.specs.Integers.{decimal, goesOn, signed, sizeAt, wholeAt, integerAt}
-use Rattle.json_tree.specs.Tree.{scalarTree, fieldsOf, itemsOf, treeBy, treeAt, textTree, kindAt}
+use Rattle.json_tree.specs.Tree.{scalarTree, fieldsOf, itemsOf, treeBy, treeAt, textTree}
+use Rattle.json_tree.specs.Inner.Kinds.{kindAt}
 use Rattle.words.specs.Marks.{freeBusyOf, privacyOf}
 use Rattle.words.specs.Months.{monthWritten, monthOf}
 use Rattle.words.specs.Rules.{frequencyOf, weekdayOf, skipFault, rscaleFault}
-use Rattle.words.specs.Types.{isEvent, isRule, isNDay}
 use Rattle.date_time.specs.Local.{isLocal, fractionFault, secondsAt, localOf}
 use Rattle.date_time.specs.Parts.{dateAt, isTime, isReal, secondOfDay}
 use Rattle.date_time.specs.Picture.{meets, follows}
 use Rattle.date_time.specs.Utc.{endsInZ, isUtc}
-use Rattle.digits.specs.Digits.{twoAt, fourAt as fourAt-digits}
+use Rattle.digits.specs.Digits.{twoAt, fourAt}
 use Rattle.digits.specs.Fraction.{allDigits, nonZero, lastOf, endsInZero, legalFraction}
 use Rattle.digits.specs.Judged.{judged}
-use Rattle.duration.specs.Amount.{before, amountOf, capped}
+use Rattle.duration.specs.Amount.{before, amountOf}
+use Rattle.duration.specs.Inner.Capped.{capped}
 use Rattle.duration.specs.Length.{pointAt, daysOf, secondsOf, wholeOf, fractionOf, lengthOf}
 use Rattle.duration_grammar.specs.Grammar.{letterAt, unitAt, secondAt as secondAt-duration-grammar, minuteAt, hourAt, clockAt, timeAt, dayAt, weekAt, calAt, datedAt, durationAt, isDuration}
 use Rattle.duration_grammar.specs.Letter.{upper}
@@ -35,12 +39,12 @@ use Rattle.fault.specs.Fault.{lower}
 use Rattle.gregorian.specs.Days.{isDate, dayOf, fromMonth, fromYear, dateOf, weekdayOf as weekdayOf-gregorian}
 use Rattle.gregorian.specs.Month.{lengthIn, startIn, monthLength, monthStart, monthDay}
 use Rattle.gregorian.specs.Year.{isLeap, yearLength, leapYears, firstOfYear}
-use Rattle.event.specs.Event.{isType, isEvent as isEvent-event, missing, noEvent, detailsIn, eventIn, objectFault, eventFault, eventOf}
+use Rattle.event.specs.Event.{missing, noEvent, detailsIn, eventIn, objectFault, eventFault, eventOf}
 use Rattle.event.specs.Overrides.{patched, patchedStart, hasMark, nameFault, nameFaults, alone, excludedFault, patchIn, overrideOf, overridesIn, readOverrides}
 use Rattle.event.specs.Properties.{filled, readUid, readUpdated, dateTime, readStart, readUntil, named, readZone, readLength, readBusy, readBoolean, readPrivacy, readText}
 use Rattle.event.specs.Reading.{orWrong, optional, unsupported, readAll, atMost, limited}
 use Rattle.event.specs.Rules.{required, readFrequency, typed, atLeastOne, readCount, signedUpTo, readSigned, readWeekday, readNth, ndayIn, readNDay, readMonth, entriesOf, byList, readScale, readSkip, unsupportedLists, bothEnds, anyNth, nthUnder, maybe, ruleIn, readRule, readRules}
-use Rattle.event.specs.Values.{plain, word, listOf, member}
+use Rattle.event.specs.Values.{plain, word, listOf, member, isText, isType}
 
 pub record Case : Type 0 where
   pub text : String
@@ -86,5 +90,5 @@ cases =
     ∷ []
 
 pub worked : map (λ (c : Case). eventFault (ascii (c .text))) cases ≡ map (λ (c : Case). c .fault) cases
-unfolding cases run past isSpace isDigit spaceAt digitsAt someDigitsAt intAt fracAt powerAt expAt unsignedAt numberAt isHex hexAt isEscaped escapeAt charAt charsAt stringAt isTail tailsAt secondAt multiAt fourAt scalarAt afterAt firstAt colonAt nameAt elementsAt membersAt arrayOf objectOf valueOf valueAt arrayAt objectAt endAt textAt bytesAt rawAt same slashed ahead memberAt firstMemberAt nextMemberAt membersFrom membersOf elementAt firstElementAt nextElementAt elementsFrom elementsOf fieldNamed fieldsRepeat fieldsSlashed fieldsBad findIn lookUp decimal goesOn signed sizeAt wholeAt integerAt scalarTree fieldsOf itemsOf treeBy treeAt textTree kindAt freeBusyOf privacyOf monthWritten monthOf frequencyOf weekdayOf skipFault rscaleFault isEvent isRule isNDay isLocal fractionFault secondsAt localOf dateAt isTime isReal secondOfDay meets follows endsInZ isUtc twoAt fourAt-digits allDigits nonZero lastOf endsInZero legalFraction judged before amountOf capped pointAt daysOf secondsOf wholeOf fractionOf lengthOf letterAt unitAt secondAt-duration-grammar minuteAt hourAt clockAt timeAt dayAt weekAt calAt datedAt durationAt isDuration upper lower isDate dayOf fromMonth fromYear dateOf weekdayOf-gregorian lengthIn startIn monthLength monthStart monthDay isLeap yearLength leapYears firstOfYear isType isEvent-event missing noEvent detailsIn eventIn objectFault eventFault eventOf patched patchedStart hasMark nameFault nameFaults alone excludedFault patchIn overrideOf overridesIn readOverrides filled readUid readUpdated dateTime readStart readUntil named readZone readLength readBusy readBoolean readPrivacy readText orWrong optional unsupported readAll atMost limited required readFrequency typed atLeastOne readCount signedUpTo readSigned readWeekday readNth ndayIn readNDay readMonth entriesOf byList readScale readSkip unsupportedLists bothEnds anyNth nthUnder maybe ruleIn readRule readRules plain word listOf member
+unfolding cases run past isSpace isDigit spaceAt digitsAt someDigitsAt intAt fracAt powerAt expAt unsignedAt numberAt isHex hexAt isEscaped escapeAt charAt charsAt stringAt isTail tailsAt secondAt multiAt wordAt scalarAt afterAt firstAt colonAt nameAt elementsAt membersAt arrayOf objectOf valueOf valueAt arrayAt objectAt endAt textAt bytesAt rawAt same slashed ahead memberAt firstMemberAt nextMemberAt membersFrom membersOf elementAt firstElementAt nextElementAt elementsFrom elementsOf fieldNamed fieldsRepeat fieldsSlashed fieldsBad findIn lookUp decimal goesOn signed sizeAt wholeAt integerAt scalarTree fieldsOf itemsOf treeBy treeAt textTree kindAt freeBusyOf privacyOf monthWritten monthOf frequencyOf weekdayOf skipFault rscaleFault isLocal fractionFault secondsAt localOf dateAt isTime isReal secondOfDay meets follows endsInZ isUtc twoAt fourAt allDigits nonZero lastOf endsInZero legalFraction judged before amountOf capped pointAt daysOf secondsOf wholeOf fractionOf lengthOf letterAt unitAt secondAt-duration-grammar minuteAt hourAt clockAt timeAt dayAt weekAt calAt datedAt durationAt isDuration upper lower isDate dayOf fromMonth fromYear dateOf weekdayOf-gregorian lengthIn startIn monthLength monthStart monthDay isLeap yearLength leapYears firstOfYear missing noEvent detailsIn eventIn objectFault eventFault eventOf patched patchedStart hasMark nameFault nameFaults alone excludedFault patchIn overrideOf overridesIn readOverrides filled readUid readUpdated dateTime readStart readUntil named readZone readLength readBusy readBoolean readPrivacy readText orWrong optional unsupported readAll atMost limited required readFrequency typed atLeastOne readCount signedUpTo readSigned readWeekday readNth ndayIn readNDay readMonth entriesOf byList readScale readSkip unsupportedLists bothEnds anyNth nthUnder maybe ruleIn readRule readRules plain word listOf member isText isType
 worked = refl

@@ -1,32 +1,19 @@
 -- 01, "Reading the event": the event of a text that is past answers 1 to 4, and the lowest of 5 to 9 that applies to it.
 use Prim.Native.Nat.{ℕ}
 use mathlib.Core.Bool.{Bool, true, false, not, _||_}
-use mathlib.Core.List.{List, [], _∷_}
+use mathlib.Core.List.{List, []}
 use mathlib.Core.Option.{Option, none, some}
-use lib.Dec.{eqb}
 use Rattle.signed.specs.Choose.{if_then_else_}
 use Rattle.fault.specs.Fault.{lower}
-use Rattle.json_walk.specs.Strings.{same}
 use Rattle.json_tree.specs.Tree.{Json, Fields, textTree}
-use Rattle.rule.specs.Written.{RecurrenceRule}
-use Rattle.words.specs.declared.Privacy.{Privacy}
 use Rattle.words.specs.declared.Privacy.the-variants.{Public}
-use Rattle.event.specs.Ascii.{ascii}
-use Rattle.event.specs.Values.{string, object, member}
-use Rattle.event.specs.Types.{Text, Details, Override, Event}
-use Rattle.event.specs.Reading.{Reading, right, wrong, orWrong, optional, unsupported}
+use Rattle.json_text.specs.Ascii.{ascii}
+use Rattle.event.specs.Values.{object, member, isType}
+use Rattle.event.specs.Types.{Details, Event}
+use Rattle.event.specs.Reading.{Reading, orWrong, optional, unsupported}
 use Rattle.event.specs.Properties.{noLength, readUid, readUpdated, readStart, readZone, readLength, readBusy, readBoolean, readPrivacy, readText}
 use Rattle.event.specs.Rules.{required, readRules}
 use Rattle.event.specs.Overrides.{readOverrides}
-
--- "The top `@type` is compared byte by byte, so an escape in it answers 5."
-unfoldable pub isType : Option Text → Bool
-isType none = false
-isType (some t) = same (t .raw) (ascii "Event")
-
-unfoldable pub isEvent : Option Json → Bool
-isEvent none = false
-isEvent (some v) = isType (string v)
 
 unfoldable pub missing : Option Json → Bool
 missing none = true
@@ -35,7 +22,7 @@ missing (some v) = false
 -- 5: "`@type` is not `Event`; `uid`, `updated` or `start` is missing"
 unfoldable pub noEvent : Fields → Bool
 noEvent fields =
-    not (isEvent (member (ascii "@type") fields))
+    not (isType (ascii "Event") (member (ascii "@type") fields))
     || (missing (member (ascii "uid") fields) || (missing (member (ascii "updated") fields) || missing (member (ascii "start") fields)))
 
 -- The event's own details. Its start is read once for all.

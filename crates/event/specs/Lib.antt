@@ -1,4 +1,3 @@
-pub mod Ascii
 pub mod Types
 pub mod Values
 pub mod Reading

@@ -1,5 +1,5 @@
 -- 01, "Reading the event": `recurrenceOverrides`.
-use Prim.Native.Nat.{ℕ, zero, suc}
+use Prim.Native.Nat.{ℕ}
 use mathlib.Core.Bool.{Bool, true, false, _||_, _&&_, not}
 use mathlib.Core.List.{List, [], _∷_}
 use mathlib.Core.Option.{Option, none, some}
@@ -8,10 +8,10 @@ use Rattle.signed.specs.Choose.{if_then_else_}
 use Rattle.fault.specs.Fault.{lower}
 use Rattle.json_walk.specs.Strings.{same}
 use Rattle.json_tree.specs.Tree.{Json, Fields, noField, field}
-use Rattle.event.specs.Ascii.{ascii}
+use Rattle.json_text.specs.Ascii.{ascii}
 use Rattle.event.specs.Values.{isNull, object, member}
-use Rattle.event.specs.Types.{Text, Details, Override}
-use Rattle.event.specs.Reading.{Reading, right, wrong, orWrong, limited}
+use Rattle.event.specs.Types.{Details, Override}
+use Rattle.event.specs.Reading.{Reading, right, orWrong, limited}
 use Rattle.event.specs.Properties.{noLength, readStart, readLength, readBusy, readBoolean, readText, dateTime}
 
 -- A patched property: the event's own where the patch has none; "Null means the default or no words".

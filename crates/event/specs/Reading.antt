@@ -1,7 +1,6 @@
 -- A value that was read, with the lowest fault in it. 01: "7 to 9 are judged on what 6 let through": the lowest number is given, so every part
 -- is judged and the faults are joined.
 use Prim.Native.Nat.{ℕ}
-use mathlib.Core.Bool.{Bool}
 use mathlib.Core.List.{List, [], _∷_}
 use mathlib.Core.Option.{Option, none, some}
 use lib.Dec.{ltb}

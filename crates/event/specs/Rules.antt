@@ -1,14 +1,13 @@
 -- 01, "Rules of recurrence", its first paragraph: how a rule is read.
 use Prim.Native.Nat.{ℕ, zero, suc}
-use mathlib.Core.Bool.{Bool, true, false, _||_, _&&_, not}
+use mathlib.Core.Bool.{Bool, true, false, _||_, _&&_}
 use mathlib.Core.List.{List, [], _∷_}
 use mathlib.Core.Option.{Option, none, some}
-use lib.Dec.{eqb, leb}
+use lib.Dec.{leb}
 use lib.IntN.{ℤ, pos, negsuc, natAbs}
 use Rattle.signed.specs.Choose.{if_then_else_}
 use Rattle.fault.specs.Fault.{lower}
-use Rattle.json_walk.specs.Strings.{same}
-use Rattle.json_tree.specs.Tree.{Json, Fields, noField}
+use Rattle.json_tree.specs.Tree.{Json, Fields}
 use Rattle.rule.specs.declared.Frequency.{Frequency}
 use Rattle.rule.specs.declared.Frequency.the-variants.{Daily, Weekly, Monthly, Yearly}
 use Rattle.rule.specs.Written.{NDay, RecurrenceRule}
@@ -18,8 +17,8 @@ use Rattle.words.specs.declared.Named.{Named}
 use Rattle.words.specs.declared.Named.the-variants.{Number, Wrong}
 use Rattle.words.specs.Rules.{frequencyOf, weekdayOf, skipFault, rscaleFault}
 use Rattle.words.specs.Months.{monthOf}
-use Rattle.event.specs.Ascii.{ascii}
-use Rattle.event.specs.Values.{word, array, object, integer, member}
+use Rattle.json_text.specs.Ascii.{ascii}
+use Rattle.event.specs.Values.{word, array, object, integer, member, isType}
 use Rattle.event.specs.Properties.{readUntil}
 use Rattle.event.specs.Reading.{Reading, right, wrong, orWrong, optional, unsupported, readAll, limited}
 
@@ -41,7 +40,7 @@ readFrequency v = orWrong Yearly (λ raw. fromRate (frequencyOf raw)) (word v)
 
 -- "Each has `@type` `RecurrenceRule`", "`byDay` entries have `@type` `NDay`"
 unfoldable pub typed : List ℕ → Option Json → ℕ
-typed name v = required true (λ j. orWrong true (λ raw. if same raw name then right true else wrong true 6) (word j)) v .fault
+typed name v = if isType name v then 0 else 6
 
 -- "`interval` and `count` are at least 1"
 unfoldable pub atLeastOne : ℤ → Reading ℕ

@@ -1,5 +1,5 @@
 -- What is read of an event. Date-times are seconds from 1600-01-01T00:00:00.
-use Prim.Native.Nat.{ℕ, _+_, _*_}
+use Prim.Native.Nat.{ℕ}
 use mathlib.Core.Bool.{Bool}
 use mathlib.Core.List.{List}
 use mathlib.Core.Option.{Option}

@@ -5,13 +5,13 @@ use mathlib.Core.List.{List, [], _∷_}
 use mathlib.Core.Option.{Option, none, some}
 use lib.IntN.{ℤ, pos, negsuc}
 use Rattle.signed.specs.Choose.{if_then_else_}
-use Rattle.json_walk.specs.Strings.{slashed}
+use Rattle.json_walk.specs.Strings.{same, slashed}
 use Rattle.event.specs.Types.{Text}
 use Rattle.json_tree.specs.declared.Integer.{Integer}
 use Rattle.json_tree.specs.declared.Integer.the-variants.{Is, No}
 use Rattle.json_tree.specs.Finds
 use Rattle.json_tree.specs.Finds.{Value?, lookUp}
-use Rattle.json_tree.specs.Tree.{Json, Items, Fields, nullAt, falseAt, trueAt, numberOf, stringOf, arrayOf, objectOf, noItem, item, noField, field}
+use Rattle.json_tree.specs.Tree.{Json, Items, Fields, nullAt, falseAt, trueAt, numberOf, stringOf, arrayOf, objectOf, noItem, item}
 
 abbrev pub isNull : Json → Bool
 isNull (nullAt i) = true
@@ -93,3 +93,12 @@ asOption (Finds.some v) = some v
 
 unfoldable pub member : List ℕ → Fields → Option Json
 member name fields = asOption (lookUp name fields)
+
+-- Is a member the string of these bytes? "The top `@type` is compared byte by byte, so an escape in it answers 5."
+unfoldable pub isText : List ℕ → Option Text → Bool
+isText name none = false
+isText name (some t) = same (t .raw) name
+
+unfoldable pub isType : List ℕ → Option Json → Bool
+isType name none = false
+isType name (some v) = isText name (string v)

@@ -7,7 +7,7 @@ use Rattle.fault.specs.Fault.{lower}
 use Rattle.json_tree.specs.Tree.{Json, Fields, noField, textTree}
 use Rattle.words.specs.declared.Privacy.{Privacy}
 use Rattle.words.specs.declared.Privacy.the-variants.{Public}
-use Rattle.event.specs.Ascii.{ascii}
+use Rattle.json_text.specs.Ascii.{ascii}
 use Rattle.event.specs.Event.{detailsIn}
 use Rattle.event.specs.Properties.{readUid, readUpdated, readZone, readPrivacy}
 use Rattle.event.specs.Reading.{optional, unsupported}

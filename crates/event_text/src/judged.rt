@@ -5,12 +5,12 @@ ghost use mathlib.Core.List.{[]};
 ghost use mathlib.Core.Path.{_≡_};
 ghost use Rattle.json_ends.specs.Ends.{Ends};
 ghost use Rattle.json_tree.specs.Tree.{treeAt};
-ghost use Rattle.event.specs.Ascii.{ascii};
-ghost use Rattle.event.specs.Event.{isType, isEvent, missing, noEvent};
+ghost use Rattle.json_text.specs.Ascii.{ascii};
+ghost use Rattle.event.specs.Event.{missing, noEvent};
 ghost use Rattle.event.specs.Properties.{readUid, readUpdated};
 ghost use Rattle.event.specs.Reading.{unsupported};
 ghost use Rattle.event.specs.Rules.{required};
-ghost use Rattle.event.specs.Values.{string, member};
+ghost use Rattle.event.specs.Values.{string, member, isText, isType};
 ghost use Rattle.property.specs.From.{fieldsIn};
 ghost use Rattle.property.specs.Rows.{RowTo};
 use json_text::bytes::byte;
@@ -60,7 +60,7 @@ pub fn id_fault(text: &[u8], at: usize, row: &[usize]) -> u32
 
 // Is the value at a place the string `Event`?
 fn is_type(text: &[u8], at: usize) -> bool
-    ensures { λ r. ⌜ ((l : ℕ) → r ≡ isType (string (treeAt l (now (text .entry)) at))) ⌝ }
+    ensures { λ r. ⌜ ((l : ℕ) → r ≡ isText (ascii "Event") (string (treeAt l (now (text .entry)) at))) ⌝ }
 {
     if byte(text, at) != 0x22 {
         return false;
@@ -70,7 +70,7 @@ fn is_type(text: &[u8], at: usize) -> bool
 
 pub fn is_event(text: &[u8], ends: &[u32], at: usize) -> bool
     requires { ⌜ Ends (now text) (now ends) ⌝ }
-    ensures { λ r. ⌜ ((l : ℕ) → r ≡ isEvent (member (ascii "@type") (fieldsIn l (now (text .entry)) at))) ⌝ }
+    ensures { λ r. ⌜ ((l : ℕ) → r ≡ isType (ascii "Event") (member (ascii "@type") (fieldsIn l (now (text .entry)) at))) ⌝ }
 {
     match member(text, ends, at, b"@type") {
         Found::Here(m) => is_type(text, m.value),

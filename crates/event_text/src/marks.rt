@@ -4,7 +4,7 @@ ghost use mathlib.Core.Bool.{true, false};
 ghost use mathlib.Core.Path.{_≡_};
 ghost use Rattle.words.specs.declared.Privacy.the-variants.{Public};
 ghost use Rattle.property.specs.From.{fromFlag, fromSetting, fieldsIn};
-ghost use Rattle.event.specs.Ascii.{ascii};
+ghost use Rattle.json_text.specs.Ascii.{ascii};
 ghost use Rattle.event.specs.Properties.{fromStatus, readBusy, readBoolean, readPrivacy};
 ghost use Rattle.event.specs.Reading.{optional};
 ghost use Rattle.event.specs.Values.{member};

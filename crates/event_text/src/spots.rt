@@ -3,7 +3,7 @@ ghost use Prim.Native.Nat.{ℕ, _+_};
 ghost use mathlib.Core.Option.{none};
 ghost use mathlib.Core.Path.{_≡_};
 ghost use Rattle.property.specs.From.{fromZone, fromPassage, fieldsIn};
-ghost use Rattle.event.specs.Ascii.{ascii};
+ghost use Rattle.json_text.specs.Ascii.{ascii};
 ghost use Rattle.event.specs.Properties.{readZone, readText};
 ghost use Rattle.event.specs.Reading.{optional};
 ghost use Rattle.event.specs.Values.{member};

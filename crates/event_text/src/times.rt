@@ -1,7 +1,7 @@
 // When the event starts and how long it lasts.
 ghost use Prim.Native.Nat.{ℕ};
 ghost use mathlib.Core.Path.{_≡_};
-ghost use Rattle.event.specs.Ascii.{ascii};
+ghost use Rattle.json_text.specs.Ascii.{ascii};
 ghost use Rattle.event.specs.Properties.{fromLocal, fromSpan, noLength, readStart, readLength};
 ghost use Rattle.event.specs.Reading.{optional};
 ghost use Rattle.event.specs.Rules.{required};

@@ -8,13 +8,14 @@ use native.Mathlib.Omega.{arith}
 use borrow.Author.Tests.{ltb-true, ltb-false, leb-true, leb-false, eqb-false, lt-ltb, le-ltb, lt-leb}
 use lib.Dec.{eqb, ltb, leb}
 use lib.ListN.{length, getD, List·getD-eq-default}
-use Rattle.json_text.specs.Choice.{if_then_else_}
+use Rattle.signed.specs.Choose.{if_then_else_}
 use Rattle.json_text.specs.Bytes.{byte, spaceAt, next}
 use Rattle.json_text.specs.declared.Read.{Read}
 use Rattle.json_text.specs.declared.Read.the-variants.{To, Bad, Deep}
 use Rattle.json_value.specs.Values.{levels}
 use Rattle.json_names.specs.Names.{faultAt}
 use Rattle.json.specs.Answer.{pairedAnswer}
+use Rattle.json.proofs.Faulted.{text-tree}
 use Rattle.json.specs.Slashes.{differ, lacksD, isD, front, NoFront, isTo}
 use Rattle.json.specs.Surrogates.{hexValue, unitAt, isFirst, isSecond, pairAt, escapedAt, pairsAt}
 
@@ -170,6 +171,6 @@ free-pairs s h = sym (free-from s h (length s) 0)
 -- The answer asks no more of a pass over escapes.
 pub paired-answer : (s : List ℕ) (r : Read) → pairedAnswer s r ≡ (if isTo r then (if faultAt levels s (spaceAt s 0) then 4 else 0) else 3)
 unfolding pairedAnswer
-paired-answer s (To i) = refl
+paired-answer s (To i) = rw (text-tree s)
 paired-answer s Bad = refl
 paired-answer s Deep = refl

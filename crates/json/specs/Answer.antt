@@ -3,12 +3,12 @@ use Prim.Native.Nat.{ℕ}
 use mathlib.Core.List.{List}
 use lib.Dec.{ltb}
 use lib.ListN.{length}
-use Rattle.json_text.specs.Choice.{if_then_else_}
-use Rattle.json_text.specs.Bytes.{spaceAt}
+use Rattle.signed.specs.Choose.{if_then_else_}
 use Rattle.json_text.specs.declared.Read.{Read}
 use Rattle.json_text.specs.declared.Read.the-variants.{To, Bad, Deep}
-use Rattle.json_value.specs.Values.{textAt, levels}
-use Rattle.json_names.specs.Names.{faultAt}
+use Rattle.json_value.specs.Values.{textAt}
+use Rattle.json_tree.specs.Tree.{textTree}
+use Rattle.json_tree.specs.Faults.{faulty}
 use Rattle.json.specs.Surrogates.{pairsAt}
 
 -- A text longer than this many bytes answers 1.
@@ -18,7 +18,7 @@ limit = 65536
 -- A JSON text whose escaped surrogates have their partners, or not: 4 two equal member names in one object, or a
 -- backslash in any member name; 3 an escaped surrogate without its partner.
 unfoldable pub pairedAnswer : List ℕ → Read → ℕ
-pairedAnswer s (To i) = if faultAt levels s (spaceAt s 0) then 4 else 0
+pairedAnswer s (To i) = if faulty (textTree s) then 4 else 0
 pairedAnswer s Bad = 3
 pairedAnswer s Deep = 3
 

@@ -1,13 +1,12 @@
 -- Escaped surrogates, RFC 8259, section 7: a character outside the Basic Multilingual Plane is escaped as a
 -- 12-character sequence, the UTF-16 surrogate pair. In a JSON text a backslash stands only at the front of an
 -- escape in a string, so the text is gone through from left to right, escape by escape.
-use Prim.Native.Nat.{ℕ, zero, suc, _+_, _-_, _*_, _≤_}
-use mathlib.Core.Bool.{Bool, true, false}
+use Prim.Native.Nat.{ℕ, zero, suc, _+_, _-_, _*_}
+use mathlib.Core.Bool.{Bool, false}
 use mathlib.Core.List.{List}
-use mathlib.Core.Path.{_≡_}
 use lib.Dec.{eqb, ltb, leb}
 use lib.ListN.{length}
-use Rattle.json_text.specs.Choice.{if_then_else_}
+use Rattle.signed.specs.Choose.{if_then_else_}
 use Rattle.json_text.specs.Bytes.{byte, next}
 use Rattle.json_text.specs.declared.Read.{Read}
 use Rattle.json_text.specs.declared.Read.the-variants.{To, Bad}
@@ -22,10 +21,6 @@ hexValue b =
     if ltb b 0x61 then 0 else
     if leb b 0x66 then b - 0x57 else
     0
-
-pub record HexValue (b r : ℕ) : Type 0 where
-  pub is : r ≡ hexValue b
-  pub small : r ≤ 15
 
 -- The number of the 4HEXDIG at a place.
 unfoldable pub unitAt : List ℕ → ℕ → ℕ

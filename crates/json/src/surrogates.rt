@@ -3,7 +3,8 @@
 ghost use mathlib.Core.Path.{_≡_};
 ghost use Prim.Native.Nat.{_≤_, _<_};
 ghost use lib.ListN.{length};
-ghost use Rattle.json.specs.Surrogates.{HexValue, unitAt, isFirst, isSecond, partnerAt, pairAt, escapedAt, pairsAt};
+ghost use Rattle.json.specs.Surrogates.{unitAt, isFirst, isSecond, partnerAt, pairAt, escapedAt, pairsAt};
+ghost use Rattle.json.specs.Inner.Hex.{HexValue};
 use json_text::Read;
 use json_text::bytes::byte;
 

@@ -2,7 +2,8 @@
 ghost use mathlib.Core.Path.{_≡_};
 ghost use Prim.Native.Nat.{_<_};
 ghost use lib.ListN.{length};
-ghost use Rattle.json_value.specs.Values.{valueAt, arrayAt, objectAt};
+ghost use Rattle.json_value.specs.Values.{valueAt};
+ghost use Rattle.json_value.specs.Inner.Groups.{arrayAt, objectAt};
 ghost use Rattle.json_ends.specs.Ends.{Ends};
 ghost use Rattle.json_ends.specs.Found.{Found};
 use crate::keeping::name;

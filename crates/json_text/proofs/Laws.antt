@@ -8,7 +8,7 @@ use native.Mathlib.Omega.{arith}
 use lib.ListN.{length, getD, drop, drop-of-length-le, List·getD-eq-default}
 use lib.Dec.{eqb}
 use lib.Seq.{drop-cons}
-use Rattle.json_text.specs.Choice.{if_then_else_}
+use Rattle.signed.specs.Choose.{if_then_else_}
 use Rattle.json_text.specs.Bytes.{next, run, past, isSpace, isDigit, spaceAt, digitsAt}
 use Rattle.json_text.specs.Utf8.{isTail, tailsAt}
 use Rattle.json_text.specs.Strings.{isHex, isEscaped, charAt, charsAt}

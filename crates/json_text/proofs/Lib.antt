@@ -1,3 +1,4 @@
+pub mod WordLaws
 pub mod Laws
 pub mod Skip
 pub mod Blocks

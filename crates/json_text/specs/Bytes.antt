@@ -1,22 +1,16 @@
 -- Bytes of a text by their place, the answer of a reader, and runs of bytes of one sort.
-use Prim.Native.Nat.{ℕ, suc, _+_, _-_, _*_, _≤_}
+use Prim.Native.Nat.{ℕ, suc, _+_}
 use mathlib.Core.Bool.{Bool, true, false}
 use mathlib.Core.List.{List, [], _∷_}
-use mathlib.Core.Path.{_≡_}
-use lib.ListN.{length, getD, drop}
+use lib.ListN.{getD, drop}
 use lib.Dec.{eqb, ltb, leb}
-use Rattle.json_text.specs.Choice.{if_then_else_}
+use Rattle.signed.specs.Choose.{if_then_else_}
 use Rattle.json_text.specs.declared.Read.{Read}
 use Rattle.json_text.specs.declared.Read.the-variants.{To, Bad, Deep}
 
 -- The byte at a place. Past the end it is 0, which no rule of the grammar takes.
 abbrev pub byte : List ℕ → ℕ → ℕ
 byte s i = getD s i 0
-
--- What is known of the byte r that was read at the place i: which it is, and that it is 0 past the end.
-pub record ByteAt (s : List ℕ) (i r : ℕ) : Type 0 where
-  pub is : r ≡ getD s i 0
-  pub within : r ≤ 255 * (length s - i)
 
 -- One rule after another: the second starts where the first ended.
 abbrev pub next : Read → (ℕ → Read) → Read

@@ -1,9 +1,8 @@
 -- Numbers, RFC 8259, section 6: number = [ minus ] int [ frac ] [ exp ]
 use Prim.Native.Nat.{ℕ, _+_}
-use mathlib.Core.Bool.{Bool, true, false}
 use mathlib.Core.List.{List}
-use lib.Dec.{eqb, ltb, leb}
-use Rattle.json_text.specs.Choice.{if_then_else_}
+use lib.Dec.{eqb}
+use Rattle.signed.specs.Choose.{if_then_else_}
 use Rattle.json_text.specs.Bytes.{byte, next, isDigit, digitsAt}
 use Rattle.json_text.specs.declared.Read.{Read}
 use Rattle.json_text.specs.declared.Read.the-variants.{To, Bad}

@@ -1,6 +1,7 @@
 // Bytes by their place, and runs of white space and digits.
 ghost use mathlib.Core.Path.{_≡_};
-ghost use Rattle.json_text.specs.Bytes.{ByteAt, isSpace, isDigit, spaceAt, digitsAt};
+ghost use Rattle.json_text.specs.Bytes.{isSpace, isDigit, spaceAt, digitsAt};
+ghost use Rattle.json_text.specs.Inner.Reads.{ByteAt};
 
 // The byte at a place; 0 past the end, so that only the reader of the whole text asks for its length.
 pub fn byte(text: &[u8], i: usize) -> u8

@@ -1,7 +1,8 @@
 // Literal names, and the values that hold no other.
+ghost use mathlib.Core.List.{[], _∷_};
 ghost use mathlib.Core.Path.{_≡_};
 ghost use Prim.Native.Nat.{_<_};
-ghost use Rattle.json_text.specs.Words.{fourAt, scalarAt};
+ghost use Rattle.json_text.specs.Words.{wordAt, scalarAt};
 use crate::Read;
 use crate::bytes::byte;
 use crate::numbers::number;
@@ -10,7 +11,7 @@ use crate::strings::string;
 // Four given bytes.
 pub fn four(text: &[u8], at: usize, a: u8, b: u8, c: u8, d: u8) -> Read
     requires { ⌜ (0 < a) × (0 < b) × (0 < c) × (0 < d) ⌝ }
-    ensures { λ r. ⌜ r ≡ fourAt a b c d (now (text .entry)) at ⌝ }
+    ensures { λ r. ⌜ r ≡ wordAt (a ∷ b ∷ c ∷ d ∷ []) (now (text .entry)) at ⌝ }
 {
     if byte(text, at) != a {
         return Read::Bad;

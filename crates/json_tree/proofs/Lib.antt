@@ -1,4 +1,3 @@
-pub mod Faulted
 pub mod Numbers
 pub mod Trees
 pub mod Walked

@@ -7,9 +7,10 @@ use native.Mathlib.Numerals.{add-one}
 use native.Mathlib.Omega.{arith}
 use lib.ListN.{length, getD, drop}
 use lib.Seq.{drop-cons}
-use Rattle.json_text.specs.Choice.{if_then_else_}
+use Rattle.signed.specs.Choose.{if_then_else_}
 use Rattle.json_text.specs.Bytes.{isDigit}
-use Rattle.json_tree.specs.Integers.{decimal, largest, Capped}
+use Rattle.json_tree.specs.Integers.{decimal, largest}
+use Rattle.json_tree.specs.Inner.Capped.{Capped}
 
 pub decimal-more : (v : ℕ) (s : List ℕ) (i : ℕ) → i < length s → isDigit (getD s i 0) ≡ true
     → decimal (v * 10 + (getD s i 0 - 0x30)) (drop (i + 1) s) ≡ decimal v (drop i s)

@@ -4,15 +4,17 @@ use mathlib.Core.Bool.{Bool, true, false}
 use mathlib.Core.List.{List, [], _∷_}
 use mathlib.Core.Path.{_≡_, refl}
 use lib.Dec.{eqb}
-use Rattle.json_text.specs.Choice.{if_then_else_}
+use Rattle.signed.specs.Choose.{if_then_else_}
 use Rattle.json_text.specs.Bytes.{byte}
 use Rattle.json_text.specs.Strings.{stringAt}
 use Rattle.json_walk.specs.Walk.{membersOf, elementsOf}
 use Rattle.json_walk.specs.Strings.{rawAt, same}
 use Rattle.json_walk.specs.declared.Member.{Member}
-use Rattle.json_tree.specs.Tree.{Json, Fields, Items, noField, noItem, objectOf, arrayOf, stringOf, numberOf, endOf, scalarTree, fieldsOf, itemsOf, treeBy, treeAt, kindOf, placeOf, kindAt}
+use Rattle.json_tree.specs.Tree.{Json, Fields, Items, noField, noItem, objectOf, arrayOf, stringOf, numberOf, endOf, scalarTree, fieldsOf, itemsOf, treeBy, treeAt}
+use Rattle.json_tree.specs.Inner.Kinds.{kindOf, placeOf, kindAt}
 use Rattle.json_tree.specs.Integers.{integerAt}
-use Rattle.json_tree.specs.Finds.{findIn, lookUp, valueFound}
+use Rattle.json_tree.specs.Finds.{lookUp}
+use Rattle.json_tree.specs.Inner.Members.{findIn, valueFound}
 
 -- A function goes into a choice.
 pub choose : {A B : Type 0} (f : A → B) (c : Bool) (a b : A) → f (if c then a else b) ≡ (if c then f a else f b)

@@ -9,7 +9,8 @@ use Rattle.json_text.specs.Bytes.{next}
 use Rattle.json_text.specs.Strings.{stringAt}
 use Rattle.json_text.specs.declared.Read.{Read}
 use Rattle.json_text.specs.declared.Read.the-variants.{To, Bad, Deep}
-use Rattle.json_value.specs.Values.{afterAt, firstAt, colonAt, nameAt, nextItem, membersAt, elementsAt, arrayOf, objectOf, valueAt, objectAt, arrayAt, levels}
+use Rattle.json_value.specs.Values.{afterAt, firstAt, colonAt, nameAt, nextItem, membersAt, elementsAt, arrayOf, objectOf, valueAt, levels}
+use Rattle.json_value.specs.Inner.Groups.{objectAt, arrayAt}
 use Rattle.json_value.specs.declared.Item.{Item}
 use Rattle.json_value.specs.declared.Item.the-variants.{More, Done, Wrong}
 use Rattle.json_walk.specs.Walk.{memberTo, memberAt, elementTo, elementAt}

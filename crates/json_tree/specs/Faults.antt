@@ -1,8 +1,8 @@
--- Faults of member names, about the tree: two equal names in one object, or a backslash in a name, anywhere.
+-- 01, 4: "two equal member names in one object, or a backslash in any member name".
 use Prim.Native.Nat.{ℕ}
 use mathlib.Core.Bool.{Bool, true, false}
 use mathlib.Core.List.{List}
-use Rattle.json_text.specs.Choice.{if_then_else_}
+use Rattle.signed.specs.Choose.{if_then_else_}
 use Rattle.json_walk.specs.Strings.{same, slashed}
 use Rattle.json_tree.specs.Tree.{Json, Items, Fields, nullAt, falseAt, trueAt, numberOf, stringOf, arrayOf, objectOf, noItem, item, noField, field}
 

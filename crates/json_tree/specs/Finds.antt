@@ -1,18 +1,9 @@
 -- A member of an object by its name.
 use Prim.Native.Nat.{ℕ}
-use mathlib.Core.Bool.{Bool, true, false}
-use mathlib.Core.List.{List, [], _∷_}
-use Rattle.json_text.specs.Choice.{if_then_else_}
-use Rattle.json_walk.specs.Strings.{rawAt, same}
-use Rattle.json_walk.specs.declared.Member.{Member}
+use mathlib.Core.List.{List}
+use Rattle.signed.specs.Choose.{if_then_else_}
+use Rattle.json_walk.specs.Strings.{same}
 use Rattle.json_tree.specs.Tree.{Json, Fields, noField, field}
-use Rattle.json_tree.specs.declared.Found.{Found}
-use Rattle.json_tree.specs.declared.Found.the-variants.{Here, Missing}
-
--- The first of the members whose name is x.
-unfoldable pub findIn : List ℕ → List ℕ → List Member → Found
-findIn s x [] = Missing
-findIn s x (m ∷ ms) = let rest = findIn s x ms in if same (rawAt s (m .name) (m .stop)) x then Here m else rest
 
 -- The same in the tree: the value of the field of that name.
 pub data Value? : Type 0 where
@@ -22,8 +13,3 @@ pub data Value? : Type 0 where
 unfoldable pub lookUp : List ℕ → Fields → Value?
 lookUp x noField = none
 lookUp x (field at name value fields) = let rest = lookUp x fields in if same name x then some value else rest
-
--- What was found, as a tree.
-abbrev pub valueFound : (ℕ → Json) → Found → Value?
-valueFound tree (Here m) = some (tree (m .value))
-valueFound tree Missing = none

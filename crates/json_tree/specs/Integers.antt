@@ -1,11 +1,10 @@
 -- Integers: optional minus and digits by JSON's grammar, no fraction or exponent, from -(2^53-1) to 2^53-1; -0 is 0.
-use Prim.Native.Nat.{ℕ, _+_, _-_, _*_, _≤_, _<_}
-use mathlib.Core.Path.{_≡_}
+use Prim.Native.Nat.{ℕ, _+_, _-_, _*_}
 use mathlib.Core.Bool.{Bool, true, false}
 use mathlib.Core.List.{List, [], _∷_}
 use lib.Dec.{eqb, leb}
 use lib.ListN.{drop}
-use Rattle.json_text.specs.Choice.{if_then_else_}
+use Rattle.signed.specs.Choose.{if_then_else_}
 use Rattle.json_text.specs.Bytes.{byte, isDigit, digitsAt}
 use Rattle.json_tree.specs.declared.Integer.{Integer}
 use Rattle.json_tree.specs.declared.Integer.the-variants.{Is, No}
@@ -43,12 +42,3 @@ wholeAt below s i = if isDigit (byte s i) then sizeAt below s i else No
 -- The integer at a place of a JSON text.
 unfoldable pub integerAt : List ℕ → ℕ → Integer
 integerAt s i = if eqb (byte s i) 0x2D then wholeAt true s (i + 1) else wholeAt false s i
-
--- What the reader of a digit, and of digits, answers: a number that is larger than the largest only as such.
-pub record DigitValue (b r : ℕ) : Type 0 where
-  pub is : r ≡ b - 0x30
-  pub within : r ≤ 207
-
-pub record Capped (d r : ℕ) : Type 0 where
-  pub small : r ≤ largest → r ≡ d
-  pub large : largest < r → largest < d

@@ -2,3 +2,4 @@ pub mod Tree
 pub mod Finds
 pub mod Integers
 pub mod Faults
+pub mod Inner

@@ -1,10 +1,9 @@
 -- A JSON text as a tree of values. Each value has its kind and its place; a string and a name have the raw bytes
 -- between their quotes, a number its integer where it is one that is read.
 use Prim.Native.Nat.{ℕ, zero, suc}
-use mathlib.Core.Bool.{Bool, true, false}
 use mathlib.Core.List.{List, [], _∷_}
 use lib.Dec.{eqb}
-use Rattle.json_text.specs.Choice.{if_then_else_}
+use Rattle.signed.specs.Choose.{if_then_else_}
 use Rattle.json_text.specs.Bytes.{byte, spaceAt}
 use Rattle.json_text.specs.Strings.{stringAt}
 use Rattle.json_text.specs.declared.Read.{Read}
@@ -16,8 +15,6 @@ use Rattle.json_walk.specs.declared.Member.{Member}
 use Rattle.json_walk.specs.declared.Element.{Element}
 use Rattle.json_tree.specs.Integers.{integerAt}
 use Rattle.json_tree.specs.declared.Integer.{Integer}
-use Rattle.json_tree.specs.declared.Kind.{Kind}
-use Rattle.json_tree.specs.declared.Kind.the-variants as kind
 
 -- A value with its place; an object's field is a name with its place and its raw bytes, and a value.
 mutual
@@ -77,33 +74,3 @@ treeAt (suc l) s i = treeBy (fieldsOf (λ v. treeAt l s v) s (membersOf s i)) (i
 -- The tree of a whole JSON text: no array or object of it lies deeper than 16 levels.
 unfoldable pub textTree : List ℕ → Json
 textTree s = treeAt levels s (spaceAt s 0)
-
--- The kind and the place of a value.
-abbrev pub kindOf : Json → Kind
-kindOf (nullAt i) = kind.Null
-kindOf (falseAt i) = kind.False
-kindOf (trueAt i) = kind.True
-kindOf (numberOf i n) = kind.Number
-kindOf (stringOf i raw) = kind.String
-kindOf (arrayOf i items) = kind.Array
-kindOf (objectOf i fields) = kind.Object
-
-abbrev pub placeOf : Json → ℕ
-placeOf (nullAt i) = i
-placeOf (falseAt i) = i
-placeOf (trueAt i) = i
-placeOf (numberOf i n) = i
-placeOf (stringOf i raw) = i
-placeOf (arrayOf i items) = i
-placeOf (objectOf i fields) = i
-
--- The kind of the value at a place, by its first byte.
-unfoldable pub kindAt : List ℕ → ℕ → Kind
-kindAt s i =
-    if eqb (byte s i) 0x7B then kind.Object else
-    if eqb (byte s i) 0x5B then kind.Array else
-    if eqb (byte s i) 0x22 then kind.String else
-    if eqb (byte s i) 0x66 then kind.False else
-    if eqb (byte s i) 0x6E then kind.Null else
-    if eqb (byte s i) 0x74 then kind.True else
-    kind.Number

@@ -4,7 +4,7 @@ ghost use Prim.Native.Nat.{_<_};
 ghost use lib.ListN.{length};
 ghost use Rattle.json_ends.specs.Ends.{Ends};
 ghost use Rattle.json_walk.specs.Walk.{membersOf};
-ghost use Rattle.json_tree.specs.Finds.{findIn};
+ghost use Rattle.json_tree.specs.Inner.Members.{findIn};
 use crate::Found;
 use json_ends::objects::first_member;
 use json_ends::objects::next_member;

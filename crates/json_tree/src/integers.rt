@@ -1,7 +1,8 @@
 // Integers from -(2^53-1) to 2^53-1, without fraction or exponent.
 ghost use mathlib.Core.Path.{_≡_};
 ghost use lib.ListN.{drop};
-ghost use Rattle.json_tree.specs.Integers.{DigitValue, Capped, decimal, goesOn, signed, sizeAt, wholeAt, integerAt};
+ghost use Rattle.json_tree.specs.Integers.{decimal, goesOn, signed, sizeAt, wholeAt, integerAt};
+ghost use Rattle.json_tree.specs.Inner.Capped.{DigitValue, Capped};
 use crate::Integer;
 use json_text::bytes::byte;
 use json_text::bytes::digits;

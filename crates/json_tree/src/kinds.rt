@@ -1,6 +1,6 @@
 // The kind of a value, by its first byte.
 ghost use mathlib.Core.Path.{_≡_};
-ghost use Rattle.json_tree.specs.Tree.{kindAt};
+ghost use Rattle.json_tree.specs.Inner.Kinds.{kindAt};
 use crate::Kind;
 use json_text::bytes::byte;
 

@@ -8,7 +8,8 @@ use lib.ListN.{length}
 use Rattle.json_text.specs.Bytes.{next}
 use Rattle.json_text.specs.declared.Read.{Read}
 use Rattle.json_text.specs.declared.Read.the-variants.{To, Bad, Deep}
-use Rattle.json_value.specs.Values.{afterAt, firstAt, nameAt, nextItem, elementsAt, membersAt, arrayOf, objectOf, valueOf, valueAt, arrayAt, objectAt}
+use Rattle.json_value.specs.Values.{afterAt, firstAt, nameAt, nextItem, elementsAt, membersAt, arrayOf, objectOf, valueOf, valueAt}
+use Rattle.json_value.specs.Inner.Groups.{arrayAt, objectAt}
 
 pub elements-step : (n : ℕ) → 0 < n → (value : ℕ → Read) (s : List ℕ) (i : ℕ)
     → elementsAt value n s i ≡ next (value i) (λ j. nextItem (afterAt 0x5D s j) (λ k. elementsAt value (n - 1) s k))

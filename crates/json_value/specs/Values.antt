@@ -1,10 +1,9 @@
 -- Values, RFC 8259, sections 2 to 5: the structural characters, arrays, objects, and the whole text.
 use Prim.Native.Nat.{ℕ, zero, suc, _+_}
-use mathlib.Core.Bool.{Bool, true, false}
 use mathlib.Core.List.{List}
 use lib.ListN.{length}
 use lib.Dec.{eqb}
-use Rattle.json_text.specs.Choice.{if_then_else_}
+use Rattle.signed.specs.Choose.{if_then_else_}
 use Rattle.json_text.specs.Bytes.{byte, next, spaceAt}
 use Rattle.json_text.specs.Strings.{stringAt}
 use Rattle.json_text.specs.Words.{scalarAt}
@@ -73,14 +72,6 @@ valueOf object array s i =
 unfoldable pub valueAt : ℕ → List ℕ → ℕ → Read
 valueAt zero s i = valueOf (λ k. Deep) (λ k. Deep) s i
 valueAt (suc l) s i = valueOf (λ k. objectOf (λ v. valueAt l s v) s k) (λ k. arrayOf (λ v. valueAt l s v) s k) s i
-
-unfoldable pub arrayAt : ℕ → List ℕ → ℕ → Read
-arrayAt zero s i = Deep
-arrayAt (suc l) s i = arrayOf (λ v. valueAt l s v) s i
-
-unfoldable pub objectAt : ℕ → List ℕ → ℕ → Read
-objectAt zero s i = Deep
-objectAt (suc l) s i = objectOf (λ v. valueAt l s v) s i
 
 -- The end of the text.
 unfoldable pub endAt : List ℕ → ℕ → Read

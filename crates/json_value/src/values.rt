@@ -2,7 +2,8 @@
 ghost use mathlib.Core.Path.{_≡_};
 ghost use Prim.Native.Nat.{_<_};
 ghost use lib.ListN.{length};
-ghost use Rattle.json_value.specs.Values.{valueAt, arrayAt, objectAt};
+ghost use Rattle.json_value.specs.Values.{valueAt};
+ghost use Rattle.json_value.specs.Inner.Groups.{arrayAt, objectAt};
 use crate::Item;
 use crate::items::after;
 use crate::items::first;

@@ -10,8 +10,9 @@ use lib.Dec.{eqb, ltb}
 use lib.ListN.{length, getD, length-append, List·getD-eq-default}
 use lib.Seq.{append-snoc, getD-append-seam}
 use borrow.Author.Tests.{lt-ltb, le-ltb, ne-eqb}
-use Rattle.json_text.specs.Choice.{if_then_else_}
-use Rattle.json_walk.specs.Strings.{bytesAt, rawAt, same, slashed, ahead, within}
+use Rattle.signed.specs.Choose.{if_then_else_}
+use Rattle.json_walk.specs.Strings.{bytesAt, rawAt, same, slashed}
+use Rattle.json_walk.specs.Inner.Within.{ahead, within}
 
 -- Past the end all places are alike: 0 and 0 again.
 bytes-past : (n : ℕ) (s : List ℕ) (i j : ℕ) → length s ≤ i → length s ≤ j → bytesAt n s i ≡ bytesAt n s j

@@ -3,9 +3,7 @@ use Prim.Native.Nat.{ℕ, zero, suc, _+_, _-_}
 use mathlib.Core.Bool.{Bool, true, false}
 use mathlib.Core.List.{List, [], _∷_}
 use lib.Dec.{eqb}
-use lib.ListN.{length}
-use lib.Dec.{ltb}
-use Rattle.json_text.specs.Choice.{if_then_else_}
+use Rattle.signed.specs.Choose.{if_then_else_}
 use Rattle.json_text.specs.Bytes.{byte}
 
 -- n bytes from a place on
@@ -28,11 +26,3 @@ same (a ∷ l) (b ∷ bs) = if eqb a b then same l bs else false
 unfoldable pub slashed : List ℕ → Bool
 slashed [] = false
 slashed (b ∷ bs) = if eqb b 0x5C then true else slashed bs
-
--- The place after i, and past the end of the text i itself: all bytes there are 0.
-unfoldable pub ahead : List ℕ → ℕ → ℕ
-ahead s i = if ltb i (length s) then i + 1 else i
-
--- How many bytes stand between the quotes of a string from k to j.
-abbrev pub within : ℕ → ℕ → ℕ
-within k j = j - k - 2

@@ -1,7 +1,8 @@
 // The raw bytes of strings: compared, and looked through for a backslash.
 ghost use mathlib.Core.Path.{_≡_};
 ghost use Prim.Native.Nat.{_-_};
-ghost use Rattle.json_walk.specs.Strings.{bytesAt, rawAt, same, slashed, ahead, within};
+ghost use Rattle.json_walk.specs.Strings.{bytesAt, rawAt, same, slashed};
+ghost use Rattle.json_walk.specs.Inner.Within.{ahead, within};
 use json_text::bytes::byte;
 
 // The place after i; past the end of the text i itself.

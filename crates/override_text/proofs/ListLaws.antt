@@ -9,7 +9,7 @@ use native.Mathlib.Omega.{arith}
 use lib.Dec.{eqb}
 use lib.ListN.{length, getD, set, take, length-set, length-map}
 use lib.Seq.{sets, take-nil}
-use Rattle.json_text.specs.Choice.{if_then_else_}
+use Rattle.signed.specs.Choose.{if_then_else_}
 use Rattle.json_text.specs.Bytes.{byte}
 use Rattle.json_walk.specs.Strings.{rawAt}
 use Rattle.json_walk.specs.Walk.{firstMemberAt, nextMemberAt, membersFrom, membersOf}

@@ -8,7 +8,8 @@ use native.Mathlib.Omega.{arith}
 use lib.Dec.{eqb}
 use lib.ListN.{length, getD}
 use Rattle.fault.specs.Fault.{lower}
-use Rattle.json_walk.specs.Strings.{bytesAt, rawAt, ahead}
+use Rattle.json_walk.specs.Strings.{bytesAt, rawAt}
+use Rattle.json_walk.specs.Inner.Within.{ahead}
 use Rattle.json_walk.specs.Walk.{firstMemberAt, nextMemberAt, membersFrom, membersOf}
 use Rattle.json_walk.specs.declared.Member.{Member}
 use Rattle.json_walk.specs.declared.MemberStep.{MemberStep}

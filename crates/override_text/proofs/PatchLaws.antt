@@ -10,7 +10,7 @@ use Rattle.fault.specs.Fault.{lower}
 use Rattle.json_text.specs.Bytes.{byte}
 use Rattle.json_tree.specs.Tree.{Json, Fields, treeAt, treeBy, scalarTree}
 use Rattle.json_tree.proofs.Trees.{choose, always, object-tree}
-use Rattle.event.specs.Ascii.{ascii}
+use Rattle.json_text.specs.Ascii.{ascii}
 use Rattle.event.specs.Types.{Text, Length, Details, Override}
 use Rattle.event.specs.Values.{isNull, member, object}
 use Rattle.event.specs.Reading.{Reading, right, wrong, orWrong}

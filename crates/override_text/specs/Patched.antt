@@ -4,7 +4,7 @@ use mathlib.Core.Bool.{Bool, true, false}
 use mathlib.Core.List.{List}
 use mathlib.Core.Option.{Option, none}
 use Rattle.json_tree.specs.Tree.{treeAt}
-use Rattle.event.specs.Ascii.{ascii}
+use Rattle.json_text.specs.Ascii.{ascii}
 use Rattle.event.specs.Types.{Text, Length, Details, Override}
 use Rattle.event.specs.Values.{member, object}
 use Rattle.event.specs.Reading.{Reading, orWrong}

@@ -8,7 +8,7 @@ use native.Mathlib.Decide.{decLt}
 use lib.Dec.{eqb, ltb}
 use lib.ListN.{length, getD, List·getD-eq-default}
 use borrow.Author.Tests.{eqb-true}
-use Rattle.json_text.specs.Choice.{if_then_else_}
+use Rattle.signed.specs.Choose.{if_then_else_}
 use Rattle.json_text.specs.Bytes.{byte, next}
 use Rattle.json_text.specs.Utf8.{isTail, tailsAt, secondAt, multiAt}
 use Rattle.json_text.specs.Strings.{isHex, hexAt, isEscaped, escapeAt, charAt, charsAt, stringAt}

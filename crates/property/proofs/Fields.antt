@@ -6,7 +6,7 @@ use mathlib.Core.Option.{Option, none, some}
 use mathlib.Core.Path.{_≡_, refl}
 use native.Mathlib.Omega.{arith}
 use lib.ListN.{length, getD, drop, drop-of-length-le, List·getD-eq-default}
-use Rattle.json_text.specs.Choice.{if_then_else_}
+use Rattle.signed.specs.Choose.{if_then_else_}
 use Rattle.json_text.specs.Bytes.{run, past, isSpace, spaceAt}
 use Rattle.json_text.specs.Strings.{stringAt}
 use Rattle.json_value.specs.Values.{firstAt}
@@ -15,7 +15,8 @@ use Rattle.json_walk.specs.Walk.{memberAt, firstMemberAt, membersFrom, membersO
 use Rattle.json_walk.specs.declared.Member.{Member}
 use Rattle.json_walk.specs.declared.MemberStep.the-variants.{End}
 use Rattle.json_tree.proofs.Trees.{find-tree}
-use Rattle.json_tree.specs.Finds.{findIn, lookUp, valueFound}
+use Rattle.json_tree.specs.Finds.{lookUp}
+use Rattle.json_tree.specs.Inner.Members.{findIn, valueFound}
 use Rattle.json_tree.specs.Tree.{Json, Fields, fieldsOf, treeAt}
 use Rattle.json_tree.specs.declared.Found.{Found}
 use Rattle.json_tree.specs.declared.Found.the-variants.{Here, Missing}

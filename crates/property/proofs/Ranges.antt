@@ -12,7 +12,7 @@ use Rattle.gregorian.proofs.DayLaws.{Parts, parts-of, day-above, day-below}
 use Rattle.gregorian.proofs.YearLaws.{first-suc, first-mono, first-cycle, first-zero, cycle-length}
 use Rattle.gregorian.specs.Days.{isDate, dayOf}
 use Rattle.gregorian.specs.Year.{isLeap, yearLength, leapYears, firstOfYear}
-use Rattle.json_text.specs.Choice.{if_then_else_}
+use Rattle.signed.specs.Choose.{if_then_else_}
 use Rattle.json_text.specs.Bytes.{byte}
 use Rattle.json_tree.specs.Tree.{Json}
 use Rattle.digits.specs.Fraction.{legalFraction}

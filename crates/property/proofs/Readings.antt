@@ -8,7 +8,7 @@ use native.Mathlib.Omega.{arith}
 use lib.Dec.{ltb}
 use lib.ListN.{length}
 use borrow.Author.Tests.{lt-ltb}
-use Rattle.json_text.specs.Choice.{if_then_else_}
+use Rattle.signed.specs.Choose.{if_then_else_}
 use Rattle.json_tree.specs.Tree.{treeAt}
 use Rattle.event.specs.Properties.{filled, named}
 use Rattle.event.specs.Reading.{Reading, right, wrong, orWrong}

@@ -9,7 +9,7 @@ use lib.Dec.{eqb, eqb·suc-zero}
 use lib.ListN.{length, getD, set, length-set, replicate}
 use lib.Seq.{getD-set-same, getD-set-other, set-out}
 use borrow.Author.Tests.{eqb-true, eqb-false}
-use Rattle.json_text.specs.Choice.{if_then_else_}
+use Rattle.signed.specs.Choose.{if_then_else_}
 use Rattle.json_text.specs.Bytes.{byte, past, spaceAt}
 use Rattle.json_text.specs.Strings.{stringAt}
 use Rattle.json_text.specs.declared.Read.{Read}
@@ -22,7 +22,7 @@ use Rattle.json_walk.specs.Walk.{memberTo, memberMore, memberAt, firstMemberAt,
 use Rattle.json_walk.specs.declared.Member.{Member}
 use Rattle.json_walk.specs.declared.MemberStep.{MemberStep}
 use Rattle.json_walk.specs.declared.MemberStep.the-variants.{One, End}
-use Rattle.json_tree.specs.Finds.{findIn}
+use Rattle.json_tree.specs.Inner.Members.{findIn}
 use Rattle.json_tree.specs.Tree.{fieldsOf, treeAt}
 use Rattle.json_tree.specs.declared.Found.{Found}
 use Rattle.json_tree.specs.declared.Found.the-variants.{Here, Missing}

@@ -5,11 +5,12 @@ use mathlib.Core.Bool.{Bool, true, false}
 use mathlib.Core.List.{List}
 use mathlib.Core.Option.{Option, none, some}
 use mathlib.Core.Path.{_≡_, refl}
-use Rattle.json_text.specs.Choice.{if_then_else_}
+use Rattle.signed.specs.Choose.{if_then_else_}
 use Rattle.json_walk.specs.Walk.{membersOf, elementsOf}
 use Rattle.json_tree.proofs.Trees.{choose}
 use Rattle.json_tree.specs.Integers.{integerAt}
-use Rattle.json_tree.specs.Tree.{Json, Fields, Items, noField, noItem, nullAt, falseAt, trueAt, numberOf, stringOf, arrayOf, objectOf, scalarTree, fieldsOf, itemsOf, treeBy, treeAt, kindAt}
+use Rattle.json_tree.specs.Tree.{Json, Fields, Items, noField, noItem, nullAt, falseAt, trueAt, numberOf, stringOf, arrayOf, objectOf, scalarTree, fieldsOf, itemsOf, treeBy, treeAt}
+use Rattle.json_tree.specs.Inner.Kinds.{kindAt}
 use Rattle.json_tree.specs.declared.Kind.{Kind}
 use Rattle.json_tree.specs.declared.Kind.the-variants as kind
 use Rattle.event.specs.Types.{Text}

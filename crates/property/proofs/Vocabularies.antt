@@ -8,10 +8,11 @@ use lib.Dec.{T, eqb, eqb→eq, ltb, leb→le}
 use lib.ListN.{length, getD}
 use borrow.Author.Tests.{eq-eqb, eqb-true}
 use Rattle.gregorian.proofs.Computed.{all-below}
-use Rattle.json_text.specs.Choice.{if_then_else_}
+use Rattle.signed.specs.Choose.{if_then_else_}
 use Rattle.json_text.specs.Bytes.{byte}
 use Rattle.json_walk.proofs.Laws.{bytes-ahead, length-bytes}
-use Rattle.json_walk.specs.Strings.{bytesAt, rawAt, same, ahead, within}
+use Rattle.json_walk.specs.Strings.{bytesAt, rawAt, same}
+use Rattle.json_walk.specs.Inner.Within.{ahead, within}
 use Rattle.json_names.proofs.Orders.{same-eq}
 use Rattle.property.specs.Vocabulary.{vocabulary, wordOf, numbered, ofShort, ofFive, ofSeven, ofEight, ofTwelve, ofLong, numberBy, numberAt}
 

@@ -7,11 +7,12 @@ use mathlib.Core.Path.{_≡_, refl, ap, sym, _∙_}
 use native.Mathlib.Omega.{arith}
 use lib.Dec.{eqb}
 use borrow.Author.Tests.{eqb-true}
-use Rattle.json_text.specs.Choice.{if_then_else_}
+use Rattle.signed.specs.Choose.{if_then_else_}
 use Rattle.json_text.specs.Bytes.{byte}
 use Rattle.json_walk.specs.Strings.{bytesAt, rawAt, slashed}
 use Rattle.json_tree.proofs.Trees.{choose, always}
-use Rattle.json_tree.specs.Tree.{treeAt, kindAt}
+use Rattle.json_tree.specs.Tree.{treeAt}
+use Rattle.json_tree.specs.Inner.Kinds.{kindAt}
 use Rattle.event.specs.Types.{Text}
 use Rattle.event.specs.Values.{isNull, string, plain, word}
 use Rattle.property.specs.Words.{wordAt, isWordAt}

@@ -4,9 +4,9 @@ use mathlib.Core.List.{List}
 use mathlib.Core.Path.{_≡_}
 use lib.Dec.{eqb}
 use lib.ListN.{length, getD, set}
-use Rattle.json_text.specs.Choice.{if_then_else_}
+use Rattle.signed.specs.Choose.{if_then_else_}
 use Rattle.json_walk.specs.Walk.{membersOf}
-use Rattle.json_tree.specs.Finds.{findIn}
+use Rattle.json_tree.specs.Inner.Members.{findIn}
 use Rattle.json_tree.specs.declared.Found.{Found}
 use Rattle.json_tree.specs.declared.Found.the-variants.{Here, Missing}
 use Rattle.property.specs.Vocabulary.{wordOf}

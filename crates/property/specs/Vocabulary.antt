@@ -3,10 +3,11 @@ use Prim.Native.Nat.{ℕ}
 use mathlib.Core.List.{List, [], _∷_}
 use lib.Dec.{eqb, ltb}
 use lib.ListN.{getD}
-use Rattle.json_text.specs.Choice.{if_then_else_}
+use Rattle.signed.specs.Choose.{if_then_else_}
 use Rattle.json_text.specs.Bytes.{byte}
-use Rattle.json_walk.specs.Strings.{rawAt, same, ahead, within}
-use Rattle.event.specs.Ascii.{ascii}
+use Rattle.json_walk.specs.Strings.{rawAt, same}
+use Rattle.json_walk.specs.Inner.Within.{ahead, within}
+use Rattle.json_text.specs.Ascii.{ascii}
 
 -- Those of an NDay, of a patch, of an event, of a rule.
 unfoldable pub vocabulary : List (List ℕ)

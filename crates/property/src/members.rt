@@ -2,7 +2,7 @@
 ghost use mathlib.Core.Path.{_≡_};
 ghost use Rattle.json_ends.specs.Ends.{Ends};
 ghost use Rattle.json_walk.specs.Walk.{membersOf};
-ghost use Rattle.json_tree.specs.Finds.{findIn};
+ghost use Rattle.json_tree.specs.Inner.Members.{findIn};
 use json_tree::Found;
 use json_tree::finds::find;
 

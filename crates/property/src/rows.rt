@@ -4,7 +4,7 @@ ghost use Prim.Native.Nat.{_+_, _≤_};
 ghost use lib.ListN.{length};
 ghost use Rattle.json_ends.specs.Ends.{Ends};
 ghost use Rattle.json_walk.specs.Walk.{firstMemberAt, membersOf};
-ghost use Rattle.json_tree.specs.Finds.{findIn};
+ghost use Rattle.json_tree.specs.Inner.Members.{findIn};
 ghost use Rattle.property.specs.Vocabulary.{wordOf};
 ghost use Rattle.property.specs.Rows.{Blank, RowTo, noted, placed};
 use crate::Place;

@@ -3,7 +3,6 @@
 use Prim.Native.Nat.{ℕ, _+_, _-_, _*_, _/_, _%_}
 use mathlib.Core.Bool.{Bool, not, _&&_, _||_}
 use lib.Dec.{eqb, leb, ltb}
-use Rattle.rule.specs.declared.Day.{Day}
 use Rattle.rule.specs.Day.{dayAt}
 use Rattle.rule.specs.Written.{RecurrenceRule}
 use Rattle.rule.specs.Lists.{countIn, within, notAfter}

@@ -7,7 +7,8 @@ use Rattle.rule.specs.declared.Frequency.the-variants.{Daily, Weekly, Mo
 use Rattle.rule.specs.declared.Day.{Day}
 use Rattle.rule.specs.Written.{RecurrenceRule}
 
--- The number of the period that holds a day; the next period has the next number. Weeks begin on the weekday w: day 2 was a Monday.
+-- The number of the period that holds a day; the next period has the next number. Weeks begin on the weekday w, 0 to 6, Monday is 0. Day 0 is
+-- 1600-01-01, a Saturday, and day 2 a Monday, so day n has the weekday w where n is 2 + w and a number of weeks: where 7 divides n + 12 - w.
 unfoldable pub periodOf : Frequency → ℕ → Day → ℕ
 periodOf Daily w d = d .number
 periodOf Weekly w d = (d .number + 12 - w) / 7

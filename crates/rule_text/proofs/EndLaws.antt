@@ -9,7 +9,7 @@ use Rattle.fault.proofs.Laws.{none-lower, lower-none}
 use Rattle.json_tree.specs.Tree.{treeAt}
 use Rattle.rule.specs.declared.End.the-variants.{Never, Until, Count}
 use Rattle.rule.specs.Read.{untilFrom, countFrom}
-use Rattle.event.specs.Ascii.{ascii}
+use Rattle.json_text.specs.Ascii.{ascii}
 use Rattle.event.specs.Properties.{readUntil}
 use Rattle.event.specs.Rules.{maybe, bothEnds, readCount}
 use Rattle.rule_text.specs.Members.{memberAt}

@@ -14,7 +14,7 @@ use Rattle.json_text.specs.Bytes.{byte}
 use Rattle.json_walk.specs.Walk.{membersOf, elementsOf}
 use Rattle.json_tree.specs.Tree.{Json, scalarTree, treeBy, treeAt, itemsOf}
 use Rattle.json_tree.proofs.Trees.{choose, always, object-tree, array-tree}
-use Rattle.json_tree.specs.Finds.{findIn}
+use Rattle.json_tree.specs.Inner.Members.{findIn}
 use Rattle.property.proofs.RowLaws.{member-place}
 use Rattle.property.specs.From.{valueIn}
 use Rattle.property.specs.Rows.{placed}

@@ -7,7 +7,7 @@ use mathlib.Core.Path.{_≡_, refl, sym, ap₂, _∙_}
 use native.Mathlib.Omega.{arith}
 use lib.Dec.{eqb}
 use lib.IntN.{ℤ}
-use Rattle.json_text.specs.Choice.{if_then_else_}
+use Rattle.signed.specs.Choose.{if_then_else_}
 use Rattle.json_text.specs.Bytes.{byte}
 use Rattle.json_walk.specs.Strings.{same}
 use Rattle.json_tree.specs.Tree.{Json, treeAt}
@@ -19,9 +19,8 @@ use Rattle.rule.specs.Written.{NDay, RecurrenceRule}
 use Rattle.rule.specs.Read.{written, Sized}
 use Rattle.words.specs.declared.Named.{Named}
 use Rattle.words.specs.declared.Named.the-variants.{Number, Wrong}
-use Rattle.words.specs.Spelled.{mo, tu, we, th, fr, sa, su}
 use Rattle.words.specs.Rules.{weekdayOf}
-use Rattle.event.specs.Ascii.{ascii}
+use Rattle.json_text.specs.Ascii.{ascii}
 use Rattle.event.specs.Values.{word}
 use Rattle.event.specs.Reading.{wrong, orWrong, optional}
 use Rattle.event.specs.Rules.{fromNamed, readWeekday, readSigned, readMonth, readNDay, byList, anyNth, nthUnder, standIn, ruleIn, readRule}
@@ -39,7 +38,7 @@ below-seven false a b p q = q
 
 pub weekday-named : (raw : List ℕ) → fromNamed (weekdayOf raw) .value < 7
 unfolding weekdayOf
-weekday-named raw = below-seven (same raw mo) (Number 0) _ (omega arith) (below-seven (same raw tu) (Number 1) _ (omega arith) (below-seven (same raw we) (Number 2) _ (omega arith) (below-seven (same raw th) (Number 3) _ (omega arith) (below-seven (same raw fr) (Number 4) _ (omega arith) (below-seven (same raw sa) (Number 5) _ (omega arith) (below-seven (same raw su) (Number 6) (Wrong 6) (omega arith) (omega arith)))))))
+weekday-named raw = below-seven (same raw (ascii "mo")) (Number 0) _ (omega arith) (below-seven (same raw (ascii "tu")) (Number 1) _ (omega arith) (below-seven (same raw (ascii "we")) (Number 2) _ (omega arith) (below-seven (same raw (ascii "th")) (Number 3) _ (omega arith) (below-seven (same raw (ascii "fr")) (Number 4) _ (omega arith) (below-seven (same raw (ascii "sa")) (Number 5) _ (omega arith) (below-seven (same raw (ascii "su")) (Number 6) (Wrong 6) (omega arith) (omega arith)))))))
 
 weekday-word : (w : Option (List ℕ)) → orWrong 0 (λ raw. fromNamed (weekdayOf raw)) w .value < 7
 unfolding orWrong

@@ -14,7 +14,7 @@ use Rattle.rule.specs.declared.End.{End}
 use Rattle.rule.specs.declared.Rule.{Rule}
 use Rattle.rule.specs.Written.{NDay}
 use Rattle.rule.specs.Read.{ndays, untilFrom, countFrom, written, Sized}
-use Rattle.event.specs.Ascii.{ascii}
+use Rattle.json_text.specs.Ascii.{ascii}
 use Rattle.event.specs.Properties.{readUntil}
 use Rattle.event.specs.Reading.{Reading, optional}
 use Rattle.event.specs.Rules.{typed, required, maybe, bothEnds, anyNth, readFrequency, readCount, readWeekday, readScale, readSkip, unsupportedLists, ruleIn, readRule}

@@ -10,7 +10,8 @@ use Rattle.fault.specs.Fault.{lower}
 use Rattle.json_text.specs.Bytes.{byte}
 use Rattle.json_walk.specs.Walk.{elementsOf}
 use Rattle.json_walk.specs.declared.Element.{Element}
-use Rattle.json_tree.specs.Tree.{Json, placeOf}
+use Rattle.json_tree.specs.Tree.{Json}
+use Rattle.json_tree.specs.Inner.Kinds.{placeOf}
 use Rattle.event.specs.Reading.{Reading, right}
 
 abbrev pub valueOf : Element → ℕ

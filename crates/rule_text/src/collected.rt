@@ -3,7 +3,7 @@ ghost use Prim.Native.Nat.{suc, _+_};
 ghost use Rattle.json_ends.specs.Ends.{Ends};
 ghost use Rattle.property.specs.Rows.{RowTo};
 ghost use Rattle.property.specs.Vocabulary.{wordOf};
-ghost use Rattle.event.specs.Ascii.{ascii};
+ghost use Rattle.json_text.specs.Ascii.{ascii};
 ghost use Rattle.event.specs.Rules.{readSigned, readMonth, readNDay, byList};
 ghost use Rattle.rule_text.specs.Members.{memberAt};
 ghost use Rattle.rule_text.specs.Parts.{Collected, DaysCollected};

@@ -4,7 +4,7 @@ ghost use mathlib.Core.Bool.{true};
 ghost use mathlib.Core.Path.{_≡_};
 ghost use Rattle.rule.specs.declared.Frequency.the-variants.{Yearly};
 ghost use Rattle.rule.specs.Read.{nthFrom};
-ghost use Rattle.event.specs.Ascii.{ascii};
+ghost use Rattle.json_text.specs.Ascii.{ascii};
 ghost use Rattle.event.specs.Reading.{optional, unsupported};
 ghost use Rattle.event.specs.Rules.{typed, required, fromRate, fromNamed, readFrequency, readCount, readWeekday, readNth, readScale, readSkip};
 ghost use Rattle.rule_text.specs.Members.{memberAt};

@@ -4,6 +4,7 @@ ghost use mathlib.Core.Option.{some};
 ghost use mathlib.Core.Path.{_≡_};
 ghost use Rattle.json_tree.specs.Tree.{treeAt};
 ghost use Rattle.event.specs.Rules.{typed, fromRate, fromNamed, readFrequency, readWeekday, readMonth, readScale, readSkip};
+use json_text::bytes::byte;
 use property::strings::is_word;
 use property::strings::word;
 use words::Named;
@@ -60,7 +61,7 @@ pub fn read_skip(text: &[u8], at: usize) -> u32
 pub fn read_type(text: &[u8], at: usize, name: &[u8]) -> u32
     ensures { λ r. ⌜ ((l : ℕ) → r ≡ typed (now (name .entry)) (some (treeAt l (now (text .entry)) at))) ⌝ }
 {
-    if !is_word(text, at) {
+    if byte(text, at) != 0x22 {
         return 6;
     }
     if words::is(word(text, at), name) {

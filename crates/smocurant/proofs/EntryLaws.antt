@@ -10,7 +10,8 @@ use Rattle.table.specs.Call.{expandText}
 use Rattle.table.proofs.Invalid.{invalid-same}
 use Rattle.table.specs.Results.{zonesOf, Gives}
 use Rattle.entries.specs.declared.Transition.{Transition}
-use Rattle.entries.specs.Gather.{gathered, instantsOf, offsetsOf}
+use Rattle.entries.specs.Gather.{instantsOf, offsetsOf}
+use Rattle.entries.specs.Inner.Gathers.{gathered}
 use Rattle.entries.proofs.ZoneLaws.{first-enough, valid-whole}
 
 -- All entries, or the first 1,025: a valid table has no more, and of the invalid ones all give the same.

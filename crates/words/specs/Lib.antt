@@ -1,5 +1,3 @@
-pub mod Spelled
-pub mod Types
 pub mod Marks
 pub mod Rules
 pub mod Months

@@ -1,9 +1,9 @@
 -- The words that mark an event: `freeBusyStatus` and `privacy`.
 use Prim.Native.Nat.{ℕ}
 use mathlib.Core.List.{List}
-use Rattle.json_text.specs.Choice.{if_then_else_}
+use Rattle.signed.specs.Choose.{if_then_else_}
+use Rattle.json_text.specs.Ascii.{ascii}
 use Rattle.json_walk.specs.Strings.{same}
-use Rattle.words.specs.Spelled.{free, busy, public, private, secret}
 use Rattle.words.specs.declared.FreeBusy.{FreeBusy}
 use Rattle.words.specs.declared.FreeBusy.the-variants.{Free, Busy, Fault}
 use Rattle.words.specs.declared.Privacy.{Privacy}
@@ -12,14 +12,14 @@ use Rattle.words.specs.declared.Privacy.the-variants.{Public, Private, S
 -- 01: "`freeBusyStatus`: `free` or `busy`"; another string is a wrong value, 6.
 unfoldable pub freeBusyOf : List ℕ → FreeBusy
 freeBusyOf s =
-    if same s free then Free else
-    if same s busy then Busy else
+    if same s (ascii "free") then Free else
+    if same s (ascii "busy") then Busy else
     Fault 6
 
 -- 01: "`privacy`: `public` (default), `private`, `secret`; any other string counts as private."
 unfoldable pub privacyOf : List ℕ → Privacy
 privacyOf s =
-    if same s public then Public else
-    if same s private then Private else
-    if same s secret then Secret else
+    if same s (ascii "public") then Public else
+    if same s (ascii "private") then Private else
+    if same s (ascii "secret") then Secret else
     Private

@@ -5,7 +5,7 @@ use mathlib.Core.List.{List, [], _∷_}
 use mathlib.Core.Option.{none, some}
 use lib.IntN.{ℤ, pos, negℤ, negsuc}
 use Rattle.rule.specs.declared.Frequency.the-variants.{Daily, Weekly, Monthly, Yearly}
-use Rattle.event.specs.Ascii.{ascii}
+use Rattle.json_text.specs.Ascii.{ascii}
 use Rattle.table.specs.Bytes.{ZoneTable}
 use Rattle.worked_dates.specs.Written.{Case, on, lasting, eventOf, rule, dated, ruled, timed}
 

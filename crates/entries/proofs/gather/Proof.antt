@@ -51,7 +51,8 @@ use denote.Triple.Table.{entered, cited}
 use denote.Triple.Walked.{says, needs, Stays, stay-none-slice, stay-slice, walkOf, goes-none-slice, goes-slice, Walks, ends-at, walked, walk-meets}
 use denote.Exit.{yes}
 use denote.Triple.Clauses.{ensured, lasts}
-use Rattle.entries.specs.Gather.{lesser, gathered, instantsOf, offsetsOf, Gathers}
+use Rattle.entries.specs.Gather.{instantsOf, offsetsOf}
+use Rattle.entries.specs.Inner.Gathers.{lesser, gathered, Gathers}
 use Rattle.entries.specs.declared.Transition.{Transition}
 use Rattle.entries.proofs.GatherLaws.{lesser-le, lesser-most, take-lesser, lesser-number, stores, stores-next}
 use Rattle.entries.proofs.Transition as T

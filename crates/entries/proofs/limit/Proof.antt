@@ -1,4 +1,4 @@
-use Rattle.entries.specs.Gather.{lesser}
+use Rattle.entries.specs.Inner.Gathers.{lesser}
 use borrow.Author.Tests.{le-ltb, lt-ltb}
 use Rattle.entries.proofs.limit.Statement.{statement}
 use Rattle.entries.proofs.limit.Tie as tie

@@ -5,7 +5,8 @@ use native.Mathlib.Omega.{arith}
 use lib.ListN.{length, drop}
 use borrow.Author.Needs.{needs}
 use borrow.Author.Tests.{eq-eqb, ne-eqb}
-use Rattle.duration.specs.Amount.{before, amountOf, enough, capped}
+use Rattle.duration.specs.Amount.{before, amountOf}
+use Rattle.duration.specs.Inner.Capped.{enough, capped}
 use Rattle.duration.proofs.Laws.{capped-before, before-turn, before-end, capped-same}
 use Rattle.duration.proofs.amount.amount.Statement.{statement}
 use Rattle.duration.proofs.amount.amount.Tie as tie

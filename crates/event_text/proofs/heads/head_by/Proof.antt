@@ -2,7 +2,7 @@
 use Rattle.event_text.specs.Front.{frontIn}
 use Rattle.property.proofs.RowLaws.{value}
 use Rattle.property.specs.Vocabulary.{vocabulary, wordOf}
-use Rattle.event.specs.Ascii.{ascii}
+use Rattle.json_text.specs.Ascii.{ascii}
 use native.Mathlib.Omega.{arith}
 use borrow.Author.Needs.{needs}
 use Rattle.event_text.proofs.heads.head_by.Statement.{statement}

@@ -1,5 +1,5 @@
 -- `event_text::judged::is_event` meets its contract.
-use Rattle.event.specs.Event.{isEvent}
+use Rattle.event.specs.Values.{isType}
 use Rattle.property.proofs.Fields.{member-tree}
 use borrow.Author.Needs.{needs}
 use Rattle.event_text.proofs.judged.is_event.Statement.{statement}
@@ -21,11 +21,11 @@ enum-told : tie.Need-enum-told
 enum-told c = search needs
 
 returns : tie.Need-returns
-unfolding isEvent
+unfolding isType
 returns c = λ l. rw (member-tree l, ← (c .before .before .before .before .member .ensures), c .before .before .m .given .1) (c .is-type .ensures l)
 
 returns-2 : tie.Need-returns-2
-unfolding isEvent
+unfolding isType
 returns-2 c = λ l. rw (member-tree l, ← (c .before .before .member .ensures), c .enum-told .given .1)
 
 pub is-event-spec : {M : Type 1} → statement M

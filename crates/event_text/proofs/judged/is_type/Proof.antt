@@ -1,6 +1,5 @@
 -- `event_text::judged::is_type` meets its contract.
-use Rattle.words.specs.Types.{isEvent}
-use Rattle.event.specs.Event.{isType}
+use Rattle.event.specs.Values.{isText}
 use borrow.Author.Tests.{eq-eqb, ne-eqb}
 use Rattle.property.proofs.Words.{string-text}
 use borrow.Author.Needs.{needs}
@@ -11,7 +10,7 @@ byte-requires : tie.Need-byte-requires
 byte-requires c κs = search needs
 
 returns : tie.Need-returns
-unfolding isType
+unfolding isText
 returns c = λ l. rw (string-text l, ← (c .before .byte .ensures .is), ne-eqb _ _ (c .if1 .taken))
 
 word-requires : tie.Need-word-requires
@@ -21,7 +20,7 @@ is-event-requires : tie.Need-is-event-requires
 is-event-requires c κs = search needs
 
 returns-2 : tie.Need-returns-2
-unfolding isType isEvent
+unfolding isText
 returns-2 c = λ l. rw (string-text l, ← (c .before .before .before .byte .ensures .is), eq-eqb _ _ (c .before .before .if1 .left), ← (c .before .word .ensures)) (c .is-event .ensures)
 
 pub is-type-spec : {M : Type 1} → statement M

@@ -1,4 +1,4 @@
-use Rattle.json_text.specs.Words.{fourAt}
+use Rattle.json_text.proofs.WordLaws.{four-bytes}
 use borrow.Author.Tests.{eq-eqb, ne-eqb}
 use borrow.Author.Needs.{needs}
 use Rattle.json_text.proofs.words.four.Statement.{statement}
@@ -8,9 +8,9 @@ byte-requires : tie.Need-byte-requires
 byte-requires c κs = search needs
 
 returns : tie.Need-returns
-unfolding fourAt
 returns c =
     rw (
+      four-bytes _ _ _ _ _ _,
       ← (c .before .byte .ensures .is),
       ne-eqb _ _ (c .if1 .taken),
     )
@@ -22,9 +22,9 @@ byte-requires-2 : tie.Need-byte-requires-2
 byte-requires-2 c κs = search needs
 
 returns-2 : tie.Need-returns-2
-unfolding fourAt
 returns-2 c =
     rw (
+      four-bytes _ _ _ _ _ _,
       ← (c .before .before .before .byte .ensures .is),
       eq-eqb _ _ (c .before .before .if1 .left),
       ← (c .before .byte2 .ensures .is),
@@ -38,9 +38,9 @@ byte-requires-3 : tie.Need-byte-requires-3
 byte-requires-3 c κs = search needs
 
 returns-3 : tie.Need-returns-3
-unfolding fourAt
 returns-3 c =
     rw (
+      four-bytes _ _ _ _ _ _,
       ← (c .before .before .before .before .before .byte .ensures .is),
       eq-eqb _ _ (c .before .before .before .before .if1 .left),
       ← (c .before .before .before .byte2 .ensures .is),
@@ -56,9 +56,9 @@ byte-requires-4 : tie.Need-byte-requires-4
 byte-requires-4 c κs = search needs
 
 returns-4 : tie.Need-returns-4
-unfolding fourAt
 returns-4 c =
     rw (
+      four-bytes _ _ _ _ _ _,
       ← (c .before .before .before .before .before .before .before .byte .ensures .is),
       eq-eqb _ _ (c .before .before .before .before .before .before .if1 .left),
       ← (c .before .before .before .before .before .byte2 .ensures .is),
@@ -73,9 +73,9 @@ add-t9 : tie.Need-add-t9
 add-t9 c = search needs
 
 returns-5 : tie.Need-returns-5
-unfolding fourAt
 returns-5 c =
     rw (
+      four-bytes _ _ _ _ _ _,
       ← (c .before .before .before .before .before .before .before .byte .ensures .is),
       eq-eqb _ _ (c .before .before .before .before .before .before .if1 .left),
       ← (c .before .before .before .before .before .byte2 .ensures .is),

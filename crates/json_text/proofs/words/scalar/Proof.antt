@@ -1,4 +1,4 @@
-use Rattle.json_text.specs.Words.{scalarAt}
+use Rattle.json_text.specs.Words.{wordAt, scalarAt}
 use borrow.Author.Tests.{eq-eqb, ne-eqb}
 use borrow.Author.Needs.{needs}
 use Rattle.json_text.proofs.words.scalar.Statement.{statement}
@@ -26,7 +26,7 @@ four-requires : tie.Need-four-requires
 four-requires c κs = search needs
 
 returns-2 : tie.Need-returns-2
-unfolding scalarAt
+unfolding scalarAt wordAt
 returns-2 c =
     rw (
       ← (c .before .before .before .byte .ensures .is),

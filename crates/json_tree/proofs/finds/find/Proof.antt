@@ -1,5 +1,5 @@
 use Rattle.json_walk.proofs.Walks.{members-one, members-end}
-use Rattle.json_tree.specs.Finds.{findIn}
+use Rattle.json_tree.specs.Inner.Members.{findIn}
 use Rattle.json_walk.proofs.Walks.{members-none}
 use Rattle.json_walk.specs.Walk.{membersFrom, membersOf}
 use borrow.Author.Needs.{needs}

@@ -1,4 +1,4 @@
-use Rattle.json_tree.specs.Tree.{kindAt}
+use Rattle.json_tree.specs.Inner.Kinds.{kindAt}
 use borrow.Author.Tests.{eq-eqb, ne-eqb}
 use borrow.Author.Needs.{needs}
 use Rattle.json_tree.proofs.kinds.kind.Statement.{statement}

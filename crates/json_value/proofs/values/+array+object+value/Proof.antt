@@ -1,6 +1,7 @@
 use Prim.Native.Nat.{_*_, _+_, _-_}
 use Rattle.json_value.proofs.Laws.{array-none, array-step, elements-none, elements-step, members-none, members-step, object-none, object-step, value-step}
-use Rattle.json_value.specs.Values.{arrayAt, arrayOf, elementsAt, membersAt, objectAt, objectOf, valueAt, valueOf}
+use Rattle.json_value.specs.Values.{arrayOf, elementsAt, membersAt, objectOf, valueAt, valueOf}
+use Rattle.json_value.specs.Inner.Groups.{arrayAt, objectAt}
 use borrow.Author.Needs.{needs}
 use borrow.Author.Tests.{eq-eqb, ne-eqb}
 use mathlib.Core.Path.{_≡_}

@@ -1,4 +1,4 @@
-use Rattle.json_walk.specs.Strings.{ahead}
+use Rattle.json_walk.specs.Inner.Within.{ahead}
 use borrow.Author.Tests.{le-ltb, lt-ltb}
 use borrow.Author.Needs.{needs}
 use Rattle.json_walk.proofs.strings.step.Statement.{statement}

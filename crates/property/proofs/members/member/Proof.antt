@@ -1,5 +1,5 @@
 -- `property::members::member` meets its contract.
-use Rattle.json_tree.specs.Finds.{findIn}
+use Rattle.json_tree.specs.Inner.Members.{findIn}
 use Rattle.property.proofs.Fields.{no-members}
 use borrow.Author.Needs.{needs}
 use Rattle.property.proofs.members.member.Statement.{statement}

@@ -5,7 +5,7 @@ use mathlib.Core.Path.{ap, _∙_}
 use Prim.Native.Nat.{ℕ}
 use Rattle.property.proofs.RowLaws.{here, missing}
 use Rattle.property.specs.Vocabulary.{vocabulary, wordOf}
-use Rattle.event.specs.Ascii.{ascii}
+use Rattle.json_text.specs.Ascii.{ascii}
 use borrow.Author.Needs.{needs}
 use Rattle.rule_text.proofs.ends.read_ends.Statement.{statement}
 use Rattle.rule_text.proofs.ends.read_ends.Tie as tie

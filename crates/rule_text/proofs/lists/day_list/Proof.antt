@@ -2,7 +2,7 @@
 use Rattle.rule_text.proofs.DayLaws.{days-same, days-limited, days-none, weekdays-length, nths-length}
 use Rattle.rule_text.proofs.ListLaws.{by-place, at-within}
 use Rattle.property.specs.Vocabulary.{vocabulary, wordOf}
-use Rattle.event.specs.Ascii.{ascii}
+use Rattle.json_text.specs.Ascii.{ascii}
 use borrow.Author.Needs.{needs}
 use Rattle.rule_text.proofs.lists.day_list.Statement.{statement}
 use Rattle.rule_text.proofs.lists.day_list.Tie as tie

@@ -6,7 +6,7 @@ use native.Mathlib.Omega.{arith}
 use mathlib.Core.Path.{ap, _∙_}
 use Rattle.property.proofs.RowLaws.{here, missing}
 use Rattle.property.specs.Vocabulary.{vocabulary, wordOf}
-use Rattle.event.specs.Ascii.{ascii}
+use Rattle.json_text.specs.Ascii.{ascii}
 use borrow.Author.Needs.{needs}
 use Rattle.rule_text.proofs.members.nth_in.Statement.{statement}
 use Rattle.rule_text.proofs.members.nth_in.Tie as tie

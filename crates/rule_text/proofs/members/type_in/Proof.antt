@@ -1,8 +1,9 @@
 -- `rule_text::members::type_in` meets its contract.
-use Rattle.event.specs.Rules.{typed, required}
+use Rattle.event.specs.Values.{isType}
+use Rattle.event.specs.Rules.{typed}
 use Rattle.property.proofs.RowLaws.{here, missing}
 use Rattle.property.specs.Vocabulary.{vocabulary, wordOf}
-use Rattle.event.specs.Ascii.{ascii}
+use Rattle.json_text.specs.Ascii.{ascii}
 use borrow.Author.Needs.{needs}
 use Rattle.rule_text.proofs.members.type_in.Statement.{statement}
 use Rattle.rule_text.proofs.members.type_in.Tie as tie
@@ -25,7 +26,7 @@ returns c =
     λ l. rw (here _ (ascii "@type") _ _ (c .before .before .before .before .place .ensures) _ (c .before .before .i .given .1) l) (c .read-type .ensures l)
 
 returns-2 : tie.Need-returns-2
-unfolding typed required wordOf vocabulary
+unfolding typed isType wordOf vocabulary
 returns-2 c =
     λ l. rw (missing _ (ascii "@type") _ _ (c .before .before .place .ensures) (c .enum-told .given .1) l)
 

@@ -51,7 +51,8 @@ use denote.Exit.{yes}
 use denote.Triple.Clauses.{ensured, lasts}
 use Rattle.table.specs.Call.{expandText}
 use Rattle.table.specs.Results.{zonesOf, Gives}
-use Rattle.entries.specs.Gather.{gathered, instantsOf, offsetsOf, Gathers}
+use Rattle.entries.specs.Gather.{instantsOf, offsetsOf}
+use Rattle.entries.specs.Inner.Gathers.{gathered, Gathers}
 use Rattle.entries.specs.declared.Transition.{Transition}
 use Rattle.entries.proofs.HeldLaws.{gathered-most, instants-held, offsets-held}
 use Rattle.entries.proofs.Transition as T

@@ -1,5 +1,4 @@
--- `words::types::is_event` meets its contract: the definition's tests in its order.
-use Rattle.words.specs.Types.{isEvent}
+-- `words::types::is_event` meets its contract.
 use borrow.Author.Needs.{needs}
 use Rattle.words.proofs.types.is_event.Statement.{statement}
 use Rattle.words.proofs.types.is_event.Tie as tie
@@ -11,8 +10,7 @@ is-requires : tie.Need-is-requires
 is-requires c κs = search needs
 
 returns : tie.Need-returns
-unfolding isEvent
-returns c = rw (← (c .is .ensures))
+returns c = c .is .ensures
 
 pub is-event-spec : {M : Type 1} → statement M
 is-event-spec = tie.close (tie.spec slice-aggregate-is is-requires returns)

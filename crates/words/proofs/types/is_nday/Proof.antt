@@ -1,5 +1,4 @@
--- `words::types::is_nday` meets its contract: the definition's tests in its order.
-use Rattle.words.specs.Types.{isNDay}
+-- `words::types::is_nday` meets its contract.
 use borrow.Author.Needs.{needs}
 use Rattle.words.proofs.types.is_nday.Statement.{statement}
 use Rattle.words.proofs.types.is_nday.Tie as tie
@@ -11,8 +10,7 @@ is-requires : tie.Need-is-requires
 is-requires c κs = search needs
 
 returns : tie.Need-returns
-unfolding isNDay
-returns c = rw (← (c .is .ensures))
+returns c = c .is .ensures
 
 pub is-nday-spec : {M : Type 1} → statement M
 is-nday-spec = tie.close (tie.spec slice-aggregate-is is-requires returns)

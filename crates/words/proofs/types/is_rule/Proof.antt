@@ -1,5 +1,4 @@
--- `words::types::is_rule` meets its contract: the definition's tests in its order.
-use Rattle.words.specs.Types.{isRule}
+-- `words::types::is_rule` meets its contract.
 use borrow.Author.Needs.{needs}
 use Rattle.words.proofs.types.is_rule.Statement.{statement}
 use Rattle.words.proofs.types.is_rule.Tie as tie
@@ -11,8 +10,7 @@ is-requires : tie.Need-is-requires
 is-requires c κs = search needs
 
 returns : tie.Need-returns
-unfolding isRule
-returns c = rw (← (c .is .ensures))
+returns c = c .is .ensures
 
 pub is-rule-spec : {M : Type 1} → statement M
 is-rule-spec = tie.close (tie.spec slice-aggregate-is is-requires returns)

@@ -4,16 +4,16 @@ use mathlib.Core.Bool.{Bool, true, false}
 use mathlib.Core.List.{List, [], _∷_}
 use mathlib.Core.Path.{_≡_, refl}
 use lib.Dec.{eqb}
-use Rattle.json_text.specs.Choice.{if_then_else_}
+use Rattle.signed.specs.Choose.{if_then_else_}
 use Rattle.json_text.specs.Bytes.{byte, spaceAt}
 use Rattle.json_value.specs.Values.{levels}
 use Rattle.json_walk.specs.Walk.{membersOf, elementsOf}
 use Rattle.json_walk.specs.declared.Member.{Member}
 use Rattle.json_walk.specs.declared.Element.{Element}
 use Rattle.json_names.specs.Names.{nameOf, named, repeats, anySlashed, badNames, anyMember, anyElement, objectFault, faultAt}
 use Rattle.json_tree.specs.Tree.{Json, noField, noItem, fieldsOf, itemsOf, scalarTree, treeBy, treeAt, textTree}
 use Rattle.json_tree.specs.Faults.{fieldNamed, fieldsRepeat, fieldsSlashed, fieldsBad, faulty, itemsFaulty, fieldsFaulty}
 use Rattle.json_tree.proofs.Trees.{choose, always}
 
 named-tree : (tree : ℕ → Json) (s x : List ℕ) (ms : List Member) → fieldNamed x (fieldsOf tree s ms) ≡ named s x ms
 unfolding fieldNamed fieldsOf named

@@ -1,0 +1,3 @@
+pub mod Kinds
+pub mod Members
+pub mod Capped
