@@ -88,7 +88,7 @@ fn lay(rows: &[bool], at: usize, hits: &mut [bool], value: bool)
 }
 
 // The days of one month from x on, as many as there are hits.
-pub fn mark_alike(
+pub(crate) fn mark_alike(
     terms: Terms,
     flags: &[bool],
     rows: &mut [bool],

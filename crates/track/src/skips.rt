@@ -37,7 +37,7 @@ fn periods_out(terms: Terms, period: u32) -> u32
     left as u32
 }
 
-pub fn to_month_end(x: Day) -> u32
+pub(crate) fn to_month_end(x: Day) -> u32
     requires { ⌜ (x ≡ dayAt (x .number)) × (x .number < endDay) ⌝ }
     ensures { λ r. ⌜ r ≡ toMonthEnd x ⌝ }
 {
@@ -189,7 +189,7 @@ fn place_gap(terms: Terms, flags: &[bool], need: u32, c: Cursor) -> u32
 }
 
 // Days to go on by from a day that is none of the rule's: those between are not either.
-pub fn gap(terms: Terms, flags: &[bool], need: u32, c: Cursor) -> u32
+pub(crate) fn gap(terms: Terms, flags: &[bool], need: u32, c: Cursor) -> u32
     requires { ⌜ Holding terms (now flags) (length (now flags)) c × Unset (now flags) need ⌝ }
     ensures { λ r. ⌜ Between (picksOnBy terms (now (flags .entry))) (c .day .number) r ⌝ }
 {

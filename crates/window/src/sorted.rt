@@ -49,7 +49,7 @@ fn lower_of(a: u64, b: u64) -> u64
 }
 
 // The first date-time from `at` on, and before `to`, that an override names and none excludes; `to` where there is none.
-pub fn next_sorted(ids: &[u64], gone: &[bool], at: u64, to: u64) -> u64
+pub(crate) fn next_sorted(ids: &[u64], gone: &[bool], at: u64, to: u64) -> u64
     requires { ⌜ Rising (now ids) × ((length (now ids) ≡ length (now gone)) × (at ≤ to)) ⌝ }
     ensures { λ r. ⌜ r ≡ nextOf (isKept (now (ids .entry)) (now (gone .entry))) at to ⌝ }
 {
