@@ -1,4 +1,4 @@
-// The date-times of an event in a window, one after the other: the next one, how many there are, and whether one is among them.
+// The date-times of an event in a window: the next one in a run of days, how many there are, and whether one is among them.
 pub mod chunks;
 mod hits;
 pub mod next;
