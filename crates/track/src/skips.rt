@@ -121,7 +121,7 @@ fn is_carried(frequency: Frequency, placed: bool) -> bool
     }
 }
 
-// Days from this one on that surely are none of the rule's: 0 where nothing is known.
+// Days from this one on that surely are none of the rule's: 0 where nothing is known. How many is left open: it only saves time.
 pub fn skip(terms: Terms, flags: &[bool], x: Day) -> u32
     requires { ⌜ Asked terms (length (now flags)) x ⌝ }
     ensures { λ r. ⌜ Without (picksOnBy terms (now (flags .entry))) (x .number) r ⌝ }

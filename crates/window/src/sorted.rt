@@ -9,7 +9,7 @@ ghost use Rattle.window.specs.Sorted.{Rising, Ordered, Below};
 
 // Is each id less than the one behind it?
 pub fn rises(ids: &[u64]) -> bool
-    ensures { λ r. ⌜ Ordered (now (ids .entry)) r ⌝ }
+    ensures { λ r. ⌜ Ordered (now (ids .entry)) r × (Rising (now (ids .entry)) → r ≡ true) ⌝ }
 {
     let mut i = 1;
     while i < ids.len() {
