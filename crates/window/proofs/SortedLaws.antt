@@ -98,7 +98,8 @@ module _ (ids : List ℕ) (x : ℕ) where
 
   less-is : (ids : List ℕ) (r : ℕ) → r ≤ length ids → ((i : ℕ) → i < r → getD ids i 0 < x) → (r < length ids → x ≤ getD ids r 0) → r ≡ lessThan x ids
   unfolding lessThan
-  less-is [] r within less rest = omega arith
+  less-is [] zero within less rest = refl
+  less-is [] (suc r) within less rest = absurd (omega arith)
   less-is (i ∷ ids) zero within less rest = rw (le-ltb i x (rest (omega arith)))
   less-is (i ∷ ids) (suc r) within less rest =
       rw (lt-ltb i x (less 0 (omega arith)))

@@ -29,7 +29,7 @@ is-monthly-requires c κs = search needs
 returns-2 : tie.Need-returns-2
 returns-2 c = (
   λ e is. monthly-is _ (sym (c .is-monthly .ensures) ∙ e),
-  λ all. c .is-monthly .ensures ∙ is-monthly-of _ (all (not-false _ (c .before .before .if1 .left))),
+  λ all. c .is-monthly .ensures ∙ is-monthly-of _ (all (not-false _ (c .before .if1 .left))),
 )
 
 pub counts-in-months-spec : {M : Type 1} → statement M
