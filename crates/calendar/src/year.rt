@@ -412,7 +412,7 @@ const COMMON_YEAR: u32 = 365;
 
 const LEAP_YEAR: u32 = 366;
 
-pub fn is_leap(year: u32) -> bool
+pub(crate) fn is_leap(year: u32) -> bool
     ensures { λ r. ⌜ r ≡ isLeap year ⌝ }
 {
     if year % 400 == 0 {
@@ -434,7 +434,7 @@ pub fn year_length(year: u32) -> u32
 }
 
 // The day number, in the cycle of 400 years that 1600 begins, of the first day of the cycle's year k.
-pub fn first_in_cycle(k: u32) -> u32
+pub(crate) fn first_in_cycle(k: u32) -> u32
     requires { ⌜ k ≤ 400 ⌝ }
     ensures { λ r. ⌜ r ≡ firstOfYear k ⌝ }
 {
@@ -442,7 +442,7 @@ pub fn first_in_cycle(k: u32) -> u32
 }
 
 // The day number of January 1st.
-pub fn year_start(year: u32) -> u32
+pub(crate) fn year_start(year: u32) -> u32
     requires { ⌜ (1600 ≤ year) × (year ≤ 9999) ⌝ }
     ensures { λ r. ⌜ r ≡ firstOfYear (year - 1600) ⌝ }
 {

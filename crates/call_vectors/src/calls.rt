@@ -73,7 +73,7 @@ fn run(text: &[u8], from: u64, to: u64, buffer: &mut [u8])
     show(answer, size, buffer);
 }
 
-pub fn call(text: &[u8], from: u64, to: u64, room: u64)
+pub(crate) fn call(text: &[u8], from: u64, to: u64, room: u64)
     requires { ⌜ (from < 2 ^ 60) × (to < 2 ^ 60) ⌝ }
 {
     let mut buffer = [0u8; 8192];

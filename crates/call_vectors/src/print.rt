@@ -2,11 +2,11 @@
 ghost use Prim.Native.Nat.{_≤_};
 ghost use lib.ListN.{length};
 
-pub fn say(words: &[u8]) {
+pub(crate) fn say(words: &[u8]) {
     io::write_all(1, words);
 }
 
-pub fn number(n: u64) {
+pub(crate) fn number(n: u64) {
     io::print_decimal(1, n);
 }
 
@@ -20,7 +20,7 @@ fn digit(n: u8) -> u8 {
 }
 
 // Two digits for each byte.
-pub fn hexadecimal(bytes: &[u8]) {
+pub(crate) fn hexadecimal(bytes: &[u8]) {
     let mut i = 0;
     while i < bytes.len() {
         let byte = bytes[i];

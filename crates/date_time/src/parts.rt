@@ -7,7 +7,7 @@ use digits::four;
 use digits::two;
 use gregorian::Date;
 
-pub fn date(raw: &[u8]) -> Date
+pub(crate) fn date(raw: &[u8]) -> Date
     ensures { λ r. ⌜ r ≡ dateAt (now (raw .entry)) ⌝ }
 {
     let year = four(raw, 0);
@@ -16,7 +16,7 @@ pub fn date(raw: &[u8]) -> Date
     Date { year, month, day }
 }
 
-pub fn is_time(raw: &[u8]) -> bool
+pub(crate) fn is_time(raw: &[u8]) -> bool
     ensures { λ r. ⌜ r ≡ isTime (now (raw .entry)) ⌝ }
 {
     if 23 < two(raw, 11) {
@@ -29,7 +29,7 @@ pub fn is_time(raw: &[u8]) -> bool
 }
 
 // Has the month this day?
-pub fn is_real(date: Date) -> bool
+pub(crate) fn is_real(date: Date) -> bool
     ensures { λ r. ⌜ r ≡ isReal date ⌝ }
 {
     let day = date.day;
@@ -39,7 +39,7 @@ pub fn is_real(date: Date) -> bool
     day <= month_length(date.year, date.month)
 }
 
-pub fn second_of_day(raw: &[u8]) -> u32
+pub(crate) fn second_of_day(raw: &[u8]) -> u32
     ensures { λ r. ⌜ r ≡ secondOfDay (now (raw .entry)) ⌝ }
 {
     let hour = two(raw, 11);

@@ -14,7 +14,7 @@ fn meets(p: u8, b: u8) -> bool
 }
 
 // Does the string begin as the picture shows?
-pub fn follows(picture: &[u8], raw: &[u8]) -> bool
+pub(crate) fn follows(picture: &[u8], raw: &[u8]) -> bool
     ensures { λ r. ⌜ r ≡ follows (now (picture .entry)) (now (raw .entry)) ⌝ }
 {
     if raw.len() < picture.len() {

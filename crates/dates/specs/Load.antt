@@ -22,7 +22,7 @@ pub record Loading (count list flags start limit : ℕ) : Type 0 where
   pub high : start / 86400 < endDay
   pub within : limit ≤ endDay
 
--- The rule is settled on the row behind those before, which are kept.
+-- The rule is settled on the row after those before, which are kept. What the rows after it hold is left open: they are for the rules to come.
 pub record Added (excluded : Bool) (r : Rule) (start limit : ℕ) (ts : Tracks) (before after : List Bool) (next : Tracks) : Type 0 where
   pub track : Track
   pub list : next ≡ put ts track

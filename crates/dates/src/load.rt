@@ -10,7 +10,7 @@ use rule::Frequency;
 use rule::Rule;
 use track::Track;
 
-// No rules yet.
+// No rules yet. What the eight places hold is left open: none of them is counted.
 pub fn no_tracks() -> Tracks
     ensures { λ r. ⌜ (r .count ≡ 0) × (length (r .list) ≡ 8) ⌝ }
 {

@@ -9,7 +9,7 @@ ghost use Rattle.dates.specs.Overrides.{counts, isDate, namesDay};
 use super::Tracks;
 
 // The days of each rule of a list get the value; the event begins on the day `begin`.
-pub fn mark_tracks(
+pub(crate) fn mark_tracks(
     tracks: Tracks,
     flags: &[bool],
     hits: &mut [bool],
@@ -31,7 +31,7 @@ pub fn mark_tracks(
     }
 }
 
-pub fn clear(hits: &mut [bool])
+pub(crate) fn clear(hits: &mut [bool])
     ensures { λ r. ⌜ now (hits .exit) ≡ cleared (length (now (hits .entry))) ⌝ }
 {
     let mut i = 0;
@@ -42,7 +42,14 @@ pub fn clear(hits: &mut [bool])
 }
 
 // The hit of the date-time x, if x counts and the run has it: it gets the value.
-pub fn mark_date(hits: &mut [bool], first: u32, start: u64, x: u64, counted: bool, value: bool)
+pub(crate) fn mark_date(
+    hits: &mut [bool],
+    first: u32,
+    start: u64,
+    x: u64,
+    counted: bool,
+    value: bool,
+)
     ensures { λ r. ⌜ now (hits .exit) ≡ marked (isDate counted start x) value first (now (hits .entry)) ⌝ }
 {
     if !counted {
@@ -72,7 +79,7 @@ pub fn count_it(only: bool, gone: bool) -> bool
 }
 
 // The hits that overrides name, all of them or only those that are excluded, get the value.
-pub fn mark_ids(
+pub(crate) fn mark_ids(
     ids: &[u64],
     gone: &[bool],
     only: bool,

@@ -11,7 +11,7 @@ use json_text::bytes::is_digit;
 
 const ENOUGH: u64 = 31622401;
 
-pub fn cap(n: u64) -> u64
+pub(crate) fn cap(n: u64) -> u64
     ensures { λ r. ⌜ Capped n r ⌝ }
 {
     if n < ENOUGH {
@@ -29,7 +29,7 @@ fn more(n: u64, b: u8) -> u64
 }
 
 // The number before the letter c, which is given in upper case; 0 where there is no such letter.
-pub fn amount(raw: &[u8], c: u8) -> u64
+pub(crate) fn amount(raw: &[u8], c: u8) -> u64
     ensures { λ r. ⌜ Capped (amountOf c (now (raw .entry))) r ⌝ }
 {
     let mut n: u64 = 0;

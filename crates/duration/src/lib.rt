@@ -1,5 +1,5 @@
 // The duration of an event: how long it is. The reader is given the bytes between the quotes of a string.
-pub mod amount;
+mod amount;
 pub mod length;
 
 // The days and, apart from them, the seconds of a duration; or the fault.

@@ -1,7 +1,7 @@
 -- The window of a call in seconds from 1600: it lies in the years 1601 to 9998, and so do the days that it asks for.
-use Prim.Native.Nat.{ℕ, _+_, _-_, _*_, _/_, _<_, _≤_}
+use Prim.Native.Nat.{ℕ, _+_, _-_, _*_, _/_, _%_, _<_, _≤_}
 use mathlib.Core.Bool.{Bool, true, false}
-use mathlib.Core.Path.{_≡_, refl, sym, _∙_}
+use mathlib.Core.Path.{_≡_, refl, sym, ap, _∙_}
 use native.Mathlib.Omega.{arith}
 use borrow.Author.Tests.{ltb-true, ltb-false}
 use lib.Dec.{ltb}
@@ -10,6 +10,8 @@ use lib.Signed.{leZ}
 use Rattle.signed.specs.Choose.{if_then_else_}
 use Rattle.signed.specs.Parts.{posPart, negPart}
 use Rattle.signed.proofs.Parts.{le-parts}
+use Rattle.gregorian.specs.Seconds.{InCalendar, momentOf}
+use Rattle.gregorian.proofs.SecondLaws.{day-since, second-since}
 use Rattle.rule.specs.Gives.{endDay}
 use Rattle.rule.proofs.Bools.{left, right}
 use Rattle.table.specs.Window.{epoch, since1600, validWindow}
@@ -40,6 +42,14 @@ module _ (from to : ℤ) (valid : validWindow from to ≡ true) where
       record { begins = begins; low = omega (arith, a, f); order = omega (arith, a, b, f, t); high = omega (arith, c, t) }
 
 -- ---- the days
+
+-- "seconds before 1970, with floor division into days": of seconds that are counted from 1600, the quotient and the remainder by 86,400 are
+-- the day and the second of the day that floor division of the signed seconds gives.
+pub floor-day : (t : ℤ) → InCalendar t → since1600 t / 86400 ≡ momentOf t .day
+floor-day t h = ap (λ (n : ℕ). n / 86400) (sym (since-some t (omega (arith, h .low)))) ∙ day-since t h
+
+pub floor-second : (t : ℤ) → InCalendar t → since1600 t % 86400 ≡ momentOf t .second
+floor-second t h = ap (λ (n : ℕ). n % 86400) (sym (since-some t (omega (arith, h .low)))) ∙ second-since t h
 
 module _ (to : ℕ) where
   pub limit-within : limitOf to ≤ endDay

@@ -64,7 +64,7 @@ fn head_by(text: &[u8], at: usize, row: &[usize]) -> Head
 }
 
 // The head of the object at a place.
-pub fn head_at(text: &[u8], ends: &[u32], at: usize) -> Head
+fn head_at(text: &[u8], ends: &[u32], at: usize) -> Head
     requires { ⌜ Ends (now text) (now ends) ⌝ }
     ensures { λ r. ⌜ ((l : ℕ) → fromHead l (now (text .entry)) r ≡ frontIn (fieldsIn l (now (text .entry)) at)) ⌝ }
 {

@@ -26,7 +26,7 @@ use property::vocabulary::UID;
 use property::vocabulary::UPDATED;
 
 // The fault of `uid`, 0 where there is none.
-pub fn uid_fault(text: &[u8], at: usize, row: &[usize]) -> u32
+pub(crate) fn uid_fault(text: &[u8], at: usize, row: &[usize]) -> u32
     requires { ⌜ RowTo 18 (now text) at (now row) ⌝ }
     ensures { λ r. ⌜ ((l : ℕ) → r ≡ required [] readUid (member (ascii "uid") (fieldsIn l (now (text .entry)) at)) .fault) ⌝ }
 {
@@ -37,7 +37,7 @@ pub fn uid_fault(text: &[u8], at: usize, row: &[usize]) -> u32
 }
 
 // The fault of `updated`, 0 where there is none.
-pub fn updated_fault(text: &[u8], at: usize, row: &[usize]) -> u32
+pub(crate) fn updated_fault(text: &[u8], at: usize, row: &[usize]) -> u32
     requires { ⌜ RowTo 18 (now text) at (now row) ⌝ }
     ensures { λ r. ⌜ ((l : ℕ) → r ≡ required true readUpdated (member (ascii "updated") (fieldsIn l (now (text .entry)) at)) .fault) ⌝ }
 {
@@ -48,7 +48,7 @@ pub fn updated_fault(text: &[u8], at: usize, row: &[usize]) -> u32
 }
 
 // 8 where there is a `recurrenceId`, else 0.
-pub fn id_fault(text: &[u8], at: usize, row: &[usize]) -> u32
+pub(crate) fn id_fault(text: &[u8], at: usize, row: &[usize]) -> u32
     requires { ⌜ RowTo 18 (now text) at (now row) ⌝ }
     ensures { λ r. ⌜ ((l : ℕ) → r ≡ unsupported (member (ascii "recurrenceId") (fieldsIn l (now (text .entry)) at))) ⌝ }
 {
@@ -68,7 +68,7 @@ fn is_type(text: &[u8], at: usize) -> bool
     words::types::is_event(word(text, at))
 }
 
-pub fn is_event(text: &[u8], ends: &[u32], at: usize) -> bool
+fn is_event(text: &[u8], ends: &[u32], at: usize) -> bool
     requires { ⌜ Ends (now text) (now ends) ⌝ }
     ensures { λ r. ⌜ ((l : ℕ) → r ≡ isType (ascii "Event") (member (ascii "@type") (fieldsIn l (now (text .entry)) at))) ⌝ }
 {
@@ -78,7 +78,7 @@ pub fn is_event(text: &[u8], ends: &[u32], at: usize) -> bool
     }
 }
 
-pub fn is_missing(text: &[u8], ends: &[u32], at: usize, name: &[u8]) -> bool
+fn is_missing(text: &[u8], ends: &[u32], at: usize, name: &[u8]) -> bool
     requires { ⌜ Ends (now text) (now ends) ⌝ }
     ensures { λ r. ⌜ ((l : ℕ) → r ≡ missing (member (now (name .entry)) (fieldsIn l (now (text .entry)) at))) ⌝ }
 {
@@ -89,7 +89,7 @@ pub fn is_missing(text: &[u8], ends: &[u32], at: usize, name: &[u8]) -> bool
 }
 
 // Does 5 apply to the object at a place?
-pub fn no_event(text: &[u8], ends: &[u32], at: usize) -> bool
+pub(crate) fn no_event(text: &[u8], ends: &[u32], at: usize) -> bool
     requires { ⌜ Ends (now text) (now ends) ⌝ }
     ensures { λ r. ⌜ ((l : ℕ) → r ≡ noEvent (fieldsIn l (now (text .entry)) at)) ⌝ }
 {

@@ -1,11 +1,11 @@
 // The event of a text that is past answers 1 to 4: what stands in its own members, and the lowest of 5 to 9 that applies.
 // One walk over the members finds all that are read; a table of the ends of the text's values keeps it short.
 pub mod heads;
-pub mod judged;
-pub mod marks;
-pub mod own;
-pub mod spots;
-pub mod times;
+mod judged;
+mod marks;
+mod own;
+mod spots;
+mod times;
 pub mod whole;
 
 use property::Place;

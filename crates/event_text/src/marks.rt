@@ -41,7 +41,7 @@ fn status(read: FreeBusy) -> Mark
     }
 }
 
-pub fn busy(text: &[u8], at: usize, row: &[usize]) -> Mark
+pub(crate) fn busy(text: &[u8], at: usize, row: &[usize]) -> Mark
     requires { ⌜ RowTo 18 (now text) at (now row) ⌝ }
     ensures { λ r. ⌜ ((l : ℕ) → fromMark r ≡ optional true readBusy (member (ascii "freeBusyStatus") (fieldsIn l (now (text .entry)) at))) ⌝ }
 {
@@ -66,7 +66,7 @@ fn mark(read: Flag) -> Mark
     }
 }
 
-pub fn all_day(text: &[u8], at: usize, row: &[usize]) -> Mark
+pub(crate) fn all_day(text: &[u8], at: usize, row: &[usize]) -> Mark
     requires { ⌜ RowTo 18 (now text) at (now row) ⌝ }
     ensures { λ r. ⌜ ((l : ℕ) → fromMark r ≡ optional false readBoolean (member (ascii "showWithoutTime") (fieldsIn l (now (text .entry)) at))) ⌝ }
 {
@@ -91,7 +91,7 @@ fn access(read: Setting) -> Access
     }
 }
 
-pub fn privacy(text: &[u8], at: usize, row: &[usize]) -> Access
+pub(crate) fn privacy(text: &[u8], at: usize, row: &[usize]) -> Access
     requires { ⌜ RowTo 18 (now text) at (now row) ⌝ }
     ensures { λ r. ⌜ ((l : ℕ) → fromAccess r ≡ optional Public readPrivacy (member (ascii "privacy") (fieldsIn l (now (text .entry)) at))) ⌝ }
 {

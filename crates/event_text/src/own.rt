@@ -15,7 +15,7 @@ use fault::lower;
 use property::vocabulary::DESCRIPTION;
 use property::vocabulary::TITLE;
 
-pub fn own_details(text: &[u8], at: usize, row: &[usize]) -> Details
+pub(crate) fn own_details(text: &[u8], at: usize, row: &[usize]) -> Details
     requires { ⌜ RowTo 18 (now text) at (now row) ⌝ }
     ensures { λ r. ⌜ ((l : ℕ) → fromDetails (now (text .entry)) r ≡ detailsIn (fieldsIn l (now (text .entry)) at)) ⌝ }
 {

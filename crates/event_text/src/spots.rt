@@ -38,7 +38,7 @@ fn named(text: &[u8], read: Zone) -> Spot
     }
 }
 
-pub fn zone(text: &[u8], at: usize, row: &[usize]) -> Spot
+pub(crate) fn zone(text: &[u8], at: usize, row: &[usize]) -> Spot
     requires { ⌜ RowTo 18 (now text) at (now row) ⌝ }
     ensures { λ r. ⌜ ((l : ℕ) → fromName (now (text .entry)) r ≡ optional none readZone (member (ascii "timeZone") (fieldsIn l (now (text .entry)) at))) ⌝ }
 {
@@ -67,7 +67,7 @@ fn passage(text: &[u8], read: Passage) -> Spot
 }
 
 // `title` or `description`.
-pub fn words(text: &[u8], at: usize, row: &[usize], word: usize) -> Spot
+pub(crate) fn words(text: &[u8], at: usize, row: &[usize], word: usize) -> Spot
     requires { ⌜ RowTo (word + 1) (now text) at (now row) ⌝ }
     ensures { λ r. ⌜ ((l : ℕ) → fromText (now (text .entry)) r ≡ optional none readText (member (wordOf word) (fieldsIn l (now (text .entry)) at))) ⌝ }
 {

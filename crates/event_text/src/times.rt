@@ -29,7 +29,7 @@ fn moment(read: DateTime) -> Moment
     }
 }
 
-pub fn start(text: &[u8], at: usize, row: &[usize]) -> Moment
+pub(crate) fn start(text: &[u8], at: usize, row: &[usize]) -> Moment
     requires { ⌜ RowTo 18 (now text) at (now row) ⌝ }
     ensures { λ r. ⌜ ((l : ℕ) → fromMoment r ≡ required 0 readStart (member (ascii "start") (fieldsIn l (now (text .entry)) at))) ⌝ }
 {
@@ -56,7 +56,7 @@ fn lasting(read: Span) -> Lasting
     }
 }
 
-pub fn length(text: &[u8], at: usize, row: &[usize]) -> Lasting
+pub(crate) fn length(text: &[u8], at: usize, row: &[usize]) -> Lasting
     requires { ⌜ RowTo 18 (now text) at (now row) ⌝ }
     ensures { λ r. ⌜ ((l : ℕ) → fromLasting r ≡ optional noLength readLength (member (ascii "duration") (fieldsIn l (now (text .entry)) at))) ⌝ }
 {

@@ -44,7 +44,7 @@ fn overrides_at(text: &[u8], ends: &[u32], head: Head) -> u32
 }
 
 // The lowest fault of the three lists of an event.
-pub fn lists_fault(text: &[u8], ends: &[u32], head: Head) -> u32
+fn lists_fault(text: &[u8], ends: &[u32], head: Head) -> u32
     requires { ⌜ Ends (now text) (now ends) ⌝ }
     ensures { λ r. ⌜ r ≡ listsFault (fromHead inner (now (text .entry)) head) ⌝ }
 {

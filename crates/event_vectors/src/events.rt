@@ -121,7 +121,7 @@ fn judged(text: &[u8], ends: &[u32])
     }
 }
 
-pub fn event(text: &[u8]) {
+pub(crate) fn event(text: &[u8]) {
     let mut ends = [0u32; 65536];
     json::answer::judge(text, &mut ends);
     judged(text, &ends);

@@ -2,19 +2,19 @@
 use property::Place;
 use property::strings::word;
 
-pub fn say(words: &[u8]) {
+pub(crate) fn say(words: &[u8]) {
     io::write_all(1, words);
 }
 
-pub fn number(n: u64) {
+pub(crate) fn number(n: u64) {
     io::print_decimal(1, n);
 }
 
-pub fn small(n: u32) {
+pub(crate) fn small(n: u32) {
     number(n as u64);
 }
 
-pub fn signed(z: i64) {
+pub(crate) fn signed(z: i64) {
     let below = signed::negative_part(z);
     if 0 < below {
         say(b"-");
@@ -24,7 +24,7 @@ pub fn signed(z: i64) {
     number(signed::positive_part(z));
 }
 
-pub fn mark(name: &[u8], set: bool) {
+pub(crate) fn mark(name: &[u8], set: bool) {
     say(name);
     if set {
         number(1);
@@ -33,7 +33,7 @@ pub fn mark(name: &[u8], set: bool) {
     number(0);
 }
 
-pub fn passage(name: &[u8], text: &[u8], place: Place) {
+pub(crate) fn passage(name: &[u8], text: &[u8], place: Place) {
     say(name);
     match place {
         Place::None => say(b"-"),

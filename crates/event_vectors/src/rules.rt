@@ -130,7 +130,7 @@ fn all(kind: &[u8], text: &[u8], ends: &[u32], at: usize)
     }
 }
 
-pub fn rules(kind: &[u8], text: &[u8], ends: &[u32], place: Place)
+pub(crate) fn rules(kind: &[u8], text: &[u8], ends: &[u32], place: Place)
     requires { ⌜ Ends (now text) (now ends) ⌝ }
 {
     match place {

@@ -13,7 +13,7 @@ use event_text::Head;
 use record::window::since_1600;
 use tables::nothing::put_trailer_alone;
 
-pub fn expand_accepted(
+pub(crate) fn expand_accepted(
     text: &[u8],
     ends: &[u32],
     event: Head,

@@ -47,7 +47,7 @@ fn expand_json(
 }
 
 // The expansion of a text, with a table of ends that says nothing yet.
-pub fn expand_with(
+pub(crate) fn expand_with(
     text: &[u8],
     ends: &mut [u32],
     name: &[u8],

@@ -1,5 +1,5 @@
 // The whole call for the table of occurrences: from a text, a zone table and a window to the bytes in a lent buffer.
-pub mod accepted;
+mod accepted;
 pub mod expand;
-pub mod judged;
-pub mod shown;
+mod judged;
+mod shown;

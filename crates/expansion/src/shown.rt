@@ -21,7 +21,7 @@ use event_text::heads::own_of;
 use sheets::whole::put_event;
 
 // The flags are rows for eight rules of each list.
-pub fn put_shown(
+pub(crate) fn put_shown(
     text: &[u8],
     ends: &[u32],
     event: Head,

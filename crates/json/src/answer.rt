@@ -9,7 +9,7 @@ use json_names::whole::text_fault;
 use json_text::Read;
 
 // A text longer than this many bytes answers 1.
-pub const LIMIT: usize = 65536;
+const LIMIT: usize = 65536;
 
 // The answer, with a table of ends that is filled on the way: it spares the walks, and those that follow, the reading of what
 // they pass over.
@@ -36,7 +36,7 @@ pub fn judge(text: &[u8], ends: &mut [u32]) -> u32
 }
 
 // The answer of a text of 2,048 bytes.
-pub fn short_answer(text: &[u8]) -> u32
+fn short_answer(text: &[u8]) -> u32
     ensures { λ r. ⌜ r ≡ answerOf (now (text .entry)) ⌝ }
 {
     let mut ends = [0u32; 2048];
@@ -44,7 +44,7 @@ pub fn short_answer(text: &[u8]) -> u32
 }
 
 // The answer of a text of any length.
-pub fn long_answer(text: &[u8]) -> u32
+fn long_answer(text: &[u8]) -> u32
     ensures { λ r. ⌜ r ≡ answerOf (now (text .entry)) ⌝ }
 {
     let mut ends = [0u32; 65536];

@@ -57,7 +57,7 @@ fn surrogate_free(text: &[u8]) -> bool
 }
 
 // Has each escaped surrogate its partner, in the whole text?
-pub fn paired(text: &[u8]) -> bool
+pub(crate) fn paired(text: &[u8]) -> bool
     requires { ⌜ length (now text) ≤ 65536 ⌝ }
     ensures { λ r. ⌜ r ≡ isTo (pairsAt (length (now (text .entry))) (now (text .entry)) 0) ⌝ }
 {

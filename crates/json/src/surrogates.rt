@@ -9,7 +9,7 @@ use json_text::Read;
 use json_text::bytes::byte;
 
 // The value of a hexadecimal digit.
-pub fn hex_value(b: u8) -> u32
+fn hex_value(b: u8) -> u32
     ensures { λ r. ⌜ HexValue b r ⌝ }
 {
     if b < 0x30 {
@@ -34,7 +34,7 @@ pub fn hex_value(b: u8) -> u32
 }
 
 // The number of four hexadecimal digits.
-pub fn unit(text: &[u8], at: usize) -> u32
+fn unit(text: &[u8], at: usize) -> u32
     requires { ⌜ at < 131072 ⌝ }
     ensures { λ r. ⌜ r ≡ unitAt (now (text .entry)) at ⌝ }
 {
@@ -45,7 +45,7 @@ pub fn unit(text: &[u8], at: usize) -> u32
     ((a * 16 + b) * 16 + c) * 16 + d
 }
 
-pub fn is_first(u: u32) -> bool
+fn is_first(u: u32) -> bool
     ensures { λ r. ⌜ r ≡ isFirst u ⌝ }
 {
     if u < 0xD800 {
@@ -54,7 +54,7 @@ pub fn is_first(u: u32) -> bool
     u <= 0xDBFF
 }
 
-pub fn is_second(u: u32) -> bool
+fn is_second(u: u32) -> bool
     ensures { λ r. ⌜ r ≡ isSecond u ⌝ }
 {
     if u < 0xDC00 {
@@ -64,7 +64,7 @@ pub fn is_second(u: u32) -> bool
 }
 
 // Is the second of a pair escaped here?
-pub fn partner(text: &[u8], at: usize) -> bool
+fn partner(text: &[u8], at: usize) -> bool
     requires { ⌜ at < 100000 ⌝ }
     ensures { λ r. ⌜ r ≡ partnerAt (now (text .entry)) at ⌝ }
 {
@@ -78,7 +78,7 @@ pub fn partner(text: &[u8], at: usize) -> bool
 }
 
 // The escape whose backslash stands here.
-pub fn pair(text: &[u8], at: usize) -> Read
+fn pair(text: &[u8], at: usize) -> Read
     requires { ⌜ at < 65536 ⌝ }
     ensures { λ r. ⌜ r ≡ pairAt (now (text .entry)) at ⌝ }
 {
@@ -96,7 +96,7 @@ pub fn pair(text: &[u8], at: usize) -> Read
 }
 
 // An escape, or a byte that is none.
-pub fn escaped(text: &[u8], at: usize) -> Read
+fn escaped(text: &[u8], at: usize) -> Read
     requires { ⌜ at < 65536 ⌝ }
     ensures { λ r. ⌜ r ≡ escapedAt (now (text .entry)) at ⌝ }
 {
@@ -110,7 +110,7 @@ pub fn escaped(text: &[u8], at: usize) -> Read
 }
 
 // The whole text.
-pub fn pairs(text: &[u8]) -> Read
+pub(crate) fn pairs(text: &[u8]) -> Read
     requires { ⌜ length (now text) ≤ 65536 ⌝ }
     ensures { λ r. ⌜ r ≡ pairsAt (length (now (text .entry))) (now (text .entry)) 0 ⌝ }
 {

@@ -14,7 +14,7 @@ use json_walk::Element;
 use json_walk::ElementStep;
 
 // The element at a place.
-pub fn element(text: &[u8], ends: &[u32], at: usize) -> ElementStep
+fn element(text: &[u8], ends: &[u32], at: usize) -> ElementStep
     requires { ⌜ Ends (now text) (now ends) ⌝ }
     ensures { λ r. ⌜ r ≡ elementAt (now (text .entry)) at ⌝ }
 {

@@ -11,7 +11,7 @@ use json_text::strings::string;
 use json_value::items::colon;
 
 // Keeps the end of the value at a place, which was read with so many levels.
-pub fn keep(text: &[u8], ends: &mut [u32], at: usize, left: usize, end: usize)
+fn keep(text: &[u8], ends: &mut [u32], at: usize, left: usize, end: usize)
     requires { ⌜ (valueAt left (now text) at ≡ To end) × Ends (now text) (now ends) ⌝ }
     ensures { λ r. ⌜ Ends (now (text .entry)) (now (ends .exit)) ⌝ }
 {
@@ -27,7 +27,7 @@ pub fn keep(text: &[u8], ends: &mut [u32], at: usize, left: usize, end: usize)
 }
 
 // Keeps what was read as the value at a place.
-pub fn note(text: &[u8], ends: &mut [u32], at: usize, left: usize, found: Read) -> Read
+pub(crate) fn note(text: &[u8], ends: &mut [u32], at: usize, left: usize, found: Read) -> Read
     requires { ⌜ (found ≡ valueAt left (now text) at) × Ends (now text) (now ends) ⌝ }
     ensures { λ r. ⌜ Found (valueAt left (now (text .entry)) at) (now (text .entry)) (now (ends .exit)) r ⌝ }
 {
@@ -42,7 +42,7 @@ pub fn note(text: &[u8], ends: &mut [u32], at: usize, left: usize, found: Read) 
 }
 
 // Reads a name and keeps its end: the string is a value too, which opens no level.
-pub fn label(text: &[u8], ends: &mut [u32], at: usize) -> Read
+fn label(text: &[u8], ends: &mut [u32], at: usize) -> Read
     requires { ⌜ Ends (now text) (now ends) ⌝ }
     ensures { λ r. ⌜ Found (stringAt (now (text .entry)) at) (now (text .entry)) (now (ends .exit)) r ⌝ }
 {
@@ -57,7 +57,7 @@ pub fn label(text: &[u8], ends: &mut [u32], at: usize) -> Read
 }
 
 // A member's name and colon, and the place of its value.
-pub fn name(text: &[u8], ends: &mut [u32], at: usize) -> Read
+pub(crate) fn name(text: &[u8], ends: &mut [u32], at: usize) -> Read
     requires { ⌜ Ends (now text) (now ends) ⌝ }
     ensures { λ r. ⌜ Found (nameAt (now (text .entry)) at) (now (text .entry)) (now (ends .exit)) r ⌝ }
 {

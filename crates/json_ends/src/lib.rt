@@ -2,8 +2,8 @@
 // pass over a name or a value by one look. What the table says of a place is true or nothing, so it costs no answer: a
 // value that it does not know is read.
 pub mod arrays;
-pub mod keeping;
+mod keeping;
 pub mod objects;
-pub mod reading;
-pub mod table;
+mod reading;
+mod table;
 pub mod whole;

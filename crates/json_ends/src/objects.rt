@@ -16,7 +16,7 @@ use json_walk::Member;
 use json_walk::MemberStep;
 
 // The member whose name stands at a place.
-pub fn member(text: &[u8], ends: &[u32], at: usize) -> MemberStep
+fn member(text: &[u8], ends: &[u32], at: usize) -> MemberStep
     requires { ⌜ Ends (now text) (now ends) ⌝ }
     ensures { λ r. ⌜ r ≡ memberAt (now (text .entry)) at ⌝ }
 {

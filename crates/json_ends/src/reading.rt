@@ -16,7 +16,7 @@ use json_value::items::after;
 use json_value::items::first;
 
 // The value at a place, where so many levels may still be opened.
-pub fn value(text: &[u8], ends: &mut [u32], at: usize, left: usize) -> Read
+pub(crate) fn value(text: &[u8], ends: &mut [u32], at: usize, left: usize) -> Read
     requires { ⌜ Ends (now text) (now ends) ⌝ }
     ensures { λ r. ⌜ Found (valueAt left (now (text .entry)) at) (now (text .entry)) (now (ends .exit)) r ⌝ }
 {
@@ -34,7 +34,7 @@ pub fn value(text: &[u8], ends: &mut [u32], at: usize, left: usize) -> Read
 }
 
 // The array whose bracket stands at a place. It has fewer elements than the text has bytes.
-pub fn array(text: &[u8], ends: &mut [u32], at: usize, left: usize) -> Read
+fn array(text: &[u8], ends: &mut [u32], at: usize, left: usize) -> Read
     requires { ⌜ (at < length (now text)) × Ends (now text) (now ends) ⌝ }
     ensures { λ r. ⌜ Found (arrayAt left (now (text .entry)) at) (now (text .entry)) (now (ends .exit)) r ⌝ }
 {
@@ -65,7 +65,7 @@ pub fn array(text: &[u8], ends: &mut [u32], at: usize, left: usize) -> Read
 }
 
 // The object whose bracket stands at a place.
-pub fn object(text: &[u8], ends: &mut [u32], at: usize, left: usize) -> Read
+fn object(text: &[u8], ends: &mut [u32], at: usize, left: usize) -> Read
     requires { ⌜ (at < length (now text)) × Ends (now text) (now ends) ⌝ }
     ensures { λ r. ⌜ Found (objectAt left (now (text .entry)) at) (now (text .entry)) (now (ends .exit)) r ⌝ }
 {

@@ -11,10 +11,10 @@ use json_text::strings::string;
 use json_value::values::value;
 
 // An entry is an end times this, and the levels that the value was read with.
-pub const STEP: u32 = 32;
+pub(crate) const STEP: u32 = 32;
 
 // The entry of a place; 0 past the end.
-pub fn entry(ends: &[u32], i: usize) -> u32
+fn entry(ends: &[u32], i: usize) -> u32
     ensures { λ r. ⌜ r ≡ getD (now (ends .entry)) i 0 ⌝ }
 {
     if i < ends.len() {
@@ -24,20 +24,20 @@ pub fn entry(ends: &[u32], i: usize) -> u32
 }
 
 // The end that an entry says, and the levels.
-pub fn end_of(entry: u32) -> usize
+fn end_of(entry: u32) -> usize
     ensures { λ r. ⌜ r ≡ entry / 32 ⌝ }
 {
     (entry / STEP) as usize
 }
 
-pub fn levels_of(entry: u32) -> usize
+fn levels_of(entry: u32) -> usize
     ensures { λ r. ⌜ r ≡ entry % 32 ⌝ }
 {
     (entry % STEP) as usize
 }
 
 // The value at a place, as `value` reads it; by one look where the table knows it.
-pub fn past(text: &[u8], ends: &[u32], at: usize, left: usize) -> Read
+pub(crate) fn past(text: &[u8], ends: &[u32], at: usize, left: usize) -> Read
     requires { ⌜ Ends (now text) (now ends) ⌝ }
     ensures { λ r. ⌜ r ≡ valueAt left (now (text .entry)) at ⌝ }
 {
@@ -52,7 +52,7 @@ pub fn past(text: &[u8], ends: &[u32], at: usize, left: usize) -> Read
 }
 
 // The string at a place, as `string` reads it; by one look where the table knows it: a string is a value, of no level.
-pub fn string_past(text: &[u8], ends: &[u32], at: usize) -> Read
+pub(crate) fn string_past(text: &[u8], ends: &[u32], at: usize) -> Read
     requires { ⌜ Ends (now text) (now ends) ⌝ }
     ensures { λ r. ⌜ r ≡ stringAt (now (text .entry)) at ⌝ }
 {

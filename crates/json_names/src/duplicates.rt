@@ -13,7 +13,7 @@ use crate::sorted::index;
 use crate::sorted::judge;
 
 // Have two members equal names? By k entries, which should be their names, with room to sort them.
-pub fn repeated_in(
+fn repeated_in(
     text: &[u8],
     ends: &[u32],
     at: usize,
@@ -30,7 +30,7 @@ pub fn repeated_in(
 }
 
 // Have two members equal names? By k entries.
-pub fn repeated_any(
+fn repeated_any(
     text: &[u8],
     ends: &[u32],
     at: usize,
@@ -48,7 +48,7 @@ pub fn repeated_any(
 }
 
 // Have two members equal names? By the entries from one index to another.
-pub fn repeated_from(
+pub(crate) fn repeated_from(
     text: &[u8],
     ends: &[u32],
     at: usize,

@@ -22,7 +22,7 @@ use json_walk::MemberStep;
 
 // Is the value at a place at fault? It opens at most so many levels. The names of the objects around it stand in `order`
 // before `base`.
-pub fn fault(
+pub(crate) fn fault(
     text: &[u8],
     ends: &[u32],
     at: usize,
@@ -49,7 +49,7 @@ pub fn fault(
 }
 
 // Is the object at a place at fault?
-pub fn object(
+fn object(
     text: &[u8],
     ends: &[u32],
     at: usize,
@@ -87,7 +87,7 @@ pub fn object(
 }
 
 // Is a value of the array at a place at fault?
-pub fn array(
+fn array(
     text: &[u8],
     ends: &[u32],
     at: usize,

@@ -12,7 +12,14 @@ use json_walk::MemberStep;
 use json_walk::strings::same_raw;
 
 // Has one of the next n members, behind a place, the name that stands from `name` to `stop`?
-pub fn among(text: &[u8], ends: &[u32], name: usize, stop: usize, at: usize, count: usize) -> bool
+pub(crate) fn among(
+    text: &[u8],
+    ends: &[u32],
+    name: usize,
+    stop: usize,
+    at: usize,
+    count: usize,
+) -> bool
     requires { ⌜ Ends (now text) (now ends) ⌝ }
     ensures { λ r. ⌜ r ≡ named (now (text .entry)) (rawAt (now (text .entry)) name stop) (membersFrom count (now (text .entry)) (nextMemberAt (now (text .entry)) at)) ⌝ }
 {
@@ -34,7 +41,7 @@ pub fn among(text: &[u8], ends: &[u32], name: usize, stop: usize, at: usize, cou
 }
 
 // Have two members equal names? Each name is compared with those behind it.
-pub fn repeated(text: &[u8], ends: &[u32], at: usize) -> bool
+pub(crate) fn repeated(text: &[u8], ends: &[u32], at: usize) -> bool
     requires { ⌜ (at < length (now text)) × Ends (now text) (now ends) ⌝ }
     ensures { λ r. ⌜ r ≡ repeats (now (text .entry)) (membersOf (now (text .entry)) at) ⌝ }
 {

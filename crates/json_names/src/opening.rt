@@ -7,7 +7,7 @@ ghost use Rattle.json_names.specs.Walked.{opener};
 use json_text::bytes::byte;
 
 // Does an object or an array begin at a place?
-pub fn opens(text: &[u8], at: usize) -> bool
+pub(crate) fn opens(text: &[u8], at: usize) -> bool
     ensures { λ r. ⌜ r ≡ opener (byte (now (text .entry)) at) ⌝ }
 {
     let b = byte(text, at);
@@ -18,7 +18,7 @@ pub fn opens(text: &[u8], at: usize) -> bool
 }
 
 // Puts an entry behind the first k, if there is room, and says how many there are then.
-pub fn append(order: &mut [u64], k: usize, entry: u64) -> usize
+pub(crate) fn append(order: &mut [u64], k: usize, entry: u64) -> usize
     requires { ⌜ k ≤ length (now order) ⌝ }
     ensures { λ r. ⌜ (length (now (order .exit)) ≡ length (now (order .entry))) × (k ≤ r) × (r ≤ length (now (order .entry))) ⌝ }
 {

@@ -16,7 +16,7 @@ fn seen(any: u8, b: u8) -> u8
 }
 
 // Is there no backslash in the text? It may say no where there is none.
-pub fn slash_free(text: &[u8]) -> bool
+pub(crate) fn slash_free(text: &[u8]) -> bool
     ensures { λ r. ⌜ Clean (now (text .entry)) r ⌝ }
 {
     let mut any: u8 = 0;
@@ -32,7 +32,7 @@ pub fn slash_free(text: &[u8]) -> bool
 }
 
 // Has the name from a place to another a backslash? In a clean text none has.
-pub fn slash_named(text: &[u8], clean: bool, name: usize, stop: usize) -> bool
+pub(crate) fn slash_named(text: &[u8], clean: bool, name: usize, stop: usize) -> bool
     requires { ⌜ Clean (now text) clean ⌝ }
     ensures { λ r. ⌜ r ≡ slashed (rawAt (now (text .entry)) name stop) ⌝ }
 {

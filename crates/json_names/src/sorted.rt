@@ -19,7 +19,7 @@ use json_ends::objects::next_member;
 use json_walk::MemberStep;
 
 // The entry at an index; 0 past the end.
-pub fn entry(order: &[u64], i: usize) -> u64
+pub(crate) fn entry(order: &[u64], i: usize) -> u64
     ensures { λ r. ⌜ r ≡ getD (now (order .entry)) i 0 ⌝ }
 {
     if i < order.len() {
@@ -29,7 +29,7 @@ pub fn entry(order: &[u64], i: usize) -> u64
 }
 
 // The difference, and 0 where it would be below 0.
-pub fn minus(a: usize, b: usize) -> usize
+pub(crate) fn minus(a: usize, b: usize) -> usize
     ensures { λ r. ⌜ r ≡ a - b ⌝ }
 {
     if a < b {
@@ -39,7 +39,7 @@ pub fn minus(a: usize, b: usize) -> usize
 }
 
 // How many of the first entries come before the next one.
-pub fn rising(text: &[u8], order: &[u64], k: usize) -> usize
+pub(crate) fn rising(text: &[u8], order: &[u64], k: usize) -> usize
     ensures { λ r. ⌜ Rising (now (text .entry)) (now (order .entry)) r ⌝ }
 {
     let mut i = 0;
@@ -57,7 +57,7 @@ pub fn rising(text: &[u8], order: &[u64], k: usize) -> usize
 
 // Writes, for each of the first k entries, its index where `locate` looks for it. A member takes five bytes at least, so
 // no two names fall together.
-pub fn index(order: &[u64], places: &mut [u64], k: usize)
+pub(crate) fn index(order: &[u64], places: &mut [u64], k: usize)
     ensures { λ r. ⌜ length (now (places .exit)) ≡ length (now (places .entry)) ⌝ }
 {
     let mut i = 0;
@@ -68,19 +68,12 @@ pub fn index(order: &[u64], places: &mut [u64], k: usize)
 }
 
 // Which entry is that of the name at a place, if `index` wrote it.
-pub fn locate(places: &[u64], name: usize) -> usize {
+fn locate(places: &[u64], name: usize) -> usize {
     entry(places, name / 5) as usize
 }
 
 // Are all names of the object at a place among the first k entries?
-pub fn covered(
-    text: &[u8],
-    ends: &[u32],
-    at: usize,
-    order: &[u64],
-    places: &[u64],
-    k: usize,
-) -> bool
+fn covered(text: &[u8], ends: &[u32], at: usize, order: &[u64], places: &[u64], k: usize) -> bool
     requires { ⌜ (at < length (now text)) × Ends (now text) (now ends) ⌝ }
     ensures { λ r. ⌜ (r ≡ true → Covered (now (order .entry)) k at (membersOf (now (text .entry)) at)) ⌝ }
 {
@@ -115,7 +108,7 @@ pub fn covered(
 }
 
 // Does the name that stands at a place come again, in the object at a place?
-pub fn again(text: &[u8], ends: &[u32], at: usize, name: usize) -> bool
+fn again(text: &[u8], ends: &[u32], at: usize, name: usize) -> bool
     requires { ⌜ (at < length (now text)) × Ends (now text) (now ends) ⌝ }
     ensures { λ r. ⌜ (r ≡ true → repeats (now (text .entry)) (membersOf (now (text .entry)) at) ≡ true) ⌝ }
 {
@@ -137,7 +130,7 @@ pub fn again(text: &[u8], ends: &[u32], at: usize, name: usize) -> bool
 }
 
 // Have two members equal names? By k entries that should be all names, sorted, of which r come before the next one.
-pub fn judge(
+pub(crate) fn judge(
     text: &[u8],
     ends: &[u32],
     at: usize,

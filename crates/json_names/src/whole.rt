@@ -13,7 +13,7 @@ use json_value::LEVELS;
 
 // Is a name in the value at a place at fault? With a table of ends, which the walks look into: so each object is gone over
 // a few times, however deep it lies; and with room to sort names.
-pub fn fault_in(text: &[u8], ends: &[u32], at: usize, order: &mut [u64], spare: &mut [u64]) -> bool
+fn fault_in(text: &[u8], ends: &[u32], at: usize, order: &mut [u64], spare: &mut [u64]) -> bool
     requires { ⌜ (length (now order) ≤ 65536) × (length (now order) ≤ length (now spare)) × Ends (now text) (now ends) ⌝ }
     ensures { λ r. ⌜ r ≡ faultAt levels (now (text .entry)) at ⌝ }
 {
@@ -22,7 +22,7 @@ pub fn fault_in(text: &[u8], ends: &[u32], at: usize, order: &mut [u64], spare: 
 }
 
 // A text of 2,048 bytes. A member takes five bytes at least.
-pub fn short_fault(text: &[u8], ends: &[u32], at: usize) -> bool
+fn short_fault(text: &[u8], ends: &[u32], at: usize) -> bool
     requires { ⌜ Ends (now text) (now ends) ⌝ }
     ensures { λ r. ⌜ r ≡ faultAt levels (now (text .entry)) at ⌝ }
 {
@@ -32,7 +32,7 @@ pub fn short_fault(text: &[u8], ends: &[u32], at: usize) -> bool
 }
 
 // A text of 65,536 bytes. A longer one has its answer too, in more time.
-pub fn long_fault(text: &[u8], ends: &[u32], at: usize) -> bool
+fn long_fault(text: &[u8], ends: &[u32], at: usize) -> bool
     requires { ⌜ Ends (now text) (now ends) ⌝ }
     ensures { λ r. ⌜ r ≡ faultAt levels (now (text .entry)) at ⌝ }
 {

@@ -13,7 +13,7 @@ pub fn byte(text: &[u8], i: usize) -> u8
     0
 }
 
-pub fn is_space(b: u8) -> bool
+fn is_space(b: u8) -> bool
     ensures { λ r. ⌜ r ≡ isSpace b ⌝ }
 {
     if b == 0x20 {

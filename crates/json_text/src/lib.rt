@@ -2,9 +2,9 @@
 // a place of the text and answers where what it read ends. Nothing is copied and no table is kept.
 pub mod bytes;
 pub mod numbers;
-pub mod plain;
+mod plain;
 pub mod strings;
-pub mod utf8;
+mod utf8;
 pub mod words;
 
 // What a reader answers: the place behind what it read; or that the text is not JSON there; or that it opens a level

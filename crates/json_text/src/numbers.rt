@@ -16,7 +16,7 @@ pub fn some_digits(text: &[u8], at: usize) -> Read
     Read::To(digits(text, at + 1))
 }
 
-pub fn int(text: &[u8], at: usize) -> Read
+fn int(text: &[u8], at: usize) -> Read
     ensures { λ r. ⌜ r ≡ intAt (now (text .entry)) at ⌝ }
 {
     if byte(text, at) == 0x30 {
@@ -35,7 +35,7 @@ pub fn frac(text: &[u8], at: usize) -> Read
 }
 
 // The exponent behind its e.
-pub fn power(text: &[u8], at: usize) -> Read
+fn power(text: &[u8], at: usize) -> Read
     ensures { λ r. ⌜ r ≡ powerAt (now (text .entry)) at ⌝ }
 {
     let b = byte(text, at);
@@ -48,7 +48,7 @@ pub fn power(text: &[u8], at: usize) -> Read
     some_digits(text, at)
 }
 
-pub fn exp(text: &[u8], at: usize) -> Read
+fn exp(text: &[u8], at: usize) -> Read
     ensures { λ r. ⌜ r ≡ expAt (now (text .entry)) at ⌝ }
 {
     let b = byte(text, at);
@@ -61,7 +61,7 @@ pub fn exp(text: &[u8], at: usize) -> Read
     Read::To(at)
 }
 
-pub fn unsigned(text: &[u8], at: usize) -> Read
+fn unsigned(text: &[u8], at: usize) -> Read
     ensures { λ r. ⌜ r ≡ unsignedAt (now (text .entry)) at ⌝ }
 {
     match int(text, at) {
@@ -75,7 +75,7 @@ pub fn unsigned(text: &[u8], at: usize) -> Read
     }
 }
 
-pub fn number(text: &[u8], at: usize) -> Read
+pub(crate) fn number(text: &[u8], at: usize) -> Read
     ensures { λ r. ⌜ r ≡ numberAt (now (text .entry)) at ⌝ }
 {
     if byte(text, at) == 0x2D {

@@ -9,7 +9,7 @@ ghost use Rattle.json_text.specs.Plain.{isPlain, plainAt, PlainRun};
 use crate::bytes::byte;
 
 // No quotation mark, no backslash, no control byte, and no part of a char of several bytes.
-pub fn is_plain(b: u8) -> bool
+pub(crate) fn is_plain(b: u8) -> bool
     ensures { λ r. ⌜ r ≡ isPlain b ⌝ }
 {
     if b == 0x22 {
@@ -100,7 +100,7 @@ fn single(text: &[u8], at: usize) -> usize
 }
 
 // The place behind plain bytes. Most runs are short: only one that goes on behind 32 bytes is worth blocks.
-pub fn plain(text: &[u8], at: usize) -> usize
+pub(crate) fn plain(text: &[u8], at: usize) -> usize
     ensures { λ r. ⌜ r ≡ plainAt (now (text .entry)) at ⌝ }
 {
     let mut i = at;

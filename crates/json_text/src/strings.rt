@@ -8,7 +8,7 @@ use crate::plain::is_plain;
 use crate::plain::plain;
 use crate::utf8::multi;
 
-pub fn is_hex(b: u8) -> bool
+fn is_hex(b: u8) -> bool
     ensures { λ r. ⌜ r ≡ isHex b ⌝ }
 {
     if is_digit(b) {
@@ -27,7 +27,7 @@ pub fn is_hex(b: u8) -> bool
 }
 
 // Four hexadecimal digits.
-pub fn hex(text: &[u8], at: usize) -> Read
+fn hex(text: &[u8], at: usize) -> Read
     ensures { λ r. ⌜ r ≡ hexAt (now (text .entry)) at ⌝ }
 {
     if !is_hex(byte(text, at)) {
@@ -45,7 +45,7 @@ pub fn hex(text: &[u8], at: usize) -> Read
     Read::To(at + 4)
 }
 
-pub fn is_escaped(b: u8) -> bool
+fn is_escaped(b: u8) -> bool
     ensures { λ r. ⌜ r ≡ isEscaped b ⌝ }
 {
     if b == 0x22 {
@@ -73,7 +73,7 @@ pub fn is_escaped(b: u8) -> bool
 }
 
 // What follows a backslash.
-pub fn escape(text: &[u8], at: usize) -> Read
+fn escape(text: &[u8], at: usize) -> Read
     ensures { λ r. ⌜ r ≡ escapeAt (now (text .entry)) at ⌝ }
 {
     let b = byte(text, at);
@@ -87,7 +87,7 @@ pub fn escape(text: &[u8], at: usize) -> Read
 }
 
 // One char, which is no quotation mark.
-pub fn character(text: &[u8], at: usize) -> Read
+fn character(text: &[u8], at: usize) -> Read
     ensures { λ r. ⌜ r ≡ charAt (now (text .entry)) at ⌝ }
 {
     let b = byte(text, at);

@@ -5,7 +5,7 @@ ghost use Rattle.json_text.specs.Utf8.{isTail, tailsAt, secondAt, multiA
 use crate::Read;
 use crate::bytes::byte;
 
-pub fn is_tail(b: u8) -> bool
+fn is_tail(b: u8) -> bool
     ensures { λ r. ⌜ r ≡ isTail b ⌝ }
 {
     if b < 0x80 {
@@ -15,7 +15,7 @@ pub fn is_tail(b: u8) -> bool
 }
 
 // So many tail bytes.
-pub fn tails(text: &[u8], at: usize, count: usize) -> Read
+fn tails(text: &[u8], at: usize, count: usize) -> Read
     ensures { λ r. ⌜ r ≡ tailsAt count (now (text .entry)) at ⌝ }
 {
     let mut i = at;
@@ -31,7 +31,7 @@ pub fn tails(text: &[u8], at: usize, count: usize) -> Read
 }
 
 // A second byte within bounds, then so many tail bytes.
-pub fn second(text: &[u8], at: usize, low: u8, high: u8, count: usize) -> Read
+fn second(text: &[u8], at: usize, low: u8, high: u8, count: usize) -> Read
     requires { ⌜ 0 < low ⌝ }
     ensures { λ r. ⌜ r ≡ secondAt low high count (now (text .entry)) at ⌝ }
 {
@@ -46,7 +46,7 @@ pub fn second(text: &[u8], at: usize, low: u8, high: u8, count: usize) -> Read
 }
 
 // A character of more than one byte.
-pub fn multi(text: &[u8], at: usize) -> Read
+pub(crate) fn multi(text: &[u8], at: usize) -> Read
     ensures { λ r. ⌜ r ≡ multiAt (now (text .entry)) at ⌝ }
 {
     let b = byte(text, at);

@@ -9,7 +9,7 @@ use crate::numbers::number;
 use crate::strings::string;
 
 // Four given bytes.
-pub fn four(text: &[u8], at: usize, a: u8, b: u8, c: u8, d: u8) -> Read
+fn four(text: &[u8], at: usize, a: u8, b: u8, c: u8, d: u8) -> Read
     requires { ⌜ (0 < a) × (0 < b) × (0 < c) × (0 < d) ⌝ }
     ensures { λ r. ⌜ r ≡ wordAt (a ∷ b ∷ c ∷ d ∷ []) (now (text .entry)) at ⌝ }
 {

@@ -9,10 +9,10 @@ use json_text::bytes::digits;
 use json_text::bytes::is_digit;
 
 // 2^53 - 1
-pub const LARGEST: u64 = 9007199254740991;
+const LARGEST: u64 = 9007199254740991;
 
 // The value of a digit.
-pub fn digit(b: u8) -> u64
+fn digit(b: u8) -> u64
     ensures { λ r. ⌜ DigitValue b r ⌝ }
 {
     if b < 0x30 {
@@ -22,7 +22,7 @@ pub fn digit(b: u8) -> u64
 }
 
 // The number of the digits at a place; some number over 2^53 - 1 where it is larger than that.
-pub fn size(text: &[u8], at: usize) -> u64
+fn size(text: &[u8], at: usize) -> u64
     ensures { λ r. ⌜ Capped (decimal 0 (drop at (now (text .entry)))) r ⌝ }
 {
     let mut i = at;
@@ -38,7 +38,7 @@ pub fn size(text: &[u8], at: usize) -> u64
 }
 
 // Does a fraction or an exponent begin with this byte?
-pub fn goes_on(b: u8) -> bool
+fn goes_on(b: u8) -> bool
     ensures { λ r. ⌜ r ≡ goesOn b ⌝ }
 {
     if b == 0x2E {
@@ -51,7 +51,7 @@ pub fn goes_on(b: u8) -> bool
 }
 
 // -0 is 0.
-pub fn sign(below: bool, size: u64) -> Integer
+fn sign(below: bool, size: u64) -> Integer
     ensures { λ r. ⌜ r ≡ signed below size ⌝ }
 {
     if size == 0 {
@@ -61,7 +61,7 @@ pub fn sign(below: bool, size: u64) -> Integer
 }
 
 // The digits at a place, behind a minus or not.
-pub fn sized(text: &[u8], at: usize, below: bool) -> Integer
+fn sized(text: &[u8], at: usize, below: bool) -> Integer
     ensures { λ r. ⌜ r ≡ sizeAt below (now (text .entry)) at ⌝ }
 {
     if goes_on(byte(text, digits(text, at))) {
@@ -74,7 +74,7 @@ pub fn sized(text: &[u8], at: usize, below: bool) -> Integer
     Integer::No
 }
 
-pub fn unsigned(text: &[u8], at: usize, below: bool) -> Integer
+fn unsigned(text: &[u8], at: usize, below: bool) -> Integer
     ensures { λ r. ⌜ r ≡ wholeAt below (now (text .entry)) at ⌝ }
 {
     if is_digit(byte(text, at)) {

@@ -48,7 +48,7 @@ pub fn colon(text: &[u8], at: usize) -> Read
 }
 
 // A member's name and colon, and the place of its value.
-pub fn name(text: &[u8], at: usize) -> Read
+pub(crate) fn name(text: &[u8], at: usize) -> Read
     ensures { λ r. ⌜ r ≡ nameAt (now (text .entry)) at ⌝ }
 {
     match string(text, at) {

@@ -28,7 +28,7 @@ pub fn value(text: &[u8], at: usize, left: usize) -> Read
 }
 
 // The array whose bracket stands at a place. It has fewer elements than the text has bytes.
-pub fn array(text: &[u8], at: usize, left: usize) -> Read
+fn array(text: &[u8], at: usize, left: usize) -> Read
     requires { ⌜ at < length (now text) ⌝ }
     ensures { λ r. ⌜ r ≡ arrayAt left (now (text .entry)) at ⌝ }
 {
@@ -59,7 +59,7 @@ pub fn array(text: &[u8], at: usize, left: usize) -> Read
 }
 
 // The object whose bracket stands at a place.
-pub fn object(text: &[u8], at: usize, left: usize) -> Read
+fn object(text: &[u8], at: usize, left: usize) -> Read
     requires { ⌜ at < length (now text) ⌝ }
     ensures { λ r. ⌜ r ≡ objectAt left (now (text .entry)) at ⌝ }
 {

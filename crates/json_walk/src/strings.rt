@@ -29,7 +29,7 @@ pub fn inside(k: usize, j: usize) -> usize
 }
 
 // Are the n bytes at a place of one text those at a place of another, or of the same?
-pub fn same_bytes(text: &[u8], a: usize, other: &[u8], b: usize, count: usize) -> bool
+fn same_bytes(text: &[u8], a: usize, other: &[u8], b: usize, count: usize) -> bool
     ensures { λ r. ⌜ r ≡ same (bytesAt count (now (text .entry)) a) (bytesAt count (now (other .entry)) b) ⌝ }
 {
     let mut i = a;
@@ -70,7 +70,7 @@ pub fn raw_is(text: &[u8], k: usize, j: usize, word: &[u8]) -> bool
 }
 
 // Is there a backslash among the n bytes at a?
-pub fn slash_in(text: &[u8], a: usize, count: usize) -> bool
+fn slash_in(text: &[u8], a: usize, count: usize) -> bool
     ensures { λ r. ⌜ r ≡ slashed (bytesAt count (now (text .entry)) a) ⌝ }
 {
     let mut i = a;

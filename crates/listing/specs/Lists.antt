@@ -28,7 +28,7 @@ pub record Collected (hits : List Bool) (first : ℕ) (before : List ℕ) (at : 
   pub low : (j : ℕ) → j < at → getD after j 0 ≡ getD before j 0
   pub high : (j : ℕ) → at + length hits ≤ j → getD after j 0 ≡ getD before j 0
 
--- The list, or a place beyond the slice where it is not listed.
+-- The list, or a place beyond the slice where it is not listed. Which of the two is left open: days that are not listed are marked.
 pub record Tried (p : ℕ → Bool) (first n : ℕ) (before : List ℕ) (at : ℕ) (after : List ℕ) (end : ℕ) : Type 0 where
   pub size : length after ≡ length before
   pub days : end ≤ length before → take end after ≡ take at before ++ listIn p first n

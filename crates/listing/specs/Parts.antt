@@ -1,11 +1,12 @@
 -- The days of a rule in a part of a month, listed.
 use Prim.Native.Nat.{ℕ, _+_, _<_, _≤_}
-use mathlib.Core.Bool.{Bool, true}
+use mathlib.Core.Bool.{Bool, true, false}
 use mathlib.Core.List.{List}
 use mathlib.Core.Path.{_≡_}
 use lib.ListN.{length}
 use Rattle.rule.specs.declared.Day.{Day}
-use Rattle.rule.specs.declared.Frequency.the-variants.{Monthly}
+use Rattle.rule.specs.declared.Frequency.{Frequency}
+use Rattle.rule.specs.declared.Frequency.the-variants.{Daily, Weekly, Monthly, Yearly}
 use Rattle.matcher.specs.declared.Terms.{Terms}
 use Rattle.matcher.specs.Flags.{monthBy}
 use Rattle.matcher.specs.Walk.{Asked, stepBy, picksOnBy}
@@ -14,6 +15,12 @@ use Rattle.track.specs.Alike.{Alike}
 use Rattle.track.specs.Plain.{InMonth}
 use Rattle.listing.specs.Lists.{Listed}
 use Rattle.listing.specs.Kinds.{KeptLists}
+
+unfoldable pub isMonthly : Frequency → Bool
+isMonthly Daily = false
+isMonthly Weekly = false
+isMonthly Monthly = true
+isMonthly Yearly = false
 
 -- What a rule has of a month depends only on the month's kind; set positions count in months.
 pub record ByMonths (t : Terms) (row : List Bool) : Type 0 where

@@ -18,7 +18,7 @@ fn one_more(n: usize, yes: bool) -> usize
 }
 
 // Each day is written, and the place goes on only behind one that is hit: no branch for the machine to guess.
-pub fn collect(hits: &[bool], first: u32, days: &mut [u32], at: usize) -> usize
+pub(crate) fn collect(hits: &[bool], first: u32, days: &mut [u32], at: usize) -> usize
     requires { ⌜ (first + length (now hits) ≤ endDay) × ((at + length (now hits) ≤ length (now days)) × (length (now days) < 4294967296)) ⌝ }
     ensures { λ r. ⌜ Collected (now (hits .entry)) first (now (days .entry)) at (now (days .exit)) r ⌝ }
 {
@@ -33,7 +33,7 @@ pub fn collect(hits: &[bool], first: u32, days: &mut [u32], at: usize) -> usize
 }
 
 // Days that are given from 0 on, in a month that begins on the day `first`.
-pub fn copy_from(list: &[u32], first: u32, days: &mut [u32], at: usize) -> usize
+pub(crate) fn copy_from(list: &[u32], first: u32, days: &mut [u32], at: usize) -> usize
     requires { ⌜ Offsets first (now list) × (at + length (now list) ≤ length (now days)) ⌝ }
     ensures { λ r. ⌜ Copied (now (list .entry)) first (now (days .entry)) at (now (days .exit)) r ⌝ }
 {

@@ -11,7 +11,7 @@ use matcher::Terms;
 
 // The n days from `first` on, behind the first entries of the list: the place behind the last of them, or one beyond the list where a month might
 // not have room.
-pub fn list_days(
+pub(crate) fn list_days(
     terms: Terms,
     flags: &[bool],
     first: u32,

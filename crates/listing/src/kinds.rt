@@ -20,7 +20,7 @@ fn write_list(row: &[bool], lists: &mut [u32], at: usize)
 }
 
 // Where the list of a kind begins; it is written where it was not yet.
-pub fn keep_list(
+pub(crate) fn keep_list(
     flags: &[bool],
     placed: bool,
     weekday: u32,

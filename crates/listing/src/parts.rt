@@ -63,7 +63,7 @@ fn list_some(
 }
 
 // The n days of one month from x on.
-pub fn list_part(
+pub(crate) fn list_part(
     terms: Terms,
     flags: &[bool],
     rows: &mut [bool],

@@ -6,14 +6,14 @@ ghost use lib.ListN.{length};
 ghost use Rattle.rule.specs.declared.Frequency.the-variants.{Monthly};
 ghost use Rattle.track.specs.Runs.{hasDay};
 ghost use Rattle.listing.specs.Lists.{Tried, Listing, startOr};
-ghost use Rattle.listing.specs.Parts.{ByMonths};
+ghost use Rattle.listing.specs.Parts.{isMonthly, ByMonths};
 use crate::days::list_days;
 use matcher::Terms;
 use rule::Frequency;
 use track::Track;
 
 fn is_monthly(frequency: Frequency) -> bool
-    ensures { λ r. ⌜ (r ≡ true → frequency ≡ Monthly) ⌝ }
+    ensures { λ r. ⌜ r ≡ isMonthly frequency ⌝ }
 {
     match frequency {
         Frequency::Daily => false,
@@ -24,7 +24,7 @@ fn is_monthly(frequency: Frequency) -> bool
 }
 
 fn counts_in_months(terms: Terms) -> bool
-    ensures { λ r. ⌜ (r ≡ true → terms .placed ≡ true → terms .frequency ≡ Monthly) ⌝ }
+    ensures { λ r. ⌜ (r ≡ true → terms .placed ≡ true → terms .frequency ≡ Monthly) × ((terms .placed ≡ true → terms .frequency ≡ Monthly) → r ≡ true) ⌝ }
 {
     let placed = terms.placed;
     if !placed {
@@ -37,7 +37,7 @@ fn counts_in_months(terms: Terms) -> bool
 // Months alike have the same days of the rule.
 pub fn is_by_months(terms: Terms, flags: &[bool]) -> bool
     requires { ⌜ length (now flags) ≡ 1574 ⌝ }
-    ensures { λ r. ⌜ (r ≡ true → ByMonths terms (now (flags .entry))) ⌝ }
+    ensures { λ r. ⌜ (r ≡ true → ByMonths terms (now (flags .entry))) × (ByMonths terms (now (flags .entry)) → r ≡ true) ⌝ }
 {
     if !counts_in_months(terms) {
         return false;

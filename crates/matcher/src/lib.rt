@@ -3,7 +3,7 @@
 use rule::Frequency;
 
 pub mod flags;
-pub mod marks;
+mod marks;
 pub mod periods;
 pub mod rows;
 pub mod walk;

@@ -7,7 +7,7 @@ ghost use Rattle.rule.specs.Read.{ndays, nthFrom};
 ghost use Rattle.matcher.specs.Marks.{markOne, markEach, markPlace, markPlaces, markNth, markDays, markAll};
 
 // Flag i of the `limit` flags from `at` on; a number beyond them names nothing.
-pub fn mark(flags: &mut [bool], at: usize, limit: usize, i: u64)
+pub(crate) fn mark(flags: &mut [bool], at: usize, limit: usize, i: u64)
     requires { ⌜ at + limit ≤ length (now flags) ⌝ }
     ensures { λ r. ⌜ now (flags .exit) ≡ markOne (now (flags .entry)) at limit i ⌝ }
 {
@@ -17,7 +17,7 @@ pub fn mark(flags: &mut [bool], at: usize, limit: usize, i: u64)
     }
 }
 
-pub fn mark_all(flags: &mut [bool], at: usize, n: usize)
+pub(crate) fn mark_all(flags: &mut [bool], at: usize, n: usize)
     requires { ⌜ at + n ≤ length (now flags) ⌝ }
     ensures { λ r. ⌜ now (flags .exit) ≡ markAll (now (flags .entry)) at n ⌝ }
 {
@@ -28,7 +28,7 @@ pub fn mark_all(flags: &mut [bool], at: usize, n: usize)
     }
 }
 
-pub fn mark_each(list: &[u32], flags: &mut [bool], at: usize, limit: usize)
+pub(crate) fn mark_each(list: &[u32], flags: &mut [bool], at: usize, limit: usize)
     requires { ⌜ at + limit ≤ length (now flags) ⌝ }
     ensures { λ r. ⌜ now (flags .exit) ≡ markEach (now (flags .entry)) at limit (now (list .entry)) ⌝ }
 {
@@ -50,7 +50,7 @@ fn mark_place(z: i64, flags: &mut [bool], on: usize, back: usize, limit: usize)
     mark(flags, back, limit, from_end);
 }
 
-pub fn mark_places(list: &[i64], flags: &mut [bool], on: usize, back: usize, limit: usize)
+pub(crate) fn mark_places(list: &[i64], flags: &mut [bool], on: usize, back: usize, limit: usize)
     requires { ⌜ (on + limit ≤ length (now flags)) × (back + limit ≤ length (now flags)) ⌝ }
     ensures { λ r. ⌜ now (flags .exit) ≡ markPlaces (now (flags .entry)) on back limit (now (list .entry)) ⌝ }
 {
@@ -90,7 +90,7 @@ fn mark_nth(weekday: u32, z: i64, flags: &mut [bool])
     mark(flags, 77, 7, weekday as u64);
 }
 
-pub fn mark_days(weekdays: &[u32], nths: &[i64], flags: &mut [bool])
+pub(crate) fn mark_days(weekdays: &[u32], nths: &[i64], flags: &mut [bool])
     requires { ⌜ (840 ≤ length (now flags)) × (length (now weekdays) ≡ length (now nths)) ⌝ }
     ensures { λ r. ⌜ now (flags .exit) ≡ markDays (now (flags .entry)) (ndays (now (weekdays .entry)) (now (nths .entry))) ⌝ }
 {

@@ -160,6 +160,7 @@ module _ (placed : Bool) (fl : List Bool) (weekday days : ℕ) (kind : Kind week
   pub keeps : KeptAt placed fl weekday days (set after (rowOf weekday days + 31) true) (rowOf weekday days)
   keeps =
       record {
+        is = refl;
         kept =
             record {
               size = length-set after (rowOf weekday days + 31) true ∙ (wrote .size ∙ kept .size);
@@ -174,7 +175,7 @@ module _ (placed : Bool) (fl : List Bool) (weekday days : ℕ) (kind : Kind week
 pub kept-already : (placed : Bool) (fl : List Bool) (weekday days : ℕ) → Kind weekday days → (rows : List Bool) → Kept placed fl rows
     → getD rows (rowOf weekday days + 31) false ≡ true → KeptAt placed fl weekday days rows (rowOf weekday days)
 kept-already placed fl weekday days kind rows kept e =
-    record { kept = kept; within = omega (arith, kind .week, kind .low, kind .high); row = kept .row weekday days kind e }
+    record { is = refl; kept = kept; within = omega (arith, kind .week, kind .low, kind .high); row = kept .row weekday days kind e }
 
 -- ---- the row of a month
 

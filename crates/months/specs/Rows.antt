@@ -28,8 +28,9 @@ pub record Kept (placed : Bool) (fl rows : List Bool) : Type 0 where
   pub row : (weekday days : ℕ) → Kind weekday days → getD rows (rowOf weekday days + 31) false ≡ true
       → (k : ℕ) → k < days → getD rows (rowOf weekday days + k) false ≡ picksIn placed fl weekday days k
 
--- The kind's row begins at a place.
+-- The kind's row begins at a place. Which other kinds are written is left open: a row that is not written is written when it is asked for.
 pub record KeptAt (placed : Bool) (fl : List Bool) (weekday days : ℕ) (rows : List Bool) (at : ℕ) : Type 0 where
+  pub is : at ≡ rowOf weekday days
   pub kept : Kept placed fl rows
   pub within : at + days ≤ 896
   pub row : (k : ℕ) → k < days → getD rows (at + k) false ≡ picksIn placed fl weekday days k

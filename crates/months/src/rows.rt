@@ -89,7 +89,7 @@ fn one_more(n: u32, yes: bool) -> u32
     n
 }
 
-pub fn count_days(rows: &[bool], at: usize, days: u32) -> u32
+pub(crate) fn count_days(rows: &[bool], at: usize, days: u32) -> u32
     requires { ⌜ (days ≤ 1000) × (at + days ≤ length (now rows)) ⌝ }
     ensures { λ r. ⌜ r ≡ countIn (answerAt (now (rows .entry)) at) 0 days ⌝ }
 {
@@ -128,7 +128,7 @@ fn choose_days(flags: &[bool], days: u32, rows: &mut [bool], at: usize)
     }
 }
 
-pub fn write_row(
+pub(crate) fn write_row(
     flags: &[bool],
     placed: bool,
     weekday: u32,

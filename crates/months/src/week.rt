@@ -25,7 +25,7 @@ fn has_places(flags: &[bool]) -> bool
     0 < super::rows::count_days(flags, 84, 756)
 }
 
-pub fn prepare(flags: &[bool], rows: &mut [bool])
+pub(crate) fn prepare(flags: &[bool], rows: &mut [bool])
     requires { ⌜ Row (length (now flags)) × ((length (now rows) ≡ 960) × (getD (now rows) 958 false ≡ true → Week (now flags) (now rows))) ⌝ }
     ensures { λ r. ⌜ Prepared (now (flags .entry)) (now (rows .entry)) (now (rows .exit)) ⌝ }
 {

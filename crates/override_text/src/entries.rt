@@ -26,7 +26,7 @@ use property::rows::first;
 use property::strings::word;
 
 // The date-time that an override is named by.
-pub fn date(text: &[u8], name: usize) -> When
+pub(crate) fn date(text: &[u8], name: usize) -> When
     ensures { λ r. ⌜ whenIn r ≡ dateTime (wordAt (now (text .entry)) name) ⌝ }
 {
     when(local(word(text, name), 9998))

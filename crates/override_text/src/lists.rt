@@ -19,7 +19,7 @@ use property::rows::first;
 use property::vocabulary::EXCLUDED;
 
 // Does the patch at a place exclude its occurrence?
-pub fn is_excluded(text: &[u8], ends: &[u32], at: usize) -> bool
+fn is_excluded(text: &[u8], ends: &[u32], at: usize) -> bool
     requires { ⌜ Ends (now text) (now ends) ⌝ }
     ensures { λ r. ⌜ ((l : ℕ) (own : Details) (id : ℕ) → r ≡ patchAt l own id (now (text .entry)) at .value .excluded) ⌝ }
 {

@@ -34,14 +34,14 @@ fn mark_in(text: &[u8], at: usize, count: usize) -> bool
     false
 }
 
-pub fn has_mark(text: &[u8], name: usize, stop: usize) -> bool
+fn has_mark(text: &[u8], name: usize, stop: usize) -> bool
     ensures { λ r. ⌜ r ≡ hasMark (rawAt (now (text .entry)) name stop) ⌝ }
 {
     mark_in(text, step(text, name), inside(name, stop))
 }
 
 // The fault of one name.
-pub fn name_fault(text: &[u8], name: usize, stop: usize) -> u32
+fn name_fault(text: &[u8], name: usize, stop: usize) -> u32
     ensures { λ r. ⌜ r ≡ nameFault (rawAt (now (text .entry)) name stop) ⌝ }
 {
     if raw_is(text, name, stop, b"timeZone") {
@@ -54,7 +54,7 @@ pub fn name_fault(text: &[u8], name: usize, stop: usize) -> u32
 }
 
 // The lowest fault of the names of the object at a place.
-pub fn names_fault(text: &[u8], ends: &[u32], at: usize) -> u32
+pub(crate) fn names_fault(text: &[u8], ends: &[u32], at: usize) -> u32
     requires { ⌜ Ends (now text) (now ends) ⌝ }
     ensures { λ r. ⌜ r ≡ lowest (ofName (now (text .entry))) (membersOf (now (text .entry)) at) ⌝ }
 {
@@ -75,7 +75,7 @@ pub fn names_fault(text: &[u8], ends: &[u32], at: usize) -> u32
 }
 
 // Has the object at a place no two members? A text that has two has two bytes.
-pub fn alone(text: &[u8], ends: &[u32], at: usize) -> bool
+pub(crate) fn alone(text: &[u8], ends: &[u32], at: usize) -> bool
     requires { ⌜ Ends (now text) (now ends) ⌝ }
     ensures { λ r. ⌜ r ≡ single (membersOf (now (text .entry)) at) ⌝ }
 {

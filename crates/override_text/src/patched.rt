@@ -28,7 +28,7 @@ use property::vocabulary::START;
 use property::vocabulary::STATUS;
 
 // A null is no date-time.
-pub fn start(text: &[u8], at: usize, row: &[usize], id: u64) -> When
+pub(crate) fn start(text: &[u8], at: usize, row: &[usize], id: u64) -> When
     requires { ⌜ RowTo 10 (now text) at (now row) ⌝ }
     ensures { λ r. ⌜ ((l : ℕ) → whenIn r ≡ startIn l id (now (text .entry)) at) ⌝ }
 {
@@ -41,7 +41,7 @@ pub fn start(text: &[u8], at: usize, row: &[usize], id: u64) -> When
     }
 }
 
-pub fn length(text: &[u8], at: usize, row: &[usize], days: u64, seconds: u64) -> Lasting
+pub(crate) fn length(text: &[u8], at: usize, row: &[usize], days: u64, seconds: u64) -> Lasting
     requires { ⌜ RowTo 10 (now text) at (now row) ⌝ }
     ensures { λ r. ⌜ ((l : ℕ) → lastingIn r ≡ lengthIn l (span days seconds) (now (text .entry)) at) ⌝ }
 {
@@ -64,7 +64,7 @@ pub fn length(text: &[u8], at: usize, row: &[usize], days: u64, seconds: u64) ->
     }
 }
 
-pub fn busy(text: &[u8], at: usize, row: &[usize], own: bool) -> Mark
+pub(crate) fn busy(text: &[u8], at: usize, row: &[usize], own: bool) -> Mark
     requires { ⌜ RowTo 10 (now text) at (now row) ⌝ }
     ensures { λ r. ⌜ ((l : ℕ) → markIn r ≡ busyIn l own (now (text .entry)) at) ⌝ }
 {
@@ -86,7 +86,7 @@ pub fn busy(text: &[u8], at: usize, row: &[usize], own: bool) -> Mark
 }
 
 // A boolean that is false by default.
-pub fn flag(text: &[u8], at: usize, row: &[usize], word: usize, own: bool) -> Mark
+pub(crate) fn flag(text: &[u8], at: usize, row: &[usize], word: usize, own: bool) -> Mark
     requires { ⌜ RowTo (word + 1) (now text) at (now row) ⌝ }
     ensures { λ r. ⌜ ((l : ℕ) → markIn r ≡ flagIn l (wordOf word) own (now (text .entry)) at) ⌝ }
 {
@@ -107,7 +107,7 @@ pub fn flag(text: &[u8], at: usize, row: &[usize], word: usize, own: bool) -> Ma
     }
 }
 
-pub fn passage(text: &[u8], at: usize, row: &[usize], word: usize, own: Place) -> Shown
+pub(crate) fn passage(text: &[u8], at: usize, row: &[usize], word: usize, own: Place) -> Shown
     requires { ⌜ RowTo (word + 1) (now text) at (now row) ⌝ }
     ensures { λ r. ⌜ ((l : ℕ) → shownIn (now (text .entry)) r ≡ textFor l (wordOf word) (textIn (now (text .entry)) own) (now (text .entry)) at) ⌝ }
 {

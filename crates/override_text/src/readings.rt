@@ -14,7 +14,7 @@ use property::Passage;
 use property::Place;
 use words::FreeBusy;
 
-pub fn when(d: DateTime) -> When
+pub(crate) fn when(d: DateTime) -> When
     ensures { λ r. ⌜ whenIn r ≡ fromLocal d ⌝ }
 {
     match d {
@@ -23,7 +23,7 @@ pub fn when(d: DateTime) -> When
     }
 }
 
-pub fn lasting(d: Span) -> Lasting
+pub(crate) fn lasting(d: Span) -> Lasting
     ensures { λ r. ⌜ lastingIn r ≡ fromSpan d ⌝ }
 {
     match d {
@@ -40,7 +40,7 @@ pub fn lasting(d: Span) -> Lasting
     }
 }
 
-pub fn status(b: FreeBusy) -> Mark
+pub(crate) fn status(b: FreeBusy) -> Mark
     ensures { λ r. ⌜ markIn r ≡ fromStatus b ⌝ }
 {
     match b {
@@ -59,7 +59,7 @@ pub fn status(b: FreeBusy) -> Mark
     }
 }
 
-pub fn mark(f: Flag) -> Mark
+pub(crate) fn mark(f: Flag) -> Mark
     ensures { λ r. ⌜ markIn r ≡ fromFlag f ⌝ }
 {
     match f {
@@ -72,7 +72,7 @@ pub fn mark(f: Flag) -> Mark
 }
 
 // The text is there for the contract: a place means the text that stands there.
-pub fn shown(text: &[u8], p: Passage) -> Shown
+pub(crate) fn shown(text: &[u8], p: Passage) -> Shown
     ensures { λ r. ⌜ shownIn (now (text .entry)) r ≡ fromPassage (now (text .entry)) p ⌝ }
 {
     match p {

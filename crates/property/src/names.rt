@@ -11,7 +11,7 @@ use crate::strings::is_word;
 use crate::strings::word;
 
 // Is the value at a place a string without a backslash that has bytes?
-pub fn is_filled(text: &[u8], at: usize) -> bool
+fn is_filled(text: &[u8], at: usize) -> bool
     ensures { λ r. ⌜ r ≡ isFilledAt (now (text .entry)) at ⌝ }
 {
     if !is_word(text, at) {

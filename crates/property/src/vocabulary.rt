@@ -211,7 +211,7 @@ fn long(text: &[u8], k: usize, j: usize, b: u8) -> usize
 }
 
 // The number of the name from k to j. Its length and its first byte leave one word or a few to compare it with.
-pub fn number_of(text: &[u8], k: usize, j: usize) -> usize
+pub(crate) fn number_of(text: &[u8], k: usize, j: usize) -> usize
     ensures { λ r. ⌜ r ≡ numberAt (now (text .entry)) k j ⌝ }
 {
     let n = inside(k, j);

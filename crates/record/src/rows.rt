@@ -20,14 +20,14 @@ fn mark(set: bool, value: u8) -> u8
 }
 
 // Busy 1, all-day 2, floating 4.
-pub fn marks(busy: bool, allday: bool, floating: bool) -> u8
+pub(crate) fn marks(busy: bool, allday: bool, floating: bool) -> u8
     ensures { λ r. ⌜ r ≡ marksFor busy allday floating ⌝ }
 {
     mark(busy, 1) + mark(allday, 2) + mark(floating, 4)
 }
 
 // The marks and the three zeros behind them are one number of four bytes.
-pub fn put_record(buf: &mut [u8], at: usize, id: i64, start: i64, end: i64, marks: u8)
+pub(crate) fn put_record(buf: &mut [u8], at: usize, id: i64, start: i64, end: i64, marks: u8)
     requires { ⌜ at + 28 ≤ length (now buf) ⌝ }
     ensures { λ _. ⌜ now (buf .exit) ≡ sets (now (buf .entry)) at (rowOf id start end marks) ⌝ }
 {

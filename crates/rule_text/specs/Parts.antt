@@ -89,7 +89,8 @@ pub record RuleIn (s : List ℕ) (i : ℕ) (rule : Rule) (n : ℕ) : Type 0 wher
   pub value : n ≡ 0 → (l : ℕ) → written rule ≡ ruleIn (fieldsIn (suc (suc l)) s i) .value
   pub sized : n ≡ 0 → Sized rule
 
--- A rule that was read. A rule holds lists of objects, so its tree is three levels deep at least.
+-- A rule that was read. A rule holds lists of objects, so its tree is three levels deep at least. With a fault, what the rule holds is left open:
+-- no event has it.
 pub record RuleRead (s : List ℕ) (i : ℕ) (rule : Rule) (n : ℕ) : Type 0 where
   pub fault : (l : ℕ) → n ≡ readRule (treeAt (suc (suc (suc l))) s i) .fault
   pub value : n ≡ 0 → (l : ℕ) → written rule ≡ readRule (treeAt (suc (suc (suc l))) s i) .value

@@ -14,7 +14,7 @@ use crate::lists::day_list;
 use crate::lists::month_list;
 use crate::lists::signed_list;
 
-pub fn numbers(
+pub(crate) fn numbers(
     text: &[u8],
     ends: &[u32],
     at: usize,
@@ -34,7 +34,7 @@ pub fn numbers(
     }
 }
 
-pub fn months(text: &[u8], ends: &[u32], at: usize, row: &[usize]) -> MonthList
+pub(crate) fn months(text: &[u8], ends: &[u32], at: usize, row: &[usize]) -> MonthList
     requires { ⌜ Ends (now text) (now ends) × RowTo 34 (now text) at (now row) ⌝ }
     ensures { λ r. ⌜ Collected (λ l. byList readMonth (memberAt (suc l) (now (text .entry)) at (ascii "byMonth"))) (r .list) (r .count) (r .fault) ⌝ }
 {
@@ -47,7 +47,7 @@ pub fn months(text: &[u8], ends: &[u32], at: usize, row: &[usize]) -> MonthList
     }
 }
 
-pub fn weekdays(text: &[u8], ends: &[u32], at: usize, row: &[usize]) -> DayList
+pub(crate) fn weekdays(text: &[u8], ends: &[u32], at: usize, row: &[usize]) -> DayList
     requires { ⌜ Ends (now text) (now ends) × RowTo 34 (now text) at (now row) ⌝ }
     ensures { λ r. ⌜ DaysCollected (λ l. byList readNDay (memberAt (suc (suc l)) (now (text .entry)) at (ascii "byDay"))) (r .weekdays) (r .nths) (r .count) (r .any) (r .fault) ⌝ }
 {

@@ -28,7 +28,7 @@ use signed::negative_part;
 use signed::positive_part;
 
 // An entry of byDay.
-pub fn read_nday(text: &[u8], ends: &[u32], at: usize) -> DayRead
+fn read_nday(text: &[u8], ends: &[u32], at: usize) -> DayRead
     requires { ⌜ Ends (now text) (now ends) ⌝ }
     ensures { λ r. ⌜ DayReads (λ l. readNDay (treeAt (suc l) (now (text .entry)) at)) (r .weekday) (r .nth) (r .fault) ⌝ }
 {
@@ -64,7 +64,7 @@ fn or_nth(any: bool, nth: i64) -> bool
     0 < negative_part(nth)
 }
 
-pub fn day_entries(
+pub(crate) fn day_entries(
     text: &[u8],
     ends: &[u32],
     at: usize,

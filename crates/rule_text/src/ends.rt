@@ -33,7 +33,7 @@ fn until_fault(x: DateTime) -> u32
     }
 }
 
-pub fn read_ends(text: &[u8], at: usize, row: &[usize]) -> Ending
+pub(crate) fn read_ends(text: &[u8], at: usize, row: &[usize]) -> Ending
     requires { ⌜ RowTo 34 (now text) at (now row) ⌝ }
     ensures { λ r. ⌜ EndsRead (now (text .entry)) at (r .end) (r .fault) ⌝ }
 {

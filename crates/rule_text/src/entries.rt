@@ -16,7 +16,7 @@ use json_ends::arrays::next_element;
 use json_walk::ElementStep;
 
 // An entry goes to its place where there is room.
-pub fn put(list: &mut [i64], at: usize, entry: i64)
+pub(crate) fn put(list: &mut [i64], at: usize, entry: i64)
     ensures { λ r. ⌜ now (list .exit) ≡ set (now (list .entry)) at entry ⌝ }
 {
     if at < list.len() {
@@ -25,7 +25,7 @@ pub fn put(list: &mut [i64], at: usize, entry: i64)
     }
 }
 
-pub fn put_name(list: &mut [u32], at: usize, entry: u32)
+pub(crate) fn put_name(list: &mut [u32], at: usize, entry: u32)
     ensures { λ r. ⌜ now (list .exit) ≡ set (now (list .entry)) at entry ⌝ }
 {
     if at < list.len() {
@@ -34,7 +34,13 @@ pub fn put_name(list: &mut [u32], at: usize, entry: u32)
     }
 }
 
-pub fn signed_entries(text: &[u8], ends: &[u32], at: usize, most: u32, list: &mut [i64]) -> Listed
+pub(crate) fn signed_entries(
+    text: &[u8],
+    ends: &[u32],
+    at: usize,
+    most: u32,
+    list: &mut [i64],
+) -> Listed
     requires { ⌜ (at < length (now text)) × Ends (now text) (now ends) ⌝ }
     ensures { λ r. ⌜ Entries (λ l. entriesAt (readSigned most) l (now (text .entry)) at) (now (list .entry)) (now (list .exit)) (r .count) (r .fault) ⌝ }
 {
@@ -58,7 +64,7 @@ pub fn signed_entries(text: &[u8], ends: &[u32], at: usize, most: u32, list: &mu
     Listed { count, fault }
 }
 
-pub fn month_entries(text: &[u8], ends: &[u32], at: usize, list: &mut [u32]) -> Listed
+pub(crate) fn month_entries(text: &[u8], ends: &[u32], at: usize, list: &mut [u32]) -> Listed
     requires { ⌜ (at < length (now text)) × Ends (now text) (now ends) ⌝ }
     ensures { λ r. ⌜ Entries (λ l. entriesAt readMonth l (now (text .entry)) at) (now (list .entry)) (now (list .exit)) (r .count) (r .fault) ⌝ }
 {

@@ -38,7 +38,7 @@ fn rate_fault(x: Rate) -> u32
     }
 }
 
-pub fn read_head(text: &[u8], at: usize, row: &[usize]) -> Head
+pub(crate) fn read_head(text: &[u8], at: usize, row: &[usize]) -> Head
     requires { ⌜ RowTo 34 (now text) at (now row) ⌝ }
     ensures { λ r. ⌜ HeadRead (now (text .entry)) at (r .frequency) (r .interval) (r .first) (r .fault) ⌝ }
 {

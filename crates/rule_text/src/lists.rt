@@ -53,7 +53,7 @@ fn list_fault(count: usize, fault: u32) -> u32
 }
 
 // byMonthDay and bySetPosition.
-pub fn signed_list(
+pub(crate) fn signed_list(
     text: &[u8],
     ends: &[u32],
     at: usize,
@@ -79,7 +79,13 @@ pub fn signed_list(
 }
 
 // byMonth
-pub fn month_list(text: &[u8], ends: &[u32], at: usize, row: &[usize], list: &mut [u32]) -> Listed
+pub(crate) fn month_list(
+    text: &[u8],
+    ends: &[u32],
+    at: usize,
+    row: &[usize],
+    list: &mut [u32],
+) -> Listed
     requires { ⌜ Ends (now text) (now ends) × RowTo 34 (now text) at (now row) ⌝ }
     ensures { λ r. ⌜ Entries (λ l. byList readMonth (memberAt (suc l) (now (text .entry)) at (ascii "byMonth"))) (now (list .entry)) (now (list .exit)) (r .count) (r .fault) ⌝ }
 {
@@ -97,7 +103,7 @@ pub fn month_list(text: &[u8], ends: &[u32], at: usize, row: &[usize], list: &mu
 }
 
 // byDay
-pub fn day_list(
+pub(crate) fn day_list(
     text: &[u8],
     ends: &[u32],
     at: usize,

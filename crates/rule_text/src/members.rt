@@ -34,7 +34,7 @@ use words::Named;
 use words::Rate;
 
 // The fault of the `@type`.
-pub fn type_in(text: &[u8], at: usize, row: &[usize], name: &[u8]) -> u32
+pub(crate) fn type_in(text: &[u8], at: usize, row: &[usize], name: &[u8]) -> u32
     requires { ⌜ RowTo 3 (now text) at (now row) ⌝ }
     ensures { λ r. ⌜ ((l : ℕ) → r ≡ typed (now (name .entry)) (memberAt l (now (text .entry)) at (ascii "@type"))) ⌝ }
 {
@@ -44,7 +44,7 @@ pub fn type_in(text: &[u8], at: usize, row: &[usize], name: &[u8]) -> u32
     }
 }
 
-pub fn frequency_in(text: &[u8], at: usize, row: &[usize]) -> Rate
+pub(crate) fn frequency_in(text: &[u8], at: usize, row: &[usize]) -> Rate
     requires { ⌜ RowTo 34 (now text) at (now row) ⌝ }
     ensures { λ r. ⌜ ((l : ℕ) → fromRate r ≡ required Yearly readFrequency (memberAt l (now (text .entry)) at (ascii "frequency"))) ⌝ }
 {
@@ -54,7 +54,7 @@ pub fn frequency_in(text: &[u8], at: usize, row: &[usize]) -> Rate
     }
 }
 
-pub fn interval_in(text: &[u8], at: usize, row: &[usize]) -> Number
+pub(crate) fn interval_in(text: &[u8], at: usize, row: &[usize]) -> Number
     requires { ⌜ RowTo 34 (now text) at (now row) ⌝ }
     ensures { λ r. ⌜ Reads (λ l. optional 1 readCount (memberAt l (now (text .entry)) at (ascii "interval"))) (r .value) (r .fault) ⌝ }
 {
@@ -64,7 +64,7 @@ pub fn interval_in(text: &[u8], at: usize, row: &[usize]) -> Number
     }
 }
 
-pub fn first_in(text: &[u8], at: usize, row: &[usize]) -> Named
+pub(crate) fn first_in(text: &[u8], at: usize, row: &[usize]) -> Named
     requires { ⌜ RowTo 34 (now text) at (now row) ⌝ }
     ensures { λ r. ⌜ ((l : ℕ) → fromNamed r ≡ optional 0 readWeekday (memberAt l (now (text .entry)) at (ascii "firstDayOfWeek"))) ⌝ }
 {
@@ -74,7 +74,7 @@ pub fn first_in(text: &[u8], at: usize, row: &[usize]) -> Named
     }
 }
 
-pub fn day_in(text: &[u8], at: usize, row: &[usize]) -> Named
+pub(crate) fn day_in(text: &[u8], at: usize, row: &[usize]) -> Named
     requires { ⌜ RowTo 3 (now text) at (now row) ⌝ }
     ensures { λ r. ⌜ ((l : ℕ) → fromNamed r ≡ required 0 readWeekday (memberAt l (now (text .entry)) at (ascii "day"))) ⌝ }
 {
@@ -85,7 +85,7 @@ pub fn day_in(text: &[u8], at: usize, row: &[usize]) -> Named
 }
 
 // 0 where there is none.
-pub fn nth_in(text: &[u8], at: usize, row: &[usize]) -> Signed
+pub(crate) fn nth_in(text: &[u8], at: usize, row: &[usize]) -> Signed
     requires { ⌜ RowTo 3 (now text) at (now row) ⌝ }
     ensures { λ r. ⌜ Reads (λ l. readNth (memberAt l (now (text .entry)) at (ascii "nthOfPeriod"))) (nthFrom (r .value)) (r .fault) ⌝ }
 {
@@ -95,7 +95,7 @@ pub fn nth_in(text: &[u8], at: usize, row: &[usize]) -> Signed
     }
 }
 
-pub fn scale_in(text: &[u8], at: usize, row: &[usize]) -> u32
+pub(crate) fn scale_in(text: &[u8], at: usize, row: &[usize]) -> u32
     requires { ⌜ RowTo 34 (now text) at (now row) ⌝ }
     ensures { λ r. ⌜ ((l : ℕ) → r ≡ optional true readScale (memberAt l (now (text .entry)) at (ascii "rscale")) .fault) ⌝ }
 {
@@ -105,7 +105,7 @@ pub fn scale_in(text: &[u8], at: usize, row: &[usize]) -> u32
     }
 }
 
-pub fn skip_in(text: &[u8], at: usize, row: &[usize]) -> u32
+pub(crate) fn skip_in(text: &[u8], at: usize, row: &[usize]) -> u32
     requires { ⌜ RowTo 34 (now text) at (now row) ⌝ }
     ensures { λ r. ⌜ ((l : ℕ) → r ≡ optional true readSkip (memberAt l (now (text .entry)) at (ascii "skip")) .fault) ⌝ }
 {
@@ -116,7 +116,7 @@ pub fn skip_in(text: &[u8], at: usize, row: &[usize]) -> u32
 }
 
 // The fault of a member that is unsupported as a whole.
-pub fn unsupported_in(text: &[u8], at: usize, row: &[usize], word: usize) -> u32
+pub(crate) fn unsupported_in(text: &[u8], at: usize, row: &[usize], word: usize) -> u32
     requires { ⌜ RowTo (word + 1) (now text) at (now row) ⌝ }
     ensures { λ r. ⌜ ((l : ℕ) → r ≡ unsupported (memberAt l (now (text .entry)) at (wordOf word))) ⌝ }
 {

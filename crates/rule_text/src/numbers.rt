@@ -9,7 +9,7 @@ use json_tree::integers::integer;
 use signed::difference;
 
 // A number that is at least 1.
-pub fn count(text: &[u8], at: usize) -> Number
+pub(crate) fn count(text: &[u8], at: usize) -> Number
     ensures { λ r. ⌜ Reads (λ l. readCount (treeAt l (now (text .entry)) at)) (r .value) (r .fault) ⌝ }
 {
     match integer(text, at) {
@@ -30,7 +30,7 @@ pub fn count(text: &[u8], at: usize) -> Number
 }
 
 // A number that is not 0, up to a size.
-pub fn signed_up_to(text: &[u8], at: usize, most: u32) -> Signed
+pub(crate) fn signed_up_to(text: &[u8], at: usize, most: u32) -> Signed
     ensures { λ r. ⌜ Reads (λ l. readSigned most (treeAt l (now (text .entry)) at)) (r .value) (r .fault) ⌝ }
 {
     match integer(text, at) {

@@ -28,7 +28,7 @@ fn unsupported_lists(text: &[u8], at: usize, row: &[usize]) -> u32
     lower(day, lower(week, lower(hour, lower(minute, second))))
 }
 
-pub fn other_fault(text: &[u8], at: usize, row: &[usize]) -> u32
+pub(crate) fn other_fault(text: &[u8], at: usize, row: &[usize]) -> u32
     requires { ⌜ RowTo 34 (now text) at (now row) ⌝ }
     ensures { λ r. ⌜ ((l : ℕ) → r ≡ otherFault l (now (text .entry)) at) ⌝ }
 {
@@ -38,7 +38,7 @@ pub fn other_fault(text: &[u8], at: usize, row: &[usize]) -> u32
 }
 
 // An nthOfPeriod under weekly or daily.
-pub fn nth_fault(frequency: Frequency, any: bool) -> u32
+pub(crate) fn nth_fault(frequency: Frequency, any: bool) -> u32
     ensures { λ r. ⌜ r ≡ nthFault frequency any ⌝ }
 {
     if !any {
@@ -53,7 +53,7 @@ pub fn nth_fault(frequency: Frequency, any: bool) -> u32
 }
 
 // The faults of the parts of a rule, joined.
-pub fn join(
+pub(crate) fn join(
     head: u32,
     days: u32,
     dates: u32,

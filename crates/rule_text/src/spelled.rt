@@ -10,7 +10,7 @@ use property::strings::word;
 use words::Named;
 use words::Rate;
 
-pub fn read_frequency(text: &[u8], at: usize) -> Rate
+pub(crate) fn read_frequency(text: &[u8], at: usize) -> Rate
     ensures { λ r. ⌜ ((l : ℕ) → fromRate r ≡ readFrequency (treeAt l (now (text .entry)) at)) ⌝ }
 {
     if !is_word(text, at) {
@@ -19,7 +19,7 @@ pub fn read_frequency(text: &[u8], at: usize) -> Rate
     words::rules::frequency(word(text, at))
 }
 
-pub fn read_weekday(text: &[u8], at: usize) -> Named
+pub(crate) fn read_weekday(text: &[u8], at: usize) -> Named
     ensures { λ r. ⌜ ((l : ℕ) → fromNamed r ≡ readWeekday (treeAt l (now (text .entry)) at)) ⌝ }
 {
     if !is_word(text, at) {
@@ -28,7 +28,7 @@ pub fn read_weekday(text: &[u8], at: usize) -> Named
     words::rules::weekday(word(text, at))
 }
 
-pub fn read_month(text: &[u8], at: usize) -> Named
+pub(crate) fn read_month(text: &[u8], at: usize) -> Named
     ensures { λ r. ⌜ ((l : ℕ) → fromNamed r ≡ readMonth (treeAt l (now (text .entry)) at)) ⌝ }
 {
     if !is_word(text, at) {
@@ -38,7 +38,7 @@ pub fn read_month(text: &[u8], at: usize) -> Named
 }
 
 // The fault of an `rscale`.
-pub fn read_scale(text: &[u8], at: usize) -> u32
+pub(crate) fn read_scale(text: &[u8], at: usize) -> u32
     ensures { λ r. ⌜ ((l : ℕ) → r ≡ readScale (treeAt l (now (text .entry)) at) .fault) ⌝ }
 {
     if !is_word(text, at) {
@@ -48,7 +48,7 @@ pub fn read_scale(text: &[u8], at: usize) -> u32
 }
 
 // The fault of a `skip`.
-pub fn read_skip(text: &[u8], at: usize) -> u32
+pub(crate) fn read_skip(text: &[u8], at: usize) -> u32
     ensures { λ r. ⌜ ((l : ℕ) → r ≡ readSkip (treeAt l (now (text .entry)) at) .fault) ⌝ }
 {
     if !is_word(text, at) {
@@ -58,7 +58,7 @@ pub fn read_skip(text: &[u8], at: usize) -> u32
 }
 
 // The fault of an `@type` that must be this one.
-pub fn read_type(text: &[u8], at: usize, name: &[u8]) -> u32
+pub(crate) fn read_type(text: &[u8], at: usize, name: &[u8]) -> u32
     ensures { λ r. ⌜ ((l : ℕ) → r ≡ typed (now (name .entry)) (some (treeAt l (now (text .entry)) at))) ⌝ }
 {
     if byte(text, at) != 0x22 {
@@ -71,7 +71,7 @@ pub fn read_type(text: &[u8], at: usize, name: &[u8]) -> u32
 }
 
 // What a name that was read stands for, and its fault.
-pub fn number_of(x: Named) -> u32
+pub(crate) fn number_of(x: Named) -> u32
     ensures { λ r. ⌜ r ≡ fromNamed x .value ⌝ }
 {
     match x {
@@ -80,7 +80,7 @@ pub fn number_of(x: Named) -> u32
     }
 }
 
-pub fn fault_of(x: Named) -> u32
+pub(crate) fn fault_of(x: Named) -> u32
     ensures { λ r. ⌜ r ≡ fromNamed x .fault ⌝ }
 {
     match x {

@@ -32,7 +32,7 @@ fn put_days(
 }
 
 // 0 and the table's length, or 13 and no byte changed.
-pub fn put_listed(
+pub(crate) fn put_listed(
     buffer: &mut [u8],
     length: &mut u64,
     own: Own,

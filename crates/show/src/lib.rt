@@ -52,7 +52,7 @@ pub fn date(d: Date) {
 }
 
 // HH:MM:SS of a second of the day.
-pub fn time(second: u32) {
+fn time(second: u32) {
     two_digits(second / 3600);
     text(b":");
     two_digits(second / 60 % 60);
@@ -61,7 +61,7 @@ pub fn time(second: u32) {
 }
 
 // YYYY-MM-DDTHH:MM:SS.
-pub fn moment(m: Moment)
+fn moment(m: Moment)
     requires { ⌜ m .day < dayCount ⌝ }
 {
     date(calendar::days::date_of(m.day));

@@ -22,7 +22,7 @@ use window::chunks::count_run;
 use writing::runs::write_run;
 
 // Have n days from the first one of the window on all of it?
-pub fn is_one_chunk(from: u64, to: u64, n: usize) -> bool
+pub(crate) fn is_one_chunk(from: u64, to: u64, n: usize) -> bool
     requires { ⌜ from / 86400 ≤ endDay ⌝ }
     ensures { λ r. ⌜ r ≡ oneChunk from to n ⌝ }
 {
@@ -135,7 +135,7 @@ fn put_filled(
 }
 
 // The table of a window whose days are as many as the hits, or fewer.
-pub fn put_chunk(
+pub(crate) fn put_chunk(
     buffer: &mut [u8],
     length: &mut u64,
     text: &[u8],

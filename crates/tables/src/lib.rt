@@ -1,5 +1,5 @@
 // The table of occurrences, written into a lent buffer: its records and its trailer, or nothing where the buffer is too short.
-pub mod chunk;
+mod chunk;
 pub mod lent;
 pub mod nothing;
-pub mod whole;
+mod whole;

@@ -150,7 +150,7 @@ fn put_chunks(
 }
 
 // The table of the window, marked in the lent hits: 0 and its length, or 13 and no byte changed.
-pub fn put_marked(
+pub(crate) fn put_marked(
     buffer: &mut [u8],
     length: &mut u64,
     text: &[u8],

@@ -80,7 +80,7 @@ fn told_long(text: &[u8], title: bool, date: i64) -> Told
 }
 
 // Most texts are short, and need not clear the room of the longest.
-pub fn told(text: &[u8], title: bool, date: i64) -> Told
+pub(crate) fn told(text: &[u8], title: bool, date: i64) -> Told
     ensures { λ r. ⌜ Placed (length (now (text .entry))) (textOf (chosen title) (now (text .entry)) date) (toldShown r) ⌝ }
 {
     if text.len() <= 2048 {

@@ -85,7 +85,7 @@ fn look_up_at(text: &[u8], ends: &[u32], title: bool, head: Head, x: u64) -> Loo
 }
 
 // No occurrence of an accepted event lies outside the years 1601 to 9998.
-pub fn look_up(text: &[u8], ends: &[u32], head: Head, title: bool, date: i64) -> Lookup
+pub(crate) fn look_up(text: &[u8], ends: &[u32], head: Head, title: bool, date: i64) -> Lookup
     requires { ⌜ Ends (now text) (now ends) × ((fromHead inner (now text) head ≡ frontOf (now text)) × (eventFault (now text) ≡ 0)) ⌝ }
     ensures { λ r. ⌜ Placed (length (now (text .entry))) (shownAt (chosen title) (eventOf (now (text .entry))) (dateTimeOf date)) (lookupShown r) ⌝ }
 {

@@ -33,7 +33,7 @@ fn visible(public: bool, part: Part) -> Part
 }
 
 // The text of the occurrence x of an event that is not secret.
-pub fn look_up_kept(
+pub(crate) fn look_up_kept(
     text: &[u8],
     ends: &[u32],
     title: bool,

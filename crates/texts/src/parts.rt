@@ -41,7 +41,7 @@ fn part_from(text: &[u8], at: usize) -> Part
 }
 
 // The same for a string that may be absent.
-pub fn part_at(text: &[u8], place: Place) -> Part
+pub(crate) fn part_at(text: &[u8], place: Place) -> Part
     ensures { λ r. ⌜ Placed (length (now (text .entry))) (placeOf (textIn (now (text .entry)) place)) (partShown r) ⌝ }
 {
     match place {

@@ -32,7 +32,7 @@ fn text_patched(text: &[u8], ends: &[u32], title: bool, at: usize, own: Own, id:
 }
 
 // The text of the occurrence x: after its patch where an override names it, else the event's own.
-pub fn text_by(
+pub(crate) fn text_by(
     text: &[u8],
     ends: &[u32],
     title: bool,

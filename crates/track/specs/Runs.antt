@@ -44,6 +44,7 @@ pub record LaterOf (a b r : ℕ) : Type 0 where
   pub before : (d : ℕ) → a ≤ d → d < r → d < b
 
 pub record EarlierOf (a b r : ℕ) : Type 0 where
+  pub is : r ≡ (if ltb a b then a else b)
   pub first : r ≤ a
   pub second : r ≤ b
   pub behind : (d : ℕ) → r ≤ d → d < a → b ≤ d

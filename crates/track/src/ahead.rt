@@ -59,7 +59,7 @@ fn count_month(
 }
 
 // Days from this one on that surely are none of the rule's; the start's own day may be.
-pub fn out_after(terms: Terms, flags: &[bool], first: u32, x: Day) -> u32
+pub(crate) fn out_after(terms: Terms, flags: &[bool], first: u32, x: Day) -> u32
     requires { ⌜ Asked terms (length (now flags)) x ⌝ }
     ensures { λ r. ⌜ OutAfter terms (now (flags .entry)) first (x .number) r ⌝ }
 {
@@ -111,7 +111,7 @@ fn pass_months(
 }
 
 // A day to count on from, and what is left of the days and of the count there.
-pub fn count_from(
+pub(crate) fn count_from(
     excluded: bool,
     end: End,
     terms: Terms,

@@ -16,7 +16,7 @@ use rule::Frequency;
 
 fn has_all_weekdays(flags: &[bool]) -> bool
     requires { ⌜ length (now flags) ≡ 1574 ⌝ }
-    ensures { λ r. ⌜ (r ≡ true → WeekdaysSet (now (flags .entry)) 7) ⌝ }
+    ensures { λ r. ⌜ (r ≡ true → WeekdaysSet (now (flags .entry)) 7) × (WeekdaysSet (now (flags .entry)) 7 → r ≡ true) ⌝ }
 {
     let mut k = 0;
     while k < 7 {
@@ -31,7 +31,7 @@ fn has_all_weekdays(flags: &[bool]) -> bool
 // No weekday's place in the year is asked for.
 fn counts_in_months(inyear: bool, flags: &[bool]) -> bool
     requires { ⌜ length (now flags) ≡ 1574 ⌝ }
-    ensures { λ r. ⌜ (r ≡ true → inyear ≡ true → WeekdaysSet (now (flags .entry)) 7) ⌝ }
+    ensures { λ r. ⌜ (r ≡ true → inyear ≡ true → WeekdaysSet (now (flags .entry)) 7) × ((inyear ≡ true → WeekdaysSet (now (flags .entry)) 7) → r ≡ true) ⌝ }
 {
     if !inyear {
         return true;
@@ -53,7 +53,7 @@ fn is_whole(frequency: Frequency) -> bool
 // What the rule has of a month that is set and in step depends only on the month's kind.
 pub fn is_alike(terms: Terms, flags: &[bool]) -> bool
     requires { ⌜ length (now flags) ≡ 1574 ⌝ }
-    ensures { λ r. ⌜ (r ≡ true → Alike terms (now (flags .entry))) ⌝ }
+    ensures { λ r. ⌜ (r ≡ true → Alike terms (now (flags .entry))) × (Alike terms (now (flags .entry)) → r ≡ true) ⌝ }
 {
     if !counts_in_months(terms.inyear, flags) {
         return false;
@@ -88,7 +88,7 @@ fn lay(rows: &[bool], at: usize, hits: &mut [bool], value: bool)
 }
 
 // The days of one month from x on, as many as there are hits.
-pub fn mark_alike(
+pub(crate) fn mark_alike(
     terms: Terms,
     flags: &[bool],
     rows: &mut [bool],

@@ -28,7 +28,7 @@ fn until_day(start: u64, until: u64) -> u32
 }
 
 // The start's own day, which a rule has even unmatched and an excluded rule has not.
-pub fn is_first(excluded: bool, first: u32, day: u32) -> bool
+pub(crate) fn is_first(excluded: bool, first: u32, day: u32) -> bool
     ensures { λ r. ⌜ r ≡ isFirst excluded first day ⌝ }
 {
     if excluded {
@@ -37,7 +37,7 @@ pub fn is_first(excluded: bool, first: u32, day: u32) -> bool
     day == first
 }
 
-pub fn not_after(end: End, at: u64) -> bool
+pub(crate) fn not_after(end: End, at: u64) -> bool
     ensures { λ r. ⌜ r ≡ notAfter at (untilFrom end) ⌝ }
 {
     match end {
@@ -48,7 +48,14 @@ pub fn not_after(end: End, at: u64) -> bool
 }
 
 // Whether the rule has a day, its `count` apart.
-pub fn falls(excluded: bool, end: End, terms: Terms, flags: &[bool], start: u64, c: Cursor) -> bool
+pub(crate) fn falls(
+    excluded: bool,
+    end: End,
+    terms: Terms,
+    flags: &[bool],
+    start: u64,
+    c: Cursor,
+) -> bool
     requires { ⌜ Holding terms (now flags) (length (now flags)) c × (start / 86400 < endDay) ⌝ }
     ensures { λ r. ⌜ r ≡ fallsOnBy excluded end terms (now (flags .entry)) start (c .day .number) ⌝ }
 {
@@ -126,7 +133,7 @@ fn count_day(
 }
 
 // A count is walked once from the start to its last day, and no further than the limit, which no later day is asked beyond.
-pub fn last_day(
+pub(crate) fn last_day(
     excluded: bool,
     end: End,
     terms: Terms,

@@ -14,7 +14,7 @@ use matcher::Terms;
 use rule::Day;
 
 // k days later in the same month.
-pub fn in_month(x: Day, k: u32) -> Day
+pub(crate) fn in_month(x: Day, k: u32) -> Day
     requires { ⌜ (x ≡ dayAt (x .number)) × ((x .number + k < dayCount) × (x .monthday + k ≤ x .monthdays)) ⌝ }
     ensures { λ r. ⌜ r ≡ dayAt (x .number + k) ⌝ }
 {
@@ -103,7 +103,7 @@ pub fn days_later(x: Day, k: u32) -> Day
 }
 
 // The cursor k days later.
-pub fn leap(terms: Terms, flags: &[bool], c: Cursor, k: u32) -> Cursor
+pub(crate) fn leap(terms: Terms, flags: &[bool], c: Cursor, k: u32) -> Cursor
     requires { ⌜ Holding terms (now flags) (length (now flags)) c × ((1 ≤ k) × (c .day .number + k ≤ endDay)) ⌝ }
     ensures { λ r. ⌜ r ≡ cursorAt terms (now (flags .entry)) (c .day .number + k) ⌝ }
 {

@@ -4,16 +4,16 @@ use rule::Day;
 
 mod ahead;
 pub mod alike;
-pub mod last;
+mod last;
 pub mod leaps;
 mod parts;
-pub mod places;
+mod places;
 pub mod plain;
 pub mod ranges;
 pub mod runs;
 pub mod settle;
 pub mod skips;
-pub mod steps;
+mod steps;
 mod years;
 
 // A rule that is settled for one call: what it has besides its row of flags, and the first day that is not its own any more, which its

@@ -29,7 +29,7 @@ fn mark_part(
     super::plain::mark_each(terms, flags, hits, x, value);
 }
 
-pub fn mark_parts(
+pub(crate) fn mark_parts(
     terms: Terms,
     flags: &[bool],
     alike: bool,

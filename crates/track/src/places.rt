@@ -7,7 +7,7 @@ use matcher::Terms;
 use rule::Day;
 use rule::Frequency;
 
-pub fn most_days(frequency: Frequency) -> u32
+pub(crate) fn most_days(frequency: Frequency) -> u32
     ensures { λ r. ⌜ r ≡ mostDays frequency ⌝ }
 {
     match frequency {
@@ -19,7 +19,7 @@ pub fn most_days(frequency: Frequency) -> u32
 }
 
 // The least number of days that a period must have for a set position to name one of them.
-pub fn least_days(terms: Terms, flags: &[bool]) -> u32
+pub(crate) fn least_days(terms: Terms, flags: &[bool]) -> u32
     requires { ⌜ length (now flags) ≡ 1574 ⌝ }
     ensures { λ r. ⌜ Unset (now (flags .entry)) r ⌝ }
 {
@@ -43,7 +43,7 @@ pub fn least_days(terms: Terms, flags: &[bool]) -> u32
 }
 
 // Days from this one on to the end of its period, or of the profile.
-pub fn to_period_end(terms: Terms, x: Day) -> u32
+pub(crate) fn to_period_end(terms: Terms, x: Day) -> u32
     requires { ⌜ Asked terms 1574 x ⌝ }
     ensures { λ r. ⌜ InPeriod terms x r ⌝ }
 {

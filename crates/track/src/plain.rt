@@ -11,7 +11,7 @@ ghost use Rattle.track.specs.Plain.{InMonth, Part};
 use matcher::Terms;
 use rule::Day;
 
-pub fn picks_plain(terms: Terms, flags: &[bool], x: Day) -> bool
+pub(crate) fn picks_plain(terms: Terms, flags: &[bool], x: Day) -> bool
     requires { ⌜ (terms .placed ≡ false) × Asked terms (length (now flags)) x ⌝ }
     ensures { λ r. ⌜ r ≡ picksOnBy terms (now (flags .entry)) (x .number) ⌝ }
 {
@@ -22,7 +22,7 @@ pub fn picks_plain(terms: Terms, flags: &[bool], x: Day) -> bool
 }
 
 // The days of one month from x on, as many as there are hits.
-pub fn mark_each(terms: Terms, flags: &[bool], hits: &mut [bool], x: Day, value: bool)
+pub(crate) fn mark_each(terms: Terms, flags: &[bool], hits: &mut [bool], x: Day, value: bool)
     requires { ⌜ (terms .placed ≡ false) × (Asked terms (length (now flags)) x × InMonth x (length (now hits))) ⌝ }
     ensures { λ r. ⌜ now (hits .exit) ≡ marked (picksOnBy terms (now (flags .entry))) value (x .number) (now (hits .entry)) ⌝ }
 {

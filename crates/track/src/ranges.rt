@@ -1,7 +1,7 @@
 // The later and the earlier of two days.
 ghost use Rattle.track.specs.Runs.{LaterOf, EarlierOf};
 
-pub fn later(a: u32, b: u32) -> u32
+pub(crate) fn later(a: u32, b: u32) -> u32
     ensures { λ r. ⌜ LaterOf a b r ⌝ }
 {
     if a < b {

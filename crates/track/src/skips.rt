@@ -37,7 +37,7 @@ fn periods_out(terms: Terms, period: u32) -> u32
     left as u32
 }
 
-pub fn to_month_end(x: Day) -> u32
+pub(crate) fn to_month_end(x: Day) -> u32
     requires { ⌜ (x ≡ dayAt (x .number)) × (x .number < endDay) ⌝ }
     ensures { λ r. ⌜ r ≡ toMonthEnd x ⌝ }
 {
@@ -121,7 +121,7 @@ fn is_carried(frequency: Frequency, placed: bool) -> bool
     }
 }
 
-// Days from this one on that surely are none of the rule's: 0 where nothing is known.
+// Days from this one on that surely are none of the rule's: 0 where nothing is known. How many is left open: it only saves time.
 pub fn skip(terms: Terms, flags: &[bool], x: Day) -> u32
     requires { ⌜ Asked terms (length (now flags)) x ⌝ }
     ensures { λ r. ⌜ Without (picksOnBy terms (now (flags .entry))) (x .number) r ⌝ }
@@ -189,7 +189,7 @@ fn place_gap(terms: Terms, flags: &[bool], need: u32, c: Cursor) -> u32
 }
 
 // Days to go on by from a day that is none of the rule's: those between are not either.
-pub fn gap(terms: Terms, flags: &[bool], need: u32, c: Cursor) -> u32
+pub(crate) fn gap(terms: Terms, flags: &[bool], need: u32, c: Cursor) -> u32
     requires { ⌜ Holding terms (now flags) (length (now flags)) c × Unset (now flags) need ⌝ }
     ensures { λ r. ⌜ Between (picksOnBy terms (now (flags .entry))) (c .day .number) r ⌝ }
 {

@@ -20,7 +20,7 @@ fn is_counted(terms: Terms, n: u32) -> bool
 }
 
 // The period of a day counted as a whole.
-pub fn cursor_on(terms: Terms, flags: &[bool], x: Day) -> Cursor
+pub(crate) fn cursor_on(terms: Terms, flags: &[bool], x: Day) -> Cursor
     requires { ⌜ (x ≡ dayAt (x .number)) × Reached terms (length (now flags)) (x .number) ⌝ }
     ensures { λ r. ⌜ r ≡ cursorOn terms (now (flags .entry)) x ⌝ }
 {
@@ -52,7 +52,7 @@ pub fn cursor_on(terms: Terms, flags: &[bool], x: Day) -> Cursor
     }
 }
 
-pub fn cursor_at(terms: Terms, flags: &[bool], n: u32) -> Cursor
+pub(crate) fn cursor_at(terms: Terms, flags: &[bool], n: u32) -> Cursor
     requires { ⌜ Reached terms (length (now flags)) n ⌝ }
     ensures { λ r. ⌜ r ≡ cursorAt terms (now (flags .entry)) n ⌝ }
 {
@@ -61,7 +61,7 @@ pub fn cursor_at(terms: Terms, flags: &[bool], n: u32) -> Cursor
 }
 
 // The day after, in the same period or at the beginning of the next.
-pub fn advance(terms: Terms, flags: &[bool], c: Cursor) -> Cursor
+pub(crate) fn advance(terms: Terms, flags: &[bool], c: Cursor) -> Cursor
     requires { ⌜ Holding terms (now flags) (length (now flags)) c ⌝ }
     ensures { λ r. ⌜ r ≡ cursorAt terms (now (flags .entry)) (c .day .number + 1) ⌝ }
 {
@@ -94,7 +94,7 @@ pub fn advance(terms: Terms, flags: &[bool], c: Cursor) -> Cursor
     }
 }
 
-pub fn picks(terms: Terms, flags: &[bool], c: Cursor) -> bool
+pub(crate) fn picks(terms: Terms, flags: &[bool], c: Cursor) -> bool
     requires { ⌜ Holding terms (now flags) (length (now flags)) c ⌝ }
     ensures { λ r. ⌜ r ≡ picksOnBy terms (now (flags .entry)) (c .day .number) ⌝ }
 {

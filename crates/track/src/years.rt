@@ -249,7 +249,7 @@ fn pass_years(
 }
 
 // The rest of the first year is counted on its own.
-pub fn pass_far(
+pub(crate) fn pass_far(
     excluded: bool,
     end: End,
     terms: Terms,

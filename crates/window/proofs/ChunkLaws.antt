@@ -1,7 +1,7 @@
 -- Chunk after chunk.
 use Prim.Native.Nat.{ℕ, zero, suc, _+_, _-_, _*_, _/_, _<_, _≤_}
-use mathlib.Core.Bool.{Bool, true, false}
-use mathlib.Core.Path.{_≡_, refl, sym, ap, _∙_, subst}
+use mathlib.Core.Bool.{Bool}
+use mathlib.Core.Path.{_≡_, sym, ap, subst}
 use native.Mathlib.Omega.{arith}
 use lib.Dec.{ltb}
 use borrow.Author.Tests.{ltb-true, ltb-false}
@@ -12,7 +12,7 @@ use Rattle.rule.proofs.Bools.{by}
 use Rattle.rule.proofs.Counting.{count-split, count-most}
 use Rattle.window.specs.Next.{nextOf, lower, Stretch}
 use Rattle.window.specs.Chunks.{chunkDays, chunkEnd, Window}
-use Rattle.window.proofs.NextLaws.{Next, next-is, next-made, count-over}
+use Rattle.window.proofs.NextLaws.{next-is, count-over}
 
 pub record Lower (a b r : ℕ) : Type 0 where
   pub left : r ≤ a
@@ -84,11 +84,6 @@ pub record CountedAt (p : ℕ → Bool) (from to at found : ℕ) : Type 0 where
   pub few : found ≤ at
   pub sum : found + countIn p at (to - at) ≡ countIn p from (to - from)
 
-pub record NextAt (p : ℕ → Bool) (from to at : ℕ) : Type 0 where
-  pub low : from ≤ at
-  pub order : at ≤ to
-  pub none : (j : ℕ) → from ≤ j → j < at → p j ≡ false
-
 module _ (p : ℕ → Bool) (from to : ℕ) where
   pub counted-starts : from ≤ to → CountedAt p from to from 0
   counted-starts order = record { low = omega arith; order = order; few = omega arith; sum = omega arith }
@@ -114,31 +109,3 @@ module _ (p : ℕ → Bool) (from to : ℕ) where
       let low = none .low in
       let nothing = count-over p at to (nextOf p at to) none (omega arith) in
       omega arith
-
-  pub next-starts : from ≤ to → NextAt p from to from
-  next-starts order = record { low = omega arith; order = order; none = λ j low high. absurd (omega arith) }
-
-  module _ (at end x : ℕ) (a : NextAt p from to at) (later : at < end) (most : end ≤ to) (is : x ≡ nextOf p at end) where
-    found : Next p at end x
-    found = subst (Next p at end) (sym is) (next-is p at end (omega arith))
-
-    none-before : (j : ℕ) → from ≤ j → j < x → p j ≡ false
-    none-before j low high =
-        by (ltb j at) (λ e. a .none j low (ltb-true j at e)) (λ e. found .none j (ltb-false j at e) high)
-
-    pub next-found : x < end → x ≡ nextOf p from to
-    next-found h =
-        let low = a .low in
-        let below = found .low in
-        next-made p from to (omega arith) x (record { low = omega arith; high = omega arith; passes = λ k. found .passes h; none = none-before })
-
-    pub next-goes-on : end ≤ x → NextAt p from to end
-    next-goes-on h =
-        let low = a .low in
-        record { low = omega arith; order = most; none = λ j below above. none-before j below (omega arith) }
-
-  pub next-ends : (at : ℕ) → NextAt p from to at → to ≤ at → to ≡ nextOf p from to
-  next-ends at a over =
-      let low = a .low in
-      let order = a .order in
-      next-made p from to (omega arith) to (record { low = omega arith; high = omega arith; passes = λ k. absurd (omega arith); none = λ j below above. a .none j below (omega arith) })

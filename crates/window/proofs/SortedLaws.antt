@@ -8,12 +8,12 @@ use native.Mathlib.Numerals.{add-one}
 use lib.Dec.{eqb, ltb}
 use lib.ListN.{length, drop, getD, length-drop, drop-of-length-le}
 use lib.Seq.{drop-cons, getD-drop}
-use borrow.Author.Tests.{ltb-true, ltb-false, eqb-true, eqb-false, eq-eqb, ne-eqb}
+use borrow.Author.Tests.{ltb-true, ltb-false, lt-ltb, le-ltb, eqb-true, eqb-false, eq-eqb, ne-eqb}
 use Rattle.signed.specs.Choose.{if_then_else_}
 use Rattle.rule.proofs.Bools.{by}
 use Rattle.dates.specs.Overrides.{counts, isNamed, isKept}
 use Rattle.window.specs.Next.{nextOf, lower}
-use Rattle.window.specs.Sorted.{Rising, Below}
+use Rattle.window.specs.Sorted.{Rising, lessThan, Below}
 use Rattle.window.proofs.NextLaws.{Next, next-made}
 
 -- ---- the walk that looks whether they increase
@@ -41,6 +41,13 @@ rises-goes-on ids i a more =
 
 pub rises-all : (ids : List ℕ) (i : ℕ) → RisesTo ids i → length ids ≤ i → Rising ids
 rises-all ids i a over = record { each = λ k h. a .each k (omega arith) }
+
+pub rises-not : (ids : List ℕ) (i : ℕ) → RisesTo ids i → Rising ids → i < length ids → getD ids i 0 ≤ getD ids (i - 1) 0 → ⊥
+rises-not ids i a r within less =
+    let begun = a .some-way in
+    let back : i - 1 + 1 ≡ i = omega arith in
+    let more : getD ids (i - 1) 0 < getD ids i 0 = subst (λ (j : ℕ). getD ids (i - 1) 0 < getD ids j 0) back (r .each (i - 1) (omega arith)) in
+    omega arith
 
 -- ---- what stands behind is greater
 
@@ -89,11 +96,22 @@ module _ (ids : List ℕ) (x : ℕ) where
     pub halves-down : x ≤ getD ids middle 0 → Halved ids x low middle
     halves-down h = record { order = above; within = omega (arith, a .within); less = a .less; rest = λ k. h }
 
+  less-is : (ids : List ℕ) (r : ℕ) → r ≤ length ids → ((i : ℕ) → i < r → getD ids i 0 < x) → (r < length ids → x ≤ getD ids r 0) → r ≡ lessThan x ids
+  unfolding lessThan
+  less-is [] zero within less rest = refl
+  less-is [] (suc r) within less rest = absurd (omega arith)
+  less-is (i ∷ ids) zero within less rest = rw (le-ltb i x (rest (omega arith)))
+  less-is (i ∷ ids) (suc r) within less rest =
+      rw (lt-ltb i x (less 0 (omega arith)))
+      (ap suc (less-is ids r (omega arith) (λ k h. less (suc k) (omega arith)) (λ h. rest (omega arith))))
+
   pub halves-end : (low high : ℕ) → Halved ids x low high → high ≤ low → Below ids x low
   halves-end low high a over =
       let order = a .order in
       let same : high ≡ low = omega arith in
-      record { within = omega (arith, a .within); less = a .less; rest = λ k. subst (λ (j : ℕ). x ≤ getD ids j 0) same (a .rest (omega arith)) }
+      let within : low ≤ length ids = omega (arith, a .within) in
+      let rest : (low < length ids → x ≤ getD ids low 0) = λ k. subst (λ (j : ℕ). x ≤ getD ids j 0) same (a .rest (omega arith)) in
+      record { is = less-is ids low within (a .less) rest; within = within; less = a .less; rest = rest }
 
 -- ---- names
 

@@ -83,7 +83,7 @@ pub fn count_run(
 }
 
 // The first date-time of the set that a run that is filled has from `at` on and before `to`; `to` where there is none.
-pub fn next_run(
+pub(crate) fn next_run(
     hits: &[bool],
     first: u32,
     start: u64,

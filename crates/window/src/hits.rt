@@ -56,7 +56,7 @@ fn count_true(hits: &[bool], low: usize, high: usize) -> u64
 }
 
 // How many date-times from `at` on and before `to` have their hit set.
-pub fn count_hits(hits: &[bool], first: u32, start: u64, at: u64, to: u64) -> u64
+pub(crate) fn count_hits(hits: &[bool], first: u32, start: u64, at: u64, to: u64) -> u64
     requires { ⌜ Stretch first (length (now hits)) at to ⌝ }
     ensures { λ r. ⌜ r ≡ countIn (isHit (now (hits .entry)) first start) at (to - at) ⌝ }
 {

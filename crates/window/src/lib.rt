@@ -1,6 +1,6 @@
-// The date-times of an event in a window, one after the other: the next one, how many there are, and whether one is among them.
+// The date-times of an event in a window: the next one in a run of days, how many there are, and whether one is among them.
 pub mod chunks;
-pub mod hits;
+mod hits;
 pub mod next;
 pub mod sorted;
 pub mod whole;

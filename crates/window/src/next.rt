@@ -10,7 +10,7 @@ ghost use Rattle.window.specs.Next.{firstFrom, noneIn, nextOf, atHit, Tr
 use super::sorted::next_sorted;
 
 // Whether an override names x: any, or one that is excluded.
-pub fn is_named(only: bool, ids: &[u64], gone: &[bool], x: u64) -> bool
+fn is_named(only: bool, ids: &[u64], gone: &[bool], x: u64) -> bool
     requires { ⌜ length (now ids) ≡ length (now gone) ⌝ }
     ensures { λ r. ⌜ r ≡ isNamed only (now (ids .entry)) (now (gone .entry)) x ⌝ }
 {
@@ -177,7 +177,7 @@ pub fn day_from(start: u64, at: u64) -> u64
 }
 
 // The first date-time from `at` on, and before `to`, whose hit is set; `to` where there is none.
-pub fn next_hit(hits: &[bool], first: u32, start: u64, at: u64, to: u64) -> u64
+fn next_hit(hits: &[bool], first: u32, start: u64, at: u64, to: u64) -> u64
     requires { ⌜ Stretch first (length (now hits)) at to ⌝ }
     ensures { λ r. ⌜ r ≡ nextOf (isHit (now (hits .entry)) first start) at to ⌝ }
 {

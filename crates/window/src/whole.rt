@@ -111,47 +111,6 @@ pub fn count_ids(
     found
 }
 
-// The first date-time of the set from `from` on, and before `to`; `to` where there is none.
-pub fn next_id(
-    start: u64,
-    rules: Tracks,
-    rulerows: &[bool],
-    excluded: Tracks,
-    excludedrows: &[bool],
-    ids: &[u64],
-    gone: &[bool],
-    hits: &mut [bool],
-    from: u64,
-    to: u64,
-) -> u64
-    requires { ⌜ Ready rules (length (now rulerows)) excluded (length (now excludedrows)) (length (now ids)) (length (now gone)) (length (now hits))
-        × Window start from to ⌝ }
-    ensures { λ r. ⌜ r ≡ nextOf (isIn (loaded start rules (now (rulerows .entry)) excluded (now (excludedrows .entry)) (now (ids .entry)) (now (gone .entry)))) from to ⌝ }
-{
-    let mut at = from;
-    while at < to {
-        let k = super::chunks::chunk_days(at, hits.len());
-        let end = super::chunks::chunk_end(at, to, k);
-        let x = next_chunk(
-            start,
-            rules,
-            rulerows,
-            excluded,
-            excludedrows,
-            ids,
-            gone,
-            &mut hits[..k],
-            at,
-            end,
-        );
-        if x < end {
-            return x;
-        }
-        at = end;
-    }
-    to
-}
-
 // Whether a date-time is in the set.
 pub fn is_id(
     start: u64,

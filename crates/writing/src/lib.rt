@@ -2,5 +2,5 @@
 // that it changes, with a table of the ends of the text's values.
 pub mod listed;
 pub mod runs;
-pub mod times;
+mod times;
 pub mod whole;

@@ -17,7 +17,7 @@ use record::Times;
 use record::occurrences::put_occurrence;
 use window::sorted::below;
 
-pub fn times(start: u64, days: u64, seconds: u64, busy: bool, allday: bool) -> Times
+pub(crate) fn times(start: u64, days: u64, seconds: u64, busy: bool, allday: bool) -> Times
     requires { ⌜ 86400 * days + seconds ≤ 2 ^ 40 ⌝ }
     ensures { λ r. ⌜ r ≡ timesFrom start days seconds busy allday ⌝ }
 {
@@ -50,7 +50,7 @@ fn look_from(ids: &[u64], sorted: bool, x: u64) -> usize
 }
 
 // The times of the occurrence x: after its patch where an override names it, else the event's own from x on.
-pub fn times_at(
+fn times_at(
     text: &[u8],
     ends: &[u32],
     own: Own,
@@ -73,7 +73,7 @@ pub fn times_at(
 }
 
 // The record of the occurrence x, at a place of the buffer.
-pub fn put_at(
+pub(crate) fn put_at(
     buf: &mut [u8],
     at: usize,
     text: &[u8],

@@ -58,7 +58,8 @@ fn fewer(n: u32) -> u32 {
 
 // Marks increase, so the first one beyond the local time is found by halving: what stands before `low` is at or before it, and the mark at
 // `high`, where there is one, is beyond it. The hint is where it was found before and is left where it is found now: a time up to one
-// transition after the last one takes two looks, up to two transitions three (a yearly rule moves by two). Any hint is right.
+// transition after the last one takes two looks, up to two transitions three (a yearly rule moves by two). Any hint is right, so which one is
+// left is not promised.
 pub fn offset(initial: i64, instants: &[i64], offsets: &[i64], local: i64, hint: &mut usize) -> i64
     requires { ⌜ validTable initial (now instants) (now offsets) ≡ true ⌝ }
     ensures { λ r. ⌜ r ≡ offsetAt initial (now (instants .entry)) (now (offsets .entry)) local ⌝ }

@@ -9,7 +9,7 @@ ghost use Rattle.zone.specs.Table as Table;
 ghost use Rattle.zone.specs.Places.{InRange, markAt};
 
 // The offset before the transition at i, which is the one after i transitions.
-pub fn before(initial: i64, offsets: &[i64], i: usize) -> i64
+pub(crate) fn before(initial: i64, offsets: &[i64], i: usize) -> i64
     requires { ⌜ i ≤ length (now offsets) ⌝ }
     ensures { λ r. ⌜ r ≡ getD (initial ∷ now (offsets .entry)) i (pos 0) ⌝ }
 {
@@ -29,7 +29,7 @@ fn larger(a: i64, b: i64) -> i64
 }
 
 // The mark of the transition at i.
-pub fn at(initial: i64, instants: &[i64], offsets: &[i64], i: usize) -> i64
+pub(crate) fn at(initial: i64, instants: &[i64], offsets: &[i64], i: usize) -> i64
     requires { ⌜ InRange initial (now instants) (now offsets) ⌝ }
     requires { ⌜ i < length (now instants) ⌝ }
     ensures { λ r. ⌜ r ≡ markAt initial (now (instants .entry)) (now (offsets .entry)) i ⌝ }
@@ -40,7 +40,7 @@ pub fn at(initial: i64, instants: &[i64], offsets: &[i64], i: usize) -> i64
 
 // Is each offset within ±86,399, and each mark below the next? One pass for both: an offset is judged before it is added, and the offset
 // before a transition and the last mark are carried along. Before the first mark stands -2^41, which is below any.
-pub fn in_order(initial: i64, instants: &[i64], offsets: &[i64]) -> bool
+pub(crate) fn in_order(initial: i64, instants: &[i64], offsets: &[i64]) -> bool
     requires { ⌜ length (now instants) ≡ length (now offsets) ⌝ }
     requires { ⌜ Table.allWithin (2 ^ 40) (now instants) ≡ true ⌝ }
     requires { ⌜ Table.within 86399 initial ≡ true ⌝ }

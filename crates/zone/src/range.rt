@@ -4,7 +4,7 @@ ghost use mathlib.Core.Bool.{true};
 ghost use Rattle.zone.specs.Table as Table;
 
 // Is z within ±k? By its parts, as -z need not fit.
-pub fn within(z: i64, k: u64) -> bool
+pub(crate) fn within(z: i64, k: u64) -> bool
     ensures { λ r. ⌜ r ≡ Table.within k z ⌝ }
 {
     if k < signed::positive_part(z) {
@@ -17,7 +17,7 @@ pub fn within(z: i64, k: u64) -> bool
 }
 
 // Is each number below the next?
-pub fn increasing(s: &[i64]) -> bool
+pub(crate) fn increasing(s: &[i64]) -> bool
     ensures { λ r. ⌜ r ≡ Table.increasing (now (s .entry)) ⌝ }
 {
     let mut i = 1;
@@ -33,7 +33,7 @@ pub fn increasing(s: &[i64]) -> bool
 }
 
 // Are all within ±k? Of numbers that increase only the ends need a look.
-pub fn ends_within(s: &[i64], k: u64) -> bool
+pub(crate) fn ends_within(s: &[i64], k: u64) -> bool
     requires { ⌜ Table.increasing (now s) ≡ true ⌝ }
     ensures { λ r. ⌜ r ≡ Table.allWithin k (now (s .entry)) ⌝ }
 {

@@ -1,6 +1,7 @@
 -- `listing::whole::is_by_months` meets its contract.
 use mathlib.Core.Bool.{false≢true}
-use borrow.Author.Tests.{not-false}
+use mathlib.Core.Path.{sym, _∙_}
+use borrow.Author.Tests.{not-true, not-false}
 use borrow.Author.Needs.{needs}
 use Rattle.listing.proofs.whole.is_by_months.Statement.{statement}
 use Rattle.listing.proofs.whole.is_by_months.Tie as tie
@@ -9,13 +10,17 @@ counts-in-months-requires : tie.Need-counts-in-months-requires
 counts-in-months-requires c κs = search needs
 
 returns : tie.Need-returns
-returns c = λ e. absurd (false≢true e)
+returns c =
+    (λ e. absurd (false≢true e), λ by. sym (not-true _ (c .if1 .taken)) ∙ c .before .counts-in-months .ensures .1 (by .monthly))
 
 is-alike-requires : tie.Need-is-alike-requires
 is-alike-requires c κs = search needs
 
 returns-2 : tie.Need-returns-2
-returns-2 c = λ e. record { alike = c .is-alike .ensures e; monthly = c .before .before .counts-in-months .ensures (not-false _ (c .before .if1 .left)) }
+returns-2 c = (
+  λ e. record { alike = c .is-alike .ensures .0 e; monthly = c .before .before .counts-in-months .ensures .0 (not-false _ (c .before .if1 .left)) },
+  λ by. c .is-alike .ensures .1 (by .alike),
+)
 
 pub is-by-months-spec : {M : Type 1} → statement M
 is-by-months-spec =

@@ -1,5 +1,5 @@
--- `listing::whole::is_monthly` meets its contract.
-use mathlib.Core.Bool.{false≢true}
+-- `listing::whole::is_monthly` meets its contract: the tests of the definition in their order.
+use Rattle.listing.specs.Parts.{isMonthly}
 use borrow.Author.Needs.{needs}
 use Rattle.listing.proofs.whole.is_monthly.Statement.{statement}
 use Rattle.listing.proofs.whole.is_monthly.Tie as tie
@@ -17,16 +17,20 @@ enum-told-4 : tie.Need-enum-told-4
 enum-told-4 c = search needs
 
 returns : tie.Need-returns
-returns c = λ e. absurd (false≢true e)
+unfolding isMonthly
+returns c = rw (c .enum-told .given .1)
 
 returns-2 : tie.Need-returns-2
-returns-2 c = λ e. absurd (false≢true e)
+unfolding isMonthly
+returns-2 c = rw (c .enum-told2 .given .1)
 
 returns-3 : tie.Need-returns-3
-returns-3 c = search needs
+unfolding isMonthly
+returns-3 c = rw (c .enum-told3 .given .1)
 
 returns-4 : tie.Need-returns-4
-returns-4 c = λ e. absurd (false≢true e)
+unfolding isMonthly
+returns-4 c = rw (c .enum-told4 .given .1)
 
 pub is-monthly-spec : {M : Type 1} → statement M
 is-monthly-spec =

@@ -31,7 +31,7 @@ cast-list-days c = search needs
 list-days-requires : tie.Need-list-days-requires
 list-days-requires c κs =
     let p = c .before .before .before .before .before .before .before .before .pre in (
-      c .before .before .is-by-months .ensures (not-false _ (c .before .if2 .left)),
+      c .before .before .is-by-months .ensures .0 (not-false _ (c .before .if2 .left)),
       (
         record { row-length = p .0 .row-length; week = p .0 .week; low = p .0 .low; high = omega (arith, c .before .before .before .before .before .earlier .ensures .first, c .before .before .before .before .if1 .left, p .0 .high) },
         (p .1 .1, p .0 .small),

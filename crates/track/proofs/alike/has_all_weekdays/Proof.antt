@@ -3,9 +3,9 @@ use Rattle.track.proofs.AlikeLaws.{weekdays-none, weekdays-more}
 use Rattle.track.specs.Alike.{WeekdaysSet}
 use Prim.Native.Nat.{ℕ, _-_, _≤_}
 use mathlib.Core.Bool.{false≢true}
-use mathlib.Core.Path.{_≡_, subst}
+use mathlib.Core.Path.{_≡_, refl, sym, _∙_, subst}
 use native.Mathlib.Omega.{arith}
-use borrow.Author.Tests.{not-false}
+use borrow.Author.Tests.{not-true, not-false}
 use borrow.Author.Needs.{needs}
 use Rattle.track.proofs.alike.has_all_weekdays.Statement.{statement}
 use Rattle.track.proofs.alike.has_all_weekdays.Tie as tie
@@ -26,7 +26,7 @@ shared-slice-read-if1 : tie.Need-shared-slice-read-if1 Inv-loop μ-loop
 shared-slice-read-if1 c = search needs
 
 returns : tie.Need-returns Inv-loop μ-loop
-returns c = λ e. absurd (false≢true e)
+returns c = (λ e. absurd (false≢true e), λ w. sym (not-true _ (c .if1 .taken)) ∙ w .each _ (c .before .before .loop-test .taken))
 
 add-k : tie.Need-add-k Inv-loop μ-loop
 add-k c = search needs
@@ -43,7 +43,7 @@ returns-2 : tie.Need-returns-2 Inv-loop μ-loop
 returns-2 c =
     let i = c .before .loop .inv in
     let all : c .before .loop .k ≡ 7 = omega (arith, i .0, c .loop-test .left) in
-    λ e. subst (λ (n : ℕ). WeekdaysSet (c .before .before .args .flags .now) n) all (i .1)
+    (λ e. subst (λ (n : ℕ). WeekdaysSet (c .before .before .args .flags .now) n) all (i .1), λ w. refl)
 
 pub has-all-weekdays-spec : {M : Type 1} → statement M
 has-all-weekdays-spec =

@@ -21,7 +21,7 @@ mark-parts-requires : tie.Need-mark-parts-requires
 mark-parts-requires c κs =
     let plain = c .before .before .if1 .left in (
       record {
-        months = c .before .is-alike .ensures;
+        months = c .before .is-alike .ensures .0;
         positions = λ e placed. absurd (false≢true (sym plain ∙ placed));
         plain = λ e. plain;
       },

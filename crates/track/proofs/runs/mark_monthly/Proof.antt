@@ -11,7 +11,7 @@ is-alike-requires c κs = c .before .before .pre .1 .row-length
 mark-parts-requires : tie.Need-mark-parts-requires
 mark-parts-requires c κs =
     let p = c .before .before .before .before .before .pre in
-    let like = c .before .before .is-alike .ensures (c .before .if1 .taken) in
+    let like = c .before .before .is-alike .ensures .0 (c .before .if1 .taken) in
     (record { months = λ e. like; positions = λ e placed. p .0; plain = λ e. absurd (false≢true (sym e)) }, p .1)
 
 same-length : tie.Need-same-length

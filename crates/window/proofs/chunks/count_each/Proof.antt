@@ -19,7 +19,7 @@ rises-requires c κs = search needs
 next-kept-requires : tie.Need-next-kept-requires Inv-loop μ-loop
 next-kept-requires c κs =
     let p = c .before .before .before .before .pre in
-    (c .rises .ensures, (p .1, p .0 .order))
+    (c .rises .ensures .0, (p .1, p .0 .order))
 
 loop-holds : tie.Need-loop-holds Inv-loop μ-loop
 loop-holds c =
@@ -46,7 +46,7 @@ add-renew c = search needs
 
 renew-requires : tie.Need-renew-requires Inv-loop μ-loop
 renew-requires c κs =
-    (c .before .before .before .before .before .rises .ensures, (c .before .before .before .before .before .before .before .before .before .pre .1, omega (arith, c .if1 .left)))
+    (c .before .before .before .before .before .rises .ensures .0, (c .before .before .before .before .before .before .before .before .before .pre .1, omega (arith, c .if1 .left)))
 
 loop-less : tie.Need-loop-less Inv-loop μ-loop
 loop-less c =

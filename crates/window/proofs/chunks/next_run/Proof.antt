@@ -11,7 +11,7 @@ rises-requires c κs = search needs
 next-kept-requires : tie.Need-next-kept-requires
 next-kept-requires c κs =
     let p = c .before .before .before .before .pre in
-    (c .rises .ensures, (p .1, p .0 .order))
+    (c .rises .ensures .0, (p .1, p .0 .order))
 
 next-in-requires : tie.Need-next-in-requires
 next-in-requires c κs = search needs

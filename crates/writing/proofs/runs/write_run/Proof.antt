@@ -29,7 +29,7 @@ rises-requires c κs = search needs
 next-kept-requires : tie.Need-next-kept-requires Inv-loop μ-loop
 next-kept-requires c κs =
     let q = c .before .before .before .before .before .before .before .before in
-    (c .rises .ensures, (q .pre .1 .1 .0 .marks, q .pre .1 .0 .order))
+    (c .rises .ensures .0, (q .pre .1 .1 .0 .marks, q .pre .1 .0 .order))
 
 loop-holds : tie.Need-loop-holds Inv-loop μ-loop
 loop-holds c =
@@ -62,7 +62,7 @@ put-at-requires c κs =
     let q = c .before .before .before .before .before .before .before .before .before .before .before .before .before .before .before in
     let x = (there-is (q .args .hits .now) _ _ (q .args .ids .now) (q .args .gone .now) _ _ _ _ (i .inv .0 .order) (i .inv .1) (c .before .before .before .next-in .ensures)) in
     let small = q .pre .1 .1 .1 .0 .small (c .before .before .before .next-in .result) (omega (arith, c .before .before .if1 .left, q .pre .1 .0 .high, q .pre .1 .0 .days)) in (
-      (q .pre .0, c .before .before .before .before .before .before .before .rises .ensures),
+      (q .pre .0, c .before .before .before .before .before .before .before .rises .ensures .0),
       (
         write-room (rowBy (q .args .floating) _ (q .args .instants .now) (q .args .offsets .now) (detailsBy (q .args .text .now) (detailsIn (q .args .text .now) (q .args .own)) (q .args .ids .now) (q .args .places .now))) (by-length (q .args .floating) _ (q .args .instants .now) (q .args .offsets .now) (detailsBy (q .args .text .now) (detailsIn (q .args .text .now) (q .args .own)) (q .args .ids .now) (q .args .places .now)))
             (isThere (q .args .hits .now) _ (q .args .own .start) (q .args .ids .now) (q .args .gone .now)) _ _ _ _ _ _ _ (i .inv .0) _ x (c .before .before .if1 .left) (q .pre .1 .1 .1 .1),
@@ -83,7 +83,7 @@ add-renew c = search needs
 
 renew-requires : tie.Need-renew-requires Inv-loop μ-loop
 renew-requires c κs =
-    (c .before .before .before .before .before .before .before .before .before .before .rises .ensures, (c .before .before .before .before .before .before .before .before .before .before .before .before .before .before .before .before .before .before .pre .1 .1 .0 .marks, omega (arith, c .before .before .before .before .before .if1 .left)))
+    (c .before .before .before .before .before .before .before .before .before .before .rises .ensures .0, (c .before .before .before .before .before .before .before .before .before .before .before .before .before .before .before .before .before .before .pre .1 .1 .0 .marks, omega (arith, c .before .before .before .before .before .if1 .left)))
 
 loop-less : tie.Need-loop-less Inv-loop μ-loop
 loop-less c =
