@@ -17,7 +17,7 @@ use Rattle.words.specs.declared.Privacy.{Privacy}
 use Rattle.table.specs.Window.{validWindow}
 use Rattle.table.specs.Bytes.{ZoneTable}
 use Rattle.table.specs.Answer.{isSecret, otherZone, answerFor}
-use Rattle.answers.specs.Refusal.{refusalFor}
+use Rattle.answers.specs.Inner.Refusal.{refusalFor}
 
 -- ---- what the two tests said, their numbers passed by their bits
 

@@ -10,7 +10,7 @@ use Rattle.gregorian.specs.declared.Date.{Date}
 use Rattle.gregorian.specs.Year.{yearLength, firstOfYear}
 use Rattle.gregorian.specs.Month.{monthLength, monthStart}
 use Rattle.gregorian.specs.Days.{dayOf, dayCount, dateOf}
-use Rattle.calendar.specs.Within.{HoldsDay, HoldsDayOfYear}
+use Rattle.calendar.specs.Inner.Within.{HoldsDay, HoldsDayOfYear}
 use Rattle.gregorian.proofs.YearLaws.{first-suc, first-cycle, guess-low, guess-high, cycle-length, year-most, length-repeats}
 use Rattle.gregorian.proofs.MonthLaws.{month-next, month-guess-low, month-guess-high, year-is-months}
 use Rattle.gregorian.proofs.DayLaws.{Parts}

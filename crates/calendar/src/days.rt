@@ -4,7 +4,7 @@ ghost use mathlib.Core.Path.{_≡_};
 ghost use Prim.Native.Nat.{_<_, _≤_};
 ghost use Rattle.gregorian.specs.Year.{yearLength};
 ghost use Rattle.gregorian.specs.Days.{isDate, dayOf, dayCount, dateOf, weekdayOf};
-ghost use Rattle.calendar.specs.Within.{HoldsDay, HoldsDayOfYear};
+ghost use Rattle.calendar.specs.Inner.Within.{HoldsDay, HoldsDayOfYear};
 use gregorian::Date;
 
 // 0 is Monday.

@@ -3,7 +3,7 @@
 ghost use mathlib.Core.Path.{_≡_};
 ghost use Prim.Native.Nat.{_<_};
 ghost use Rattle.gregorian.specs.Days.{dayCount};
-ghost use Rattle.gregorian.specs.Seconds.{InCalendar, momentOf, secondsOf};
+ghost use Rattle.gregorian.specs.Inner.Seconds.{InCalendar, momentOf, secondsOf};
 use gregorian::Moment;
 
 // 135,140 days of 86,400 seconds.

@@ -9,12 +9,12 @@ use borrow.Author.Tests.{eq-eqb, eqb-true}
 use Rattle.signed.specs.Choose.{if_then_else_}
 use Rattle.rule.specs.Gives.{onDay}
 use Rattle.rule.proofs.Bools.{same-tests}
-use Rattle.track.specs.Runs.{marked, run}
-use Rattle.track.specs.Settle.{cleared}
+use Rattle.track.specs.Inner.Runs.{marked, run}
+use Rattle.track.specs.Inner.Settle.{cleared}
 use Rattle.track.proofs.RunLaws.{marked-run, run-same}
-use Rattle.dates.specs.Tracked.{someHas, markEach}
-use Rattle.dates.specs.Overrides.{isNamed, isDate, namesDay}
-use Rattle.dates.specs.Loaded.{Loaded, byRules, isIn, isOn}
+use Rattle.dates.specs.Inner.Tracked.{someHas, markEach}
+use Rattle.dates.specs.Inner.Overrides.{isNamed, isDate, namesDay}
+use Rattle.dates.specs.Inner.Loaded.{Loaded, byRules, isIn, isOn}
 use Rattle.dates.proofs.TrackLaws.{each-run}
 
 clear-run : (d n : ℕ) → cleared n ≡ run (λ e. false) d n

@@ -10,14 +10,14 @@ use lib.Seq.{take-at, drop-at, length-take-le, take-suc-set, take-add, take-take
 use Rattle.rule.specs.declared.Rule.{Rule}
 use Rattle.rule.specs.Written.{RecurrenceRule}
 use Rattle.rule.specs.Gives.{endDay}
-use Rattle.rule.specs.Read.{written}
+use Rattle.rule.specs.Inner.Read.{written}
 use Rattle.track.specs.declared.Track.{Track}
-use Rattle.track.specs.Settle.{cleared, SettledBy, Settled}
+use Rattle.track.specs.Inner.Settle.{cleared, SettledBy, Settled}
 use Rattle.track.proofs.SettleLaws.{settled}
 use Rattle.dates.specs.declared.Tracks.{Tracks}
-use Rattle.dates.specs.Tracked.{Weeks, tracksOf, Tracked}
-use Rattle.dates.specs.Load.{put, Loading, Added}
-use Rattle.dates.specs.Stands.{Settles}
+use Rattle.dates.specs.Inner.Tracked.{Weeks, tracksOf, Tracked}
+use Rattle.dates.specs.Inner.Load.{put, Loading, Added}
+use Rattle.dates.specs.Inner.Stands.{Settles}
 
 -- ---- a row that is lent and comes back
 

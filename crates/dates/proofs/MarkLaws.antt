@@ -11,10 +11,10 @@ use lib.Seq.{drop-cons, drop-length, take-suc-set, take-all}
 use borrow.Author.Tests.{eq-eqb, ne-eqb}
 use Rattle.signed.specs.Choose.{if_then_else_}
 use Rattle.rule.specs.Gives.{onDay}
-use Rattle.track.specs.Runs.{marked, run}
-use Rattle.track.specs.Settle.{cleared}
+use Rattle.track.specs.Inner.Runs.{marked, run}
+use Rattle.track.specs.Inner.Settle.{cleared}
 use Rattle.track.proofs.RunLaws.{marked-length, marked-or, marked-same, marked-none, marked-one}
-use Rattle.dates.specs.Overrides.{counts, isNamed, isDate, namesDay}
+use Rattle.dates.specs.Inner.Overrides.{counts, isNamed, isDate, namesDay}
 
 -- ---- clearing
 

@@ -12,15 +12,15 @@ use Rattle.rule.specs.Written.{RecurrenceRule}
 use Rattle.rule.specs.Lists.{any}
 use Rattle.rule.specs.Gives.{endDay, onDay, gives}
 use Rattle.rule.proofs.Bools.{by}
-use Rattle.matcher.specs.Member.{isFirst}
+use Rattle.matcher.specs.Inner.Member.{isFirst}
 use Rattle.matcher.proofs.GiveLaws.{never-timed, not-falling, early-day}
 use Rattle.track.specs.declared.Track.{Track}
-use Rattle.track.specs.Runs.{hasDay}
+use Rattle.track.specs.Inner.Runs.{hasDay}
 use Rattle.recurrence.specs.Event.{Override, Event, overrideExcludes, overrideNames, isStart, someGives, ruleGives, excludedRuleGives, inSet}
-use Rattle.dates.specs.Tracked.{someHas}
-use Rattle.dates.specs.Overrides.{counts, isNamed}
-use Rattle.dates.specs.Loaded.{Loaded, byRules, isIn}
-use Rattle.dates.specs.Stands.{Settles, overridesOf, Stands}
+use Rattle.dates.specs.Inner.Tracked.{someHas}
+use Rattle.dates.specs.Inner.Overrides.{counts, isNamed}
+use Rattle.dates.specs.Inner.Loaded.{Loaded, byRules, isIn}
+use Rattle.dates.specs.Inner.Stands.{Settles, overridesOf, Stands}
 
 -- ---- the overrides
 

@@ -9,10 +9,10 @@ use lib.ListN.{length, take, drop, getD, length-drop}
 use lib.Seq.{drop-cons, drop-drop, drop-length, length-take-le, getD-take}
 use Rattle.signed.specs.Choose.{if_then_else_}
 use Rattle.track.specs.declared.Track.{Track}
-use Rattle.track.specs.Runs.{hasDay, marked, run, Marking}
+use Rattle.track.specs.Inner.Runs.{hasDay, marked, run, Marking}
 use Rattle.track.proofs.RunLaws.{marked-length, marked-run, run-same}
 use Rattle.dates.specs.declared.Tracks.{Tracks}
-use Rattle.dates.specs.Tracked.{someHas, markEach, Weeks, tracksOf, Tracked, Run}
+use Rattle.dates.specs.Inner.Tracked.{someHas, markEach, Weeks, tracksOf, Tracked, Run}
 
 pub weeks-at : (l : List Track) (i : ℕ) (d : Track) → Weeks l → i < length l → getD l i d .terms .first < 7
 weeks-at [] i d w h = absurd (omega arith)

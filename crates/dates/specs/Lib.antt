@@ -1,5 +1,1 @@
-pub mod Tracked
-pub mod Overrides
-pub mod Loaded
-pub mod Stands
-pub mod Load
+pub mod Inner

@@ -3,9 +3,9 @@ ghost use mathlib.Core.Path.{_≡_};
 ghost use Prim.Native.Nat.{_/_, _<_};
 ghost use lib.ListN.{length};
 ghost use Rattle.rule.specs.Gives.{endDay};
-ghost use Rattle.track.specs.Runs.{run};
-ghost use Rattle.dates.specs.Tracked.{Tracked, Run};
-ghost use Rattle.dates.specs.Loaded.{loaded, isOn};
+ghost use Rattle.track.specs.Inner.Runs.{run};
+ghost use Rattle.dates.specs.Inner.Tracked.{Tracked, Run};
+ghost use Rattle.dates.specs.Inner.Loaded.{loaded, isOn};
 use super::Tracks;
 
 // Hit i: whether the day first + i at the start's time of day is in the set. The rules first, then the start, less the excluded rules, then

@@ -2,9 +2,9 @@
 ghost use mathlib.Core.Path.{_≡_};
 ghost use Prim.Native.Nat.{_+_, _*_, _<_, _≤_};
 ghost use lib.ListN.{length};
-ghost use Rattle.rule.specs.Read.{Sized};
-ghost use Rattle.track.specs.Settle.{cleared, Settling, SettledBy};
-ghost use Rattle.dates.specs.Load.{put, Loading, Added};
+ghost use Rattle.rule.specs.Inner.Read.{Sized};
+ghost use Rattle.track.specs.Inner.Settle.{cleared, Settling, SettledBy};
+ghost use Rattle.dates.specs.Inner.Load.{put, Loading, Added};
 use super::Tracks;
 use rule::Frequency;
 use rule::Rule;

@@ -2,10 +2,10 @@
 ghost use mathlib.Core.Path.{_≡_};
 ghost use Prim.Native.Nat.{_≤_};
 ghost use lib.ListN.{length};
-ghost use Rattle.track.specs.Runs.{marked};
-ghost use Rattle.track.specs.Settle.{cleared};
-ghost use Rattle.dates.specs.Tracked.{markEach, tracksOf, Tracked, Run};
-ghost use Rattle.dates.specs.Overrides.{counts, isDate, namesDay};
+ghost use Rattle.track.specs.Inner.Runs.{marked};
+ghost use Rattle.track.specs.Inner.Settle.{cleared};
+ghost use Rattle.dates.specs.Inner.Tracked.{markEach, tracksOf, Tracked, Run};
+ghost use Rattle.dates.specs.Inner.Overrides.{counts, isDate, namesDay};
 use super::Tracks;
 
 // The days of each rule of a list get the value; the event begins on the day `begin`.

@@ -12,7 +12,7 @@ use lib.Seq.{sets}
 use lib.Signed.{ltZ}
 use borrow.Author.Tests.{ltb-false}
 use Rattle.rule.specs.Lists.{any}
-use Rattle.recurrence.specs.Order.{StrictlyIncreases, among}
+use Rattle.recurrence.specs.Inner.Order.{StrictlyIncreases, among}
 use Rattle.recurrence.specs.Occurs.{OccursWithin}
 use Rattle.zone.specs.Table.{validTable}
 use Rattle.event.specs.Types.{Event}

@@ -10,7 +10,7 @@ use borrow.Author.Tests.{eqb-true, eq-eqb}
 use Rattle.signed.proofs.Parts.{false-true}
 use Rattle.rule.specs.Lists.{any}
 use Rattle.rule.proofs.Bools.{or-right}
-use Rattle.recurrence.specs.Order.{IncreasesFrom, StrictlyIncreases, among}
+use Rattle.recurrence.specs.Inner.Order.{IncreasesFrom, StrictlyIncreases, among}
 
 -- a place at which x stands
 pub record StandsAt (l : List ℕ) (x : ℕ) : Type 0 where

@@ -22,7 +22,7 @@ use Rattle.json_walk.proofs.Laws.{length-bytes}
 use Rattle.json_tree.specs.Finds
 use Rattle.json_tree.specs.Finds.{lookUp}
 use Rattle.json_tree.specs.Tree.{Json, Items, Fields, noField, noItem, field, endOf, scalarTree, fieldsOf, treeBy, treeAt, textTree}
-use Rattle.property.specs.Words.{wordAt}
+use Rattle.property.specs.Inner.Words.{wordAt}
 use Rattle.property.proofs.Ends.{string-end}
 use Rattle.property.proofs.Words.{raw-none, string-text}
 use Rattle.json_text.specs.Ascii.{ascii}

@@ -117,8 +117,9 @@ module _ (zones : ZoneTable) (valid : validTable (zones .initial) (zones .instan
         let start = utcOf zones zone (since1970 (detailsAt (eventOf s) x .start)) in
         let n = 86400 * detailsAt (eventOf s) x .length .days + detailsAt (eventOf s) x .length .seconds in
         abs-fits _
-        (omega
-        (arith,
-        sum-abs start (pos n) (366 * 86400) (small .short),
-        of-abs zone (since1970 (detailsAt (eventOf s) x .start)),
-        local-abs (detailsAt (eventOf s) x .start) (small .start)))
+        (omega (
+          arith,
+          sum-abs start (pos n) (366 * 86400) (small .short),
+          of-abs zone (since1970 (detailsAt (eventOf s) x .start)),
+          local-abs (detailsAt (eventOf s) x .start) (small .start),
+        ))

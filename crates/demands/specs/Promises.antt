@@ -32,14 +32,12 @@ pub record TablePromises : Type 0 where
   -- refused call reports length 0, hands out no words and changes no byte of the lent buffer."
   pub answered : (zones : ZoneTable) (s : List ℕ) (from to : ℤ) (buffer : List ℕ) (answer size : ℕ) (after : List ℕ)
       → Gives (expandText zones s from to buffer) answer size after → TableAnswered zones s from to buffer answer size after
-
   -- 2. "When an accepted event that is not secret is answered 0, the recurrence ids on the sheet strictly increase, and a date-time of the window is
   -- there exactly when no override excludes it and either an override names it, or it is the start or a rule gives it, and no excluded rule does.
   -- RFC 8984 decides, in the written profile. UTC times, marks and words are those of the same document."
   pub listed : (zones : ZoneTable) (s : List ℕ) (from to : ℤ) (buffer : List ℕ) → textFault s ≡ 0 → isSecret (eventOf s .privacy) ≡ false
       → (answer size : ℕ) (after : List ℕ) → Gives (expandText zones s from to buffer) answer size after → answer ≡ 0
       → Listed zones (eventOf s) from to buffer size after
-
   -- 3. "Take any two accepted private events that agree on start, zone, length, busy mark, all-day mark, rules and excluded rules, and, for each
   -- override date, on its presence, its exclusion and what its patches make of start, length and the two marks. Whatever zone table, window and
   -- buffer come in, the same for both, the planner gets the same answer, the same length and the same bytes in the whole buffer. They are those of
@@ -48,7 +46,6 @@ pub record TablePromises : Type 0 where
       → (zones : ZoneTable) (from to : ℤ) (buffer : List ℕ) (answer answer′ size size′ : ℕ) (after after′ : List ℕ)
       → Gives (expandText zones s from to buffer) answer size after → Gives (expandText zones t from to buffer) answer′ size′ after′
       → SameTable answer answer′ size size′ after after′ × PrivateTable zones s from to buffer answer size after
-
   -- 3. "Now take any two accepted secret events. Whatever else they hold, and whatever zone table, window and buffer come in, the same for both, the
   -- answer, the length and the bytes in the whole buffer are the same, and a sheet answered 0 has no records."
   pub secret : (s t : List ℕ) → Accepted Secret s → Accepted Secret t
@@ -61,18 +58,15 @@ pub record TextPromises (call : List ℕ → ℤ → Shown) (which : Details →
   -- 1. ".. a call ends with one answer: the lowest number of the table whose condition holds. A refused call .. hands out no words".
   pub answered : (s : List ℕ) (date : ℤ) (answer start size : ℕ) → Shows (call s date) answer start size → TextAnswered s date answer start size
   pub answeredPart : (s : List ℕ) (date : ℤ) (answer : ℕ) (part : List ℕ) → Tells (call s date) s answer part → PartAnswered s date answer part
-
   -- 2. "UTC times, marks and words are those of the same document."
   pub told : (s : List ℕ) → Accepted Public s → (date : ℤ) (answer start size : ℕ) → Shows (call s date) answer start size → answer ≡ 0
       → Told which s (eventOf s) date start size
   pub toldPart : (s : List ℕ) → Accepted Public s → (date : ℤ) (answer : ℕ) (part : List ℕ) → Tells (call s date) s answer part → answer ≡ 0
       → PartTold which (eventOf s) date part
-
   -- "words only where the event is public": of a private event no words come out, whatever date.
   pub silent : (s : List ℕ) → Accepted Private s → (date : ℤ) (answer start size : ℕ) → Shows (call s date) answer start size
       → (start ≡ 0) × (size ≡ 0)
   pub silentPart : (s : List ℕ) → Accepted Private s → (date : ℤ) (answer : ℕ) (part : List ℕ) → Tells (call s date) s answer part → part ≡ []
-
   -- 3. "Whatever date is asked of both, for the title or for the description, the answer number is the same and no words come out."
   pub private : (s t : List ℕ) → Accepted Private s → Accepted Private t → Agree (eventOf s) (eventOf t)
       → (date : ℤ) (answer answer′ start start′ size size′ : ℕ)
@@ -80,7 +74,6 @@ pub record TextPromises (call : List ℕ → ℤ → Shown) (which : Details →
   pub privatePart : (s t : List ℕ) → Accepted Private s → Accepted Private t → Agree (eventOf s) (eventOf t)
       → (date : ℤ) (answer answer′ : ℕ) (part part′ : List ℕ)
       → Tells (call s date) s answer part → Tells (call t date) t answer′ part′ → SamePart answer answer′ part part′
-
   -- 3. "Every request for words about either is answered 14." By demand 1 no words come out.
   pub secret : (s : List ℕ) → Accepted Secret s → (date : ℤ) (answer start size : ℕ) → Shows (call s date) answer start size → answer ≡ 14
   pub secretPart : (s : List ℕ) → Accepted Secret s → (date : ℤ) (answer : ℕ) (part : List ℕ) → Tells (call s date) s answer part → answer ≡ 14

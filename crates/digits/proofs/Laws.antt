@@ -12,7 +12,7 @@ use borrow.Author.Tests.{eqb-true}
 use Rattle.signed.specs.Choose.{if_then_else_}
 use Rattle.json_text.specs.Bytes.{isDigit}
 use Rattle.digits.specs.Fraction.{allDigits, nonZero, lastOf, endsInZero, legalFraction}
-use Rattle.digits.specs.Judged.{judged}
+use Rattle.digits.specs.Inner.Judged.{judged}
 
 judged-last : (d : ℕ) (l : List ℕ) → judged d l ≡ (if allDigits l then not (eqb (lastOf d l) 0x30) else false)
 unfolding judged allDigits lastOf

@@ -1,4 +1,3 @@
 pub mod Digits
 pub mod Fraction
-pub mod Judged
 pub mod Inner

@@ -29,7 +29,7 @@ use Rattle.date_time.specs.Picture.{meets, follows}
 use Rattle.date_time.specs.Utc.{endsInZ, isUtc}
 use Rattle.digits.specs.Digits.{twoAt, fourAt}
 use Rattle.digits.specs.Fraction.{allDigits, nonZero, lastOf, endsInZero, legalFraction}
-use Rattle.digits.specs.Judged.{judged}
+use Rattle.digits.specs.Inner.Judged.{judged}
 use Rattle.duration.specs.Amount.{before, amountOf}
 use Rattle.duration.specs.Inner.Capped.{capped}
 use Rattle.duration.specs.Length.{pointAt, daysOf, secondsOf, wholeOf, fractionOf, lengthOf}

@@ -6,7 +6,7 @@ use mathlib.Core.Path.{_≡_, sym, ap, subst, _∙_}
 use native.Mathlib.Omega.{arith}
 use lib.IntN.{ℤ}
 use lib.ListN.{length, take, length-map}
-use Rattle.property.specs.From.{valueIn}
+use Rattle.property.specs.Inner.From.{valueIn}
 use Rattle.property.proofs.Ranges.{Short}
 use Rattle.rule.specs.Gives.{endDay}
 use Rattle.rule.specs.Written.{RecurrenceRule}
@@ -16,26 +16,26 @@ use Rattle.event.specs.Reading.{optional}
 use Rattle.event.specs.Rules.{readRules}
 use Rattle.event.specs.Types.{Details, Override}
 use Rattle.override_text.specs.declared.Own.{Own}
-use Rattle.override_text.specs.Lists.{Filled}
-use Rattle.override_text.specs.Meaning.{detailsIn}
+use Rattle.override_text.specs.Inner.Lists.{Filled}
+use Rattle.override_text.specs.Inner.Meaning.{detailsIn}
 use Rattle.override_text.proofs.RangeLaws.{InYears, all-counted, all-ids, all-gone, all-places}
-use Rattle.event_text.specs.Front.{frontOf, inner}
-use Rattle.event_text.specs.Held.{fromHead}
+use Rattle.event_text.specs.Inner.Front.{frontOf, inner}
+use Rattle.event_text.specs.Inner.Held.{fromHead}
 use Rattle.event_text.specs.declared.Head.{Head}
 use Rattle.event_text.proofs.Accepted.{Accepted}
 use Rattle.event_text.proofs.FromHead.{head-details, head-rules, head-excluded, head-overrides, head-accepted}
 use Rattle.table.specs.Window.{since1600, validWindow}
 use Rattle.table.specs.Occurrence.{datesOf, isOccurrence, overrideAt, patchedBy, detailsAt}
 use Rattle.dates.specs.declared.Tracks.{Tracks}
-use Rattle.dates.specs.Tracked.{tracksOf}
-use Rattle.dates.specs.Loaded.{loaded}
-use Rattle.dates.specs.Stands.{Settles, Stands, overridesOf}
-use Rattle.window.specs.Chunks.{Window}
-use Rattle.record.specs.Occurrences.{Small}
-use Rattle.writing.specs.Details.{detailsBy, timesIn}
-use Rattle.writing.specs.Runs.{Overridden}
-use Rattle.loading.specs.Rules.{Season, SettledRules}
-use Rattle.event_loading.specs.Patches.{patchesIn}
+use Rattle.dates.specs.Inner.Tracked.{tracksOf}
+use Rattle.dates.specs.Inner.Loaded.{loaded}
+use Rattle.dates.specs.Inner.Stands.{Settles, Stands, overridesOf}
+use Rattle.window.specs.Inner.Chunks.{Window}
+use Rattle.record.specs.Inner.Occurrences.{Small}
+use Rattle.writing.specs.Inner.Details.{detailsBy, timesIn}
+use Rattle.writing.specs.Inner.Runs.{Overridden}
+use Rattle.loading.specs.Inner.Rules.{Season, SettledRules}
+use Rattle.event_loading.specs.Inner.Patches.{patchesIn}
 use Rattle.event_loading.proofs.PatchLaws.{front-stored, dates-same, details-same, small-each, Ranged, patches-many, patches-each, patches-range, patches-most}
 use Rattle.event_loading.proofs.WindowLaws.{window-in}
 use Rattle.event_loading.proofs.YearLaws.{event-years}

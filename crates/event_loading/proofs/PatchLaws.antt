@@ -9,25 +9,25 @@ use lib.Dec.{eqb}
 use lib.ListN.{length, getD, take}
 use lib.Seq.{sets}
 use Rattle.signed.specs.Choose.{if_then_else_}
-use Rattle.property.specs.From.{valueIn}
+use Rattle.property.specs.Inner.From.{valueIn}
 use Rattle.property.specs.declared.Place.{Place}
 use Rattle.property.specs.declared.Place.the-variants as place
 use Rattle.property.proofs.Ranges.{Short}
 use Rattle.event.specs.Overrides.{readOverrides}
 use Rattle.event.specs.Reading.{optional}
 use Rattle.event.specs.Types.{Details, Override}
-use Rattle.override_text.specs.Patched.{patchAt}
+use Rattle.override_text.specs.Inner.Patched.{patchAt}
 use Rattle.override_text.proofs.ListLaws.{places-many, override-at}
 use Rattle.override_text.proofs.RangeLaws.{InRange, read-range}
 use Rattle.event.proofs.Limits.{read-most}
 use Rattle.rule_text.proofs.CollectLaws.{take-sets}
-use Rattle.event_text.specs.Front.{inner}
+use Rattle.event_text.specs.Inner.Front.{inner}
 use Rattle.table.specs.Occurrence.{overrideAt, withStart, patchedBy}
 use Rattle.recurrence.specs.Event as recurrence
-use Rattle.dates.specs.Stands.{overridesOf}
-use Rattle.record.specs.Occurrences.{Small}
-use Rattle.writing.specs.Details.{patchDetails, detailsBy, timesFrom, timesIn}
-use Rattle.event_loading.specs.Patches.{patchesIn}
+use Rattle.dates.specs.Inner.Stands.{overridesOf}
+use Rattle.record.specs.Inner.Occurrences.{Small}
+use Rattle.writing.specs.Inner.Details.{patchDetails, detailsBy, timesFrom, timesIn}
+use Rattle.event_loading.specs.Inner.Patches.{patchesIn}
 
 -- ---- lists that stand at the front of lent slices
 

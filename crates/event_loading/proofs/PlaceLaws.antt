@@ -4,19 +4,19 @@ use mathlib.Core.Bool.{Bool}
 use mathlib.Core.List.{List, []}
 use mathlib.Core.Path.{_≡_, refl, sym, subst}
 use Rattle.json_tree.specs.Tree.{treeAt}
-use Rattle.property.specs.From.{valueIn}
+use Rattle.property.specs.Inner.From.{valueIn}
 use Rattle.property.specs.declared.Place.{Place}
 use Rattle.property.specs.declared.Place.the-variants as place
 use Rattle.event.specs.Overrides.{readOverrides}
 use Rattle.event.specs.Reading.{optional}
 use Rattle.event.specs.Rules.{readRules}
 use Rattle.event.specs.Types.{Details}
-use Rattle.override_text.specs.Lists.{Filled, placesAt}
-use Rattle.event_text.specs.Front.{inner}
+use Rattle.override_text.specs.Inner.Lists.{Filled, placesAt}
+use Rattle.event_text.specs.Inner.Front.{inner}
 use Rattle.dates.specs.declared.Tracks.{Tracks}
 use Rattle.dates.proofs.LoadLaws.{none-tracked, none-settles}
-use Rattle.loading.specs.Rules.{SettledRules}
-use Rattle.event_loading.specs.Patches.{patchesIn}
+use Rattle.loading.specs.Inner.Rules.{SettledRules}
+use Rattle.event_loading.specs.Inner.Patches.{patchesIn}
 
 pub rules-fine : (s : List ℕ) (p : Place) (at : ℕ) → p ≡ place.At at → optional [] readRules (valueIn inner s p) .fault ≡ 0
     → readRules (treeAt 15 s at) .fault ≡ 0

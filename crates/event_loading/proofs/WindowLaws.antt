@@ -10,14 +10,14 @@ use lib.Signed.{leZ}
 use Rattle.signed.specs.Choose.{if_then_else_}
 use Rattle.signed.specs.Parts.{posPart, negPart}
 use Rattle.signed.proofs.Parts.{le-parts}
-use Rattle.gregorian.specs.Seconds.{InCalendar, momentOf}
+use Rattle.gregorian.specs.Inner.Seconds.{InCalendar, momentOf}
 use Rattle.gregorian.proofs.SecondLaws.{day-since, second-since}
 use Rattle.rule.specs.Gives.{endDay}
 use Rattle.rule.proofs.Bools.{left, right}
 use Rattle.table.specs.Window.{epoch, since1600, validWindow}
-use Rattle.window.specs.Chunks.{Window}
+use Rattle.window.specs.Inner.Chunks.{Window}
 use Rattle.record.proofs.WindowLaws.{since-some}
-use Rattle.event_loading.specs.Limit.{limitOf}
+use Rattle.event_loading.specs.Inner.Limit.{limitOf}
 
 module _ (from to : ℤ) (valid : validWindow from to ≡ true) where
   early : leZ (negℤ (pos 11644473600)) from ≡ true

@@ -1,2 +1,1 @@
-pub mod Patches
-pub mod Limit
+pub mod Inner

@@ -1,6 +1,6 @@
 // The days that a window asks for: rules are settled no further.
 ghost use mathlib.Core.Path.{_≡_};
-ghost use Rattle.event_loading.specs.Limit.{limitOf};
+ghost use Rattle.event_loading.specs.Inner.Limit.{limitOf};
 
 pub fn limit_of(to: u64) -> u32
     ensures { λ r. ⌜ r ≡ limitOf to ⌝ }

@@ -18,7 +18,7 @@ use Rattle.event.specs.Reading.{optional}
 use Rattle.event.specs.Rules.{required, readRules}
 use Rattle.event.specs.Types.{Details}
 use Rattle.event.specs.Values.{object}
-use Rattle.event_text.specs.Front.{Front, fieldsFrom, frontIn, frontOf, listsFault}
+use Rattle.event_text.specs.Inner.Front.{Front, fieldsFrom, frontIn, frontOf, listsFault}
 use Rattle.event_text.proofs.Events.{fault-none, fault-some}
 
 pub record Accepted (f : Front) : Type 0 where

@@ -15,7 +15,7 @@ use Rattle.event.specs.Reading.{orWrong, optional}
 use Rattle.event.specs.Rules.{required, readRules}
 use Rattle.event.specs.Types.{Details, Event}
 use Rattle.event.specs.Values.{object, member}
-use Rattle.event_text.specs.Front.{Front, fieldsFrom, frontIn, frontOf, eventWith, listsFault}
+use Rattle.event_text.specs.Inner.Front.{Front, fieldsFrom, frontIn, frontOf, eventWith, listsFault}
 
 event-in : (fields : Fields) → eventIn fields .value ≡ eventWith (frontIn fields)
 unfolding eventIn eventWith frontIn

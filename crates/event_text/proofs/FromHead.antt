@@ -3,14 +3,14 @@ use Prim.Native.Nat.{ℕ}
 use mathlib.Core.List.{List, []}
 use mathlib.Core.Path.{_≡_, ap, sym, subst, _∙_}
 use Rattle.words.specs.declared.Privacy.{Privacy}
-use Rattle.property.specs.From.{nameIn, valueIn}
+use Rattle.property.specs.Inner.From.{nameIn, valueIn}
 use Rattle.event.specs.Event.{eventFault, eventOf}
 use Rattle.event.specs.Overrides.{readOverrides}
 use Rattle.event.specs.Reading.{optional}
 use Rattle.event.specs.Rules.{readRules}
 use Rattle.event.specs.Types.{Event}
-use Rattle.event_text.specs.Front.{Front, frontOf, inner, eventWith}
-use Rattle.event_text.specs.Held.{fromHead}
+use Rattle.event_text.specs.Inner.Front.{Front, frontOf, inner, eventWith}
+use Rattle.event_text.specs.Inner.Held.{fromHead}
 use Rattle.event_text.specs.declared.Head.{Head}
 use Rattle.event_text.proofs.Accepted.{Accepted, accepted}
 use Rattle.event_text.proofs.Events.{event-front}

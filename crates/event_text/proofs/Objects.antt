@@ -12,8 +12,8 @@ use Rattle.json_tree.proofs.Trees.{choose, always, object-tree}
 use Rattle.json_tree.specs.Tree.{Json, Fields, Items, noField, fieldsOf, scalarTree, treeBy, treeAt, textTree}
 use Rattle.property.proofs.Fields.{no-members}
 use Rattle.event.specs.Values.{object}
-use Rattle.property.specs.From.{fieldsIn}
-use Rattle.event_text.specs.Front.{Front, fieldsFrom, frontIn, frontOf, inner}
+use Rattle.property.specs.Inner.From.{fieldsIn}
+use Rattle.event_text.specs.Inner.Front.{Front, fieldsFrom, frontIn, frontOf, inner}
 
 pub object-some : (l : ℕ) (s : List ℕ) (i : ℕ) → eqb (byte s i) 0x7B ≡ true → object (treeAt (suc l) s i) ≡ some (fieldsIn l s i)
 object-some l s i e = rw (object-tree l s i e)

@@ -2,12 +2,12 @@
 ghost use Prim.Native.Nat.{ℕ};
 ghost use mathlib.Core.List.{List};
 ghost use mathlib.Core.Path.{_≡_};
-ghost use Rattle.json_ends.specs.Ends.{Ends};
-ghost use Rattle.property.specs.From.{fieldsIn};
-ghost use Rattle.property.specs.Rows.{RowTo};
-ghost use Rattle.override_text.specs.Meaning.{detailsIn};
-ghost use Rattle.event_text.specs.Held.{fromHead};
-ghost use Rattle.event_text.specs.Front.{frontIn, frontOf, inner};
+ghost use Rattle.json_ends.specs.Inner.Ends.{Ends};
+ghost use Rattle.property.specs.Inner.From.{fieldsIn};
+ghost use Rattle.property.specs.Inner.Rows.{RowTo};
+ghost use Rattle.override_text.specs.Inner.Meaning.{detailsIn};
+ghost use Rattle.event_text.specs.Inner.Held.{fromHead};
+ghost use Rattle.event_text.specs.Inner.Front.{frontIn, frontOf, inner};
 use crate::Head;
 use crate::judged::id_fault;
 use crate::judged::uid_fault;

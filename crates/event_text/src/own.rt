@@ -2,9 +2,9 @@
 ghost use Prim.Native.Nat.{ℕ};
 ghost use mathlib.Core.Path.{_≡_};
 ghost use Rattle.event.specs.Event.{detailsIn};
-ghost use Rattle.property.specs.From.{fieldsIn};
-ghost use Rattle.property.specs.Rows.{RowTo};
-ghost use Rattle.event_text.specs.Held.{fromDetails};
+ghost use Rattle.property.specs.Inner.From.{fieldsIn};
+ghost use Rattle.property.specs.Inner.Rows.{RowTo};
+ghost use Rattle.event_text.specs.Inner.Held.{fromDetails};
 use crate::Details;
 use crate::marks::all_day;
 use crate::marks::busy;

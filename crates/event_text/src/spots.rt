@@ -2,14 +2,14 @@
 ghost use Prim.Native.Nat.{ℕ, _+_};
 ghost use mathlib.Core.Option.{none};
 ghost use mathlib.Core.Path.{_≡_};
-ghost use Rattle.property.specs.From.{fromZone, fromPassage, fieldsIn};
+ghost use Rattle.property.specs.Inner.From.{fromZone, fromPassage, fieldsIn};
 ghost use Rattle.json_text.specs.Ascii.{ascii};
 ghost use Rattle.event.specs.Properties.{readZone, readText};
 ghost use Rattle.event.specs.Reading.{optional};
 ghost use Rattle.event.specs.Values.{member};
-ghost use Rattle.event_text.specs.Held.{fromName, fromText};
-ghost use Rattle.property.specs.Rows.{RowTo};
-ghost use Rattle.property.specs.Vocabulary.{wordOf};
+ghost use Rattle.event_text.specs.Inner.Held.{fromName, fromText};
+ghost use Rattle.property.specs.Inner.Rows.{RowTo};
+ghost use Rattle.property.specs.Inner.Vocabulary.{wordOf};
 use crate::Spot;
 use property::Passage;
 use property::Place;

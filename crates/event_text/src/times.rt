@@ -6,9 +6,9 @@ ghost use Rattle.event.specs.Properties.{fromLocal, fromSpan, noLength, readSta
 ghost use Rattle.event.specs.Reading.{optional};
 ghost use Rattle.event.specs.Rules.{required};
 ghost use Rattle.event.specs.Values.{member};
-ghost use Rattle.property.specs.From.{fieldsIn};
-ghost use Rattle.event_text.specs.Held.{fromMoment, fromLasting};
-ghost use Rattle.property.specs.Rows.{RowTo};
+ghost use Rattle.property.specs.Inner.From.{fieldsIn};
+ghost use Rattle.event_text.specs.Inner.Held.{fromMoment, fromLasting};
+ghost use Rattle.property.specs.Inner.Rows.{RowTo};
 use crate::Lasting;
 use crate::Moment;
 use date_time::DateTime;

@@ -1,14 +1,14 @@
 // The lowest of 5 to 9 that applies to a text.
 ghost use mathlib.Core.List.{[]};
 ghost use mathlib.Core.Path.{_≡_};
-ghost use Rattle.json_ends.specs.Ends.{Ends};
-ghost use Rattle.property.specs.From.{valueIn};
+ghost use Rattle.json_ends.specs.Inner.Ends.{Ends};
+ghost use Rattle.property.specs.Inner.From.{valueIn};
 ghost use Rattle.event.specs.Event.{eventFault};
 ghost use Rattle.event.specs.Overrides.{readOverrides};
 ghost use Rattle.event.specs.Reading.{optional};
 ghost use Rattle.event.specs.Rules.{readRules};
-ghost use Rattle.event_text.specs.Front.{inner, frontOf, listsFault};
-ghost use Rattle.event_text.specs.Held.{fromHead};
+ghost use Rattle.event_text.specs.Inner.Front.{inner, frontOf, listsFault};
+ghost use Rattle.event_text.specs.Inner.Held.{fromHead};
 use crate::Head;
 use crate::heads::own_of;
 use crate::judged::no_event;

@@ -1,5 +1,5 @@
 // An event on the output: the number, and what was read.
-ghost use Rattle.json_ends.specs.Ends.{Ends};
+ghost use Rattle.json_ends.specs.Inner.Ends.{Ends};
 use crate::print::mark;
 use crate::print::number;
 use crate::print::passage;

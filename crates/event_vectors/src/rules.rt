@@ -1,5 +1,5 @@
 // A list of rules on the output, a line each.
-ghost use Rattle.json_ends.specs.Ends.{Ends};
+ghost use Rattle.json_ends.specs.Inner.Ends.{Ends};
 use crate::print::number;
 use crate::print::say;
 use crate::print::signed;

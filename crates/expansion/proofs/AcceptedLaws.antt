@@ -11,22 +11,22 @@ use mir.Facts.{toZ-ofZ}
 use Rattle.signed.proofs.Parts.{passed}
 use Rattle.zone.specs.Table.{validTable}
 use Rattle.words.specs.declared.Privacy.{Privacy}
-use Rattle.property.specs.From.{nameIn}
+use Rattle.property.specs.Inner.From.{nameIn}
 use Rattle.event.specs.Event.{eventFault, eventOf}
-use Rattle.event_text.specs.Front.{frontOf, inner}
-use Rattle.event_text.specs.Held.{fromHead}
+use Rattle.event_text.specs.Inner.Front.{frontOf, inner}
+use Rattle.event_text.specs.Inner.Held.{fromHead}
 use Rattle.event_text.specs.declared.Head.{Head}
 use Rattle.event_text.proofs.FromHead.{head-privacy, head-zone}
-use Rattle.window.specs.Chunks.{Window}
+use Rattle.window.specs.Inner.Chunks.{Window}
 use Rattle.table.specs.Window.{since1600, validWindow}
 use Rattle.table.specs.Bytes.{ZoneTable, trailerOf}
 use Rattle.table.specs.Answer.{isSecret, expanded}
 use Rattle.table.specs.Results.{zonesOf, Gives}
-use Rattle.answers.specs.Refusal.{refusalFor}
+use Rattle.answers.specs.Inner.Refusal.{refusalFor}
 use Rattle.answers.proofs.RefusalLaws.{call-valid}
 use Rattle.event_loading.proofs.KeptLaws.{kept-window}
-use Rattle.tables.specs.Sheet.{fitted}
-use Rattle.expansion.specs.Shown.{sheetOf}
+use Rattle.tables.specs.Inner.Sheet.{fitted}
+use Rattle.expansion.specs.Inner.Shown.{sheetOf}
 use Rattle.expansion.proofs.CallLaws.{call-refused, call-secret, call-shown}
 
 abbrev again : ℤ → ℤ

@@ -20,10 +20,10 @@ use Rattle.table.specs.Bytes.{ZoneTable, recordsOf, trailerOf, listed, tableOf}
 use Rattle.table.specs.Answer.{isSecret, Outcome, answerFor, outcomeBy, expanded}
 use Rattle.table.specs.Call.{textFault, expandText}
 use Rattle.table.specs.Results.{Gives}
-use Rattle.answers.specs.Refusal.{refusalFor}
+use Rattle.answers.specs.Inner.Refusal.{refusalFor}
 use Rattle.answers.proofs.RefusalLaws.{answer-left, answer-refused}
-use Rattle.tables.specs.Sheet.{fitted}
-use Rattle.expansion.specs.Shown.{sheetOf}
+use Rattle.tables.specs.Inner.Sheet.{fitted}
+use Rattle.expansion.specs.Inner.Shown.{sheetOf}
 
 -- ---- 1 to 9
 

@@ -12,39 +12,39 @@ use mir.Val.{SFits, toZ, ofZ}
 use mir.Facts.{toZ-ofZ}
 use Rattle.zone.specs.Table.{validTable}
 use Rattle.rule.specs.Gives.{endDay}
-use Rattle.property.specs.From.{nameIn, valueIn}
+use Rattle.property.specs.Inner.From.{nameIn, valueIn}
 use Rattle.event.specs.Event.{eventFault, eventOf}
 use Rattle.event.specs.Overrides.{readOverrides}
 use Rattle.event.specs.Reading.{optional}
 use Rattle.event.specs.Rules.{readRules}
 use Rattle.event.specs.Types.{Details, Override}
 use Rattle.override_text.specs.declared.Own.{Own}
-use Rattle.override_text.specs.Lists.{Filled}
-use Rattle.override_text.specs.Meaning.{detailsIn}
-use Rattle.event_text.specs.Front.{frontOf, inner}
-use Rattle.event_text.specs.Held.{fromHead}
+use Rattle.override_text.specs.Inner.Lists.{Filled}
+use Rattle.override_text.specs.Inner.Meaning.{detailsIn}
+use Rattle.event_text.specs.Inner.Front.{frontOf, inner}
+use Rattle.event_text.specs.Inner.Held.{fromHead}
 use Rattle.event_text.specs.declared.Head.{Head}
 use Rattle.event_text.proofs.FromHead.{head-zone, head-accepted}
 use Rattle.dates.specs.declared.Tracks.{Tracks}
-use Rattle.dates.specs.Loaded.{Loaded, loaded, isIn}
-use Rattle.dates.specs.Stands.{Stands}
-use Rattle.dates.specs.Tracked.{Tracked}
-use Rattle.window.specs.Chunks.{Window}
+use Rattle.dates.specs.Inner.Loaded.{Loaded, loaded, isIn}
+use Rattle.dates.specs.Inner.Stands.{Stands}
+use Rattle.dates.specs.Inner.Tracked.{Tracked}
+use Rattle.window.specs.Inner.Chunks.{Window}
 use Rattle.table.specs.Occurrence.{datesOf}
 use Rattle.table.specs.Bytes.{ZoneTable, isFloating}
 use Rattle.table.specs.Answer.{Outcome}
 use Rattle.table.specs.Results.{zonesOf, Gives}
-use Rattle.writing.specs.Details.{detailsBy, rowBy}
-use Rattle.writing.specs.Runs.{Overridden, Timed}
-use Rattle.loading.specs.Rules.{Season, SettledRules}
-use Rattle.event_loading.specs.Limit.{limitOf}
-use Rattle.event_loading.specs.Patches.{patchesIn}
+use Rattle.writing.specs.Inner.Details.{detailsBy, rowBy}
+use Rattle.writing.specs.Inner.Runs.{Overridden, Timed}
+use Rattle.loading.specs.Inner.Rules.{Season, SettledRules}
+use Rattle.event_loading.specs.Inner.Limit.{limitOf}
+use Rattle.event_loading.specs.Inner.Patches.{patchesIn}
 use Rattle.event_loading.proofs.KeptLaws.{kept-season, kept-start, kept-bounds, kept-even, kept-details, kept-small, kept-stands}
 use Rattle.event_loading.proofs.WindowLaws.{limit-within, limit-enough}
-use Rattle.tables.specs.Sheet.{sheetBy, fitted}
+use Rattle.tables.specs.Inner.Sheet.{sheetBy, fitted}
 use Rattle.tables.proofs.EventLaws.{sheet-is}
 use Rattle.tables.proofs.LentLaws.{taken}
-use Rattle.expansion.specs.Shown.{sheetOf}
+use Rattle.expansion.specs.Inner.Shown.{sheetOf}
 
 -- the lists that were filled from the front are as long as before
 module _ (overrides : List Override) (patches : List ℕ) (ids₀ ids₁ : List ℕ) (gone₀ gone₁ : List Bool) (places₀ places₁ : List ℕ) (n : ℕ)

@@ -1,9 +1,9 @@
 // The expansion of an accepted event, whose head was read: 10 to 12 are found before its lists are read; a secret event shows none of them.
 ghost use mathlib.Core.Path.{_≡_};
-ghost use Rattle.json_ends.specs.Ends.{Ends};
+ghost use Rattle.json_ends.specs.Inner.Ends.{Ends};
 ghost use Rattle.event.specs.Event.{eventFault, eventOf};
-ghost use Rattle.event_text.specs.Front.{frontOf, inner};
-ghost use Rattle.event_text.specs.Held.{fromHead};
+ghost use Rattle.event_text.specs.Inner.Front.{frontOf, inner};
+ghost use Rattle.event_text.specs.Inner.Held.{fromHead};
 ghost use Rattle.table.specs.Answer.{expanded};
 ghost use Rattle.table.specs.Results.{zonesOf, Gives};
 use crate::shown::put_shown;

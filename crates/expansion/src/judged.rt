@@ -1,6 +1,6 @@
 // The text's answers, one after the other: 1 to 4 as JSON, 5 to 9 as an event. Its head is read once.
 ghost use mathlib.Core.Path.{_≡_};
-ghost use Rattle.json_ends.specs.Ends.{Ends};
+ghost use Rattle.json_ends.specs.Inner.Ends.{Ends};
 ghost use Rattle.json.specs.Answer.{answerOf};
 ghost use Rattle.table.specs.Call.{expandText};
 ghost use Rattle.table.specs.Results.{zonesOf, Gives};

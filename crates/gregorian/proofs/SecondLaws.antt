@@ -10,7 +10,7 @@ use Rattle.signed.specs.Parts.{posPart, negPart}
 use Rattle.signed.proofs.Parts.{parts-eq, sum-parts, diff-parts, subℕ-parts, neg-pos, neg-neg, subℕ-above, subℕ-neg, parts-abs}
 use Rattle.gregorian.specs.declared.Moment.{Moment}
 use Rattle.gregorian.specs.Days.{dayCount}
-use Rattle.gregorian.specs.Seconds.{floorDiv, floorMod, epochDay, InCalendar, momentOf, secondsOf}
+use Rattle.gregorian.specs.Inner.Seconds.{floorDiv, floorMod, epochDay, InCalendar, momentOf, secondsOf}
 
 -- ---- division rounded down
 

@@ -9,7 +9,7 @@ use Rattle.gregorian.specs.declared.Moment.{Moment}
 use Rattle.gregorian.specs.Year.{isLeap, yearLength, leapYears, firstOfYear}
 use Rattle.gregorian.specs.Month.{lengthIn, startIn, monthLength, monthStart}
 use Rattle.gregorian.specs.Days.{isDate, dayOf, fromMonth, fromYear, dateOf, weekdayOf}
-use Rattle.gregorian.specs.Seconds.{floorDiv, floorMod, momentOf, secondsOf}
+use Rattle.gregorian.specs.Inner.Seconds.{floorDiv, floorMod, momentOf, secondsOf}
 
 -- A date, its weekday (0 is Monday) and its midnight in seconds from 1970-01-01.
 pub record Case : Type 0 where

@@ -1,4 +1,4 @@
 pub mod Year
 pub mod Month
 pub mod Days
-pub mod Seconds
+pub mod Inner

@@ -10,7 +10,7 @@ use Rattle.json_value.specs.Values.{levels}
 use Rattle.json_walk.specs.Walk.{membersOf, elementsOf}
 use Rattle.json_walk.specs.declared.Member.{Member}
 use Rattle.json_walk.specs.declared.Element.{Element}
-use Rattle.json_names.specs.Names.{nameOf, named, repeats, anySlashed, badNames, anyMember, anyElement, objectFault, faultAt}
+use Rattle.json_names.specs.Inner.Names.{nameOf, named, repeats, anySlashed, badNames, anyMember, anyElement, objectFault, faultAt}
 use Rattle.json_tree.specs.Tree.{Json, noField, noItem, fieldsOf, itemsOf, scalarTree, treeBy, treeAt, textTree}
 use Rattle.json_tree.specs.Faults.{fieldNamed, fieldsRepeat, fieldsSlashed, fieldsBad, faulty, itemsFaulty, fieldsFaulty}
 use Rattle.json_tree.proofs.Trees.{choose, always}

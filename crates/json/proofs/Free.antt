@@ -13,10 +13,10 @@ use Rattle.json_text.specs.Bytes.{byte, spaceAt, next}
 use Rattle.json_text.specs.declared.Read.{Read}
 use Rattle.json_text.specs.declared.Read.the-variants.{To, Bad, Deep}
 use Rattle.json_value.specs.Values.{levels}
-use Rattle.json_names.specs.Names.{faultAt}
+use Rattle.json_names.specs.Inner.Names.{faultAt}
 use Rattle.json.specs.Answer.{pairedAnswer}
 use Rattle.json.proofs.Faulted.{text-tree}
-use Rattle.json.specs.Slashes.{differ, lacksD, isD, front, NoFront, isTo}
+use Rattle.json.specs.Inner.Slashes.{differ, lacksD, isD, front, NoFront, isTo}
 use Rattle.json.specs.Surrogates.{hexValue, unitAt, isFirst, isSecond, pairAt, escapedAt, pairsAt}
 
 pub not-both : {P : Type 0} → false ≡ true → P

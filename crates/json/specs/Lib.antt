@@ -1,5 +1,3 @@
 pub mod Surrogates
 pub mod Answer
-pub mod Judged
-pub mod Slashes
 pub mod Inner

@@ -1,8 +1,8 @@
 // The answer of a text: 0, or the lowest of 1 to 4 that applies.
 ghost use mathlib.Core.Path.{_≡_};
-ghost use Rattle.json_ends.specs.Ends.{Ends};
+ghost use Rattle.json_ends.specs.Inner.Ends.{Ends};
 ghost use Rattle.json.specs.Answer.{answerOf};
-ghost use Rattle.json.specs.Judged.{Judged};
+ghost use Rattle.json.specs.Inner.Judged.{Judged};
 use crate::slashes::paired;
 use json_ends::whole::whole;
 use json_names::whole::text_fault;

@@ -4,7 +4,7 @@ ghost use mathlib.Core.Path.{_≡_};
 ghost use mathlib.Core.Bool.{true, false};
 ghost use Prim.Native.Nat.{_≤_};
 ghost use lib.ListN.{length};
-ghost use Rattle.json.specs.Slashes.{Small, differ, lacksD, front, NoFront, isTo};
+ghost use Rattle.json.specs.Inner.Slashes.{Small, differ, lacksD, front, NoFront, isTo};
 ghost use Rattle.json.specs.Surrogates.{pairsAt};
 use crate::surrogates::pairs;
 use json_text::Read;

@@ -16,7 +16,7 @@ use Rattle.json_text.specs.Words.{scalarAt}
 use Rattle.json_value.specs.Values.{valueAt, valueOf}
 use Rattle.json_value.proofs.Laws.{value-step}
 use Rattle.json_value.proofs.Levels.{more-levels}
-use Rattle.json_ends.specs.Ends.{Ends}
+use Rattle.json_ends.specs.Inner.Ends.{Ends}
 
 -- What the table says of a place holds where more levels may be opened.
 pub ends-say : (s t : List ℕ) → Ends s t → (i l e j m : ℕ) → e ≡ getD t i 0 → j ≡ e / 32 → m ≡ e % 32 → 32 ≤ e → m ≤ l → To j ≡ valueAt l s i

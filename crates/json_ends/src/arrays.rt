@@ -3,7 +3,7 @@ ghost use mathlib.Core.Path.{_≡_};
 ghost use Prim.Native.Nat.{_<_};
 ghost use lib.ListN.{length};
 ghost use Rattle.json_walk.specs.Walk.{elementAt, firstElementAt, nextElementAt};
-ghost use Rattle.json_ends.specs.Ends.{Ends};
+ghost use Rattle.json_ends.specs.Inner.Ends.{Ends};
 use crate::table::past;
 use json_text::Read;
 use json_value::Item;

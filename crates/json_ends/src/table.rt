@@ -4,7 +4,7 @@ ghost use Prim.Native.Nat.{_/_, _%_};
 ghost use lib.ListN.{getD};
 ghost use Rattle.json_text.specs.Strings.{stringAt};
 ghost use Rattle.json_value.specs.Values.{valueAt};
-ghost use Rattle.json_ends.specs.Ends.{Ends};
+ghost use Rattle.json_ends.specs.Inner.Ends.{Ends};
 use json_text::Read;
 use json_text::bytes::byte;
 use json_text::strings::string;

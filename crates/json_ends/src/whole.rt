@@ -1,8 +1,8 @@
 // The whole text: a value between white space, and nothing else. The ends of its names and values are kept on the way.
 ghost use mathlib.Core.Path.{_≡_};
 ghost use Rattle.json_value.specs.Values.{textAt};
-ghost use Rattle.json_ends.specs.Ends.{Ends};
-ghost use Rattle.json_ends.specs.Found.{Found};
+ghost use Rattle.json_ends.specs.Inner.Ends.{Ends};
+ghost use Rattle.json_ends.specs.Inner.Found.{Found};
 use crate::reading::value;
 use json_text::Read;
 use json_text::bytes::space;

@@ -9,7 +9,7 @@ use borrow.Author.Count.{below-more}
 use borrow.Author.Tests.{ne-eqb}
 use lib.ListN.{length, getD, List·getD-eq-default}
 use Rattle.json_walk.specs.Strings.{bytesAt, rawAt, slashed}
-use Rattle.json_names.specs.Slashes.{NoSlash, Clean}
+use Rattle.json_names.specs.Inner.Slashes.{NoSlash, Clean}
 
 pub clean-none : (s : List ℕ) → NoSlash s 0
 unfolding NoSlash

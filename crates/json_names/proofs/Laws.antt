@@ -7,7 +7,7 @@ use native.Mathlib.Numerals.{sub-one}
 use lib.Dec.{eqb}
 use Rattle.signed.specs.Choose.{if_then_else_}
 use Rattle.json_text.specs.Bytes.{byte}
-use Rattle.json_names.specs.Names.{faultAt, objectFault, anyElement}
+use Rattle.json_names.specs.Inner.Names.{faultAt, objectFault, anyElement}
 use Rattle.json_walk.specs.Walk.{elementsOf}
 
 -- A level is left: an object or an array opens it.

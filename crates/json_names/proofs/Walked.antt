@@ -9,8 +9,8 @@ use Rattle.json_text.specs.Bytes.{byte}
 use Rattle.json_walk.specs.Walk.{membersOf, elementsOf}
 use Rattle.json_walk.specs.Strings.{slashed}
 use Rattle.json_walk.specs.declared.Member.{Member}
-use Rattle.json_names.specs.Names.{nameOf, anySlashed, anyMember, anyElement, badNames, objectFault, faultAt, repeats}
-use Rattle.json_names.specs.Walked.{opener, anyFault}
+use Rattle.json_names.specs.Inner.Names.{nameOf, anySlashed, anyMember, anyElement, badNames, objectFault, faultAt, repeats}
+use Rattle.json_names.specs.Inner.Walked.{opener, anyFault}
 use Rattle.json_names.proofs.Sorting.{not-both}
 
 -- The order of the questions does not matter.

@@ -1,4 +1,1 @@
-pub mod Names
-pub mod Order
-pub mod Slashes
-pub mod Walked
+pub mod Inner

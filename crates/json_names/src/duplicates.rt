@@ -3,10 +3,10 @@
 // at most the bytes of the shorter, so sorting reads each byte of a name at most once a pass, 14 passes at most.
 ghost use mathlib.Core.Path.{_≡_};
 ghost use Prim.Native.Nat.{_≤_, _<_};
-ghost use Rattle.json_ends.specs.Ends.{Ends};
+ghost use Rattle.json_ends.specs.Inner.Ends.{Ends};
 ghost use lib.ListN.{length};
 ghost use Rattle.json_walk.specs.Walk.{membersOf};
-ghost use Rattle.json_names.specs.Names.{repeats};
+ghost use Rattle.json_names.specs.Inner.Names.{repeats};
 use crate::names::repeated;
 use crate::sort::arrange;
 use crate::sorted::index;

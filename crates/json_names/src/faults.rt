@@ -2,11 +2,11 @@
 // over an object's members looks at their values, and puts their names down on the way, to be sorted at its end.
 ghost use mathlib.Core.Path.{_≡_};
 ghost use Prim.Native.Nat.{_<_, _≤_};
-ghost use Rattle.json_ends.specs.Ends.{Ends};
+ghost use Rattle.json_ends.specs.Inner.Ends.{Ends};
 ghost use lib.ListN.{length};
 ghost use Rattle.json_walk.specs.Walk.{elementsOf};
-ghost use Rattle.json_names.specs.Names.{faultAt, objectFault, anyElement};
-ghost use Rattle.json_names.specs.Slashes.{Clean};
+ghost use Rattle.json_names.specs.Inner.Names.{faultAt, objectFault, anyElement};
+ghost use Rattle.json_names.specs.Inner.Slashes.{Clean};
 use crate::duplicates::repeated_from;
 use crate::keys::pack;
 use crate::opening::append;

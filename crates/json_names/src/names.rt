@@ -1,11 +1,11 @@
 // The names of one object.
 ghost use mathlib.Core.Path.{_≡_};
 ghost use Prim.Native.Nat.{_<_};
-ghost use Rattle.json_ends.specs.Ends.{Ends};
+ghost use Rattle.json_ends.specs.Inner.Ends.{Ends};
 ghost use lib.ListN.{length};
 ghost use Rattle.json_walk.specs.Walk.{membersFrom, membersOf, nextMemberAt};
 ghost use Rattle.json_walk.specs.Strings.{rawAt};
-ghost use Rattle.json_names.specs.Names.{named, repeats};
+ghost use Rattle.json_names.specs.Inner.Names.{named, repeats};
 use json_ends::objects::first_member;
 use json_ends::objects::next_member;
 use json_walk::MemberStep;

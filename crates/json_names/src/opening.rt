@@ -3,7 +3,7 @@ ghost use mathlib.Core.Path.{_≡_};
 ghost use Prim.Native.Nat.{_≤_};
 ghost use lib.ListN.{length};
 ghost use Rattle.json_text.specs.Bytes.{byte};
-ghost use Rattle.json_names.specs.Walked.{opener};
+ghost use Rattle.json_names.specs.Inner.Walked.{opener};
 use json_text::bytes::byte;
 
 // Does an object or an array begin at a place?

@@ -2,7 +2,7 @@
 // that the machine looks at many bytes at once.
 ghost use mathlib.Core.Path.{_≡_};
 ghost use Rattle.json_walk.specs.Strings.{rawAt, slashed};
-ghost use Rattle.json_names.specs.Slashes.{Clean};
+ghost use Rattle.json_names.specs.Inner.Slashes.{Clean};
 use json_walk::strings::has_backslash;
 
 // 0 as long as no byte was a backslash.

@@ -3,11 +3,11 @@
 ghost use mathlib.Core.Path.{_≡_};
 ghost use mathlib.Core.Bool.{true};
 ghost use Prim.Native.Nat.{_-_, _<_};
-ghost use Rattle.json_ends.specs.Ends.{Ends};
+ghost use Rattle.json_ends.specs.Inner.Ends.{Ends};
 ghost use lib.ListN.{length, getD};
 ghost use Rattle.json_walk.specs.Walk.{membersOf};
-ghost use Rattle.json_names.specs.Names.{repeats};
-ghost use Rattle.json_names.specs.Order.{Covered, Rising};
+ghost use Rattle.json_names.specs.Inner.Names.{repeats};
+ghost use Rattle.json_names.specs.Inner.Order.{Covered, Rising};
 use crate::names::among;
 use crate::names::repeated;
 use crate::order::entry_before;

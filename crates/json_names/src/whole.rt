@@ -2,10 +2,10 @@
 ghost use mathlib.Core.Path.{_≡_};
 ghost use Prim.Native.Nat.{_≤_};
 ghost use lib.ListN.{length};
-ghost use Rattle.json_ends.specs.Ends.{Ends};
+ghost use Rattle.json_ends.specs.Inner.Ends.{Ends};
 ghost use Rattle.json_text.specs.Bytes.{spaceAt};
 ghost use Rattle.json_value.specs.Values.{levels};
-ghost use Rattle.json_names.specs.Names.{faultAt};
+ghost use Rattle.json_names.specs.Inner.Names.{faultAt};
 use crate::faults::fault;
 use crate::slashes::slash_free;
 use json_text::bytes::space;

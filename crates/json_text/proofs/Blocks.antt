@@ -7,7 +7,7 @@ use native.Mathlib.Omega.{arith}
 use borrow.Author.Count.{below-more}
 use borrow.Author.Tests.{ne-eqb, le-ltb, lt-ltb}
 use lib.ListN.{length, getD}
-use Rattle.json_text.specs.Plain.{isPlain, plainAt, PlainRun}
+use Rattle.json_text.specs.Inner.Plain.{isPlain, plainAt, PlainRun}
 use Rattle.json_text.proofs.Skip.{plain-more}
 
 pub is-plain : (b : ℕ) → (b ≡ 0x22 → ⊥) → (b ≡ 0x5C → ⊥) → 0x20 ≤ b → b < 0x80 → isPlain b ≡ true

@@ -9,7 +9,7 @@ use lib.ListN.{length, getD, drop}
 use lib.Dec.{eqb, ltb}
 use Rattle.signed.specs.Choose.{if_then_else_}
 use Rattle.json_text.specs.Bytes.{next, run, past}
-use Rattle.json_text.specs.Plain.{isPlain, plainAt}
+use Rattle.json_text.specs.Inner.Plain.{isPlain, plainAt}
 use Rattle.json_text.specs.Strings.{charAt, charsAt}
 use Rattle.json_text.specs.declared.Read.{Read}
 use Rattle.json_text.specs.declared.Read.the-variants.{To, Bad}

@@ -4,5 +4,4 @@ pub mod Utf8
 pub mod Strings
 pub mod Numbers
 pub mod Words
-pub mod Plain
 pub mod Inner

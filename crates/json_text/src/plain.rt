@@ -5,7 +5,7 @@ ghost use mathlib.Core.Bool.{true};
 ghost use mathlib.Core.Path.{_≡_};
 ghost use Prim.Native.Nat.{_+_, _≤_};
 ghost use lib.ListN.{length};
-ghost use Rattle.json_text.specs.Plain.{isPlain, plainAt, PlainRun};
+ghost use Rattle.json_text.specs.Inner.Plain.{isPlain, plainAt, PlainRun};
 use crate::bytes::byte;
 
 // No quotation mark, no backslash, no control byte, and no part of a char of several bytes.

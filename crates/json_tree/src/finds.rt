@@ -2,7 +2,7 @@
 ghost use mathlib.Core.Path.{_≡_};
 ghost use Prim.Native.Nat.{_<_};
 ghost use lib.ListN.{length};
-ghost use Rattle.json_ends.specs.Ends.{Ends};
+ghost use Rattle.json_ends.specs.Inner.Ends.{Ends};
 ghost use Rattle.json_walk.specs.Walk.{membersOf};
 ghost use Rattle.json_tree.specs.Inner.Members.{findIn};
 use crate::Found;

@@ -9,9 +9,9 @@ use lib.ListN.{length, take, drop, getD, set, length-set, length-map, List·getD
 use lib.Seq.{take-suc, take-suc-set, take-set-le, take-length, getD-set-other}
 use Rattle.signed.specs.Choose.{if_then_else_}
 use Rattle.rule.proofs.Bools.{by}
-use Rattle.window.specs.Lists.{listIn}
+use Rattle.window.specs.Inner.Lists.{listIn}
 use Rattle.window.proofs.ListLaws.{list-split}
-use Rattle.listing.specs.Lists.{hitOn, Listed, Collected, Copied}
+use Rattle.listing.specs.Inner.Lists.{hitOn, Listed, Collected, Copied}
 
 -- ---- one more day of a list
 

@@ -10,12 +10,12 @@ use lib.Seq.{take-suc-set}
 use borrow.Author.Tests.{eq-eqb, ne-eqb}
 use Rattle.signed.specs.Choose.{if_then_else_}
 use Rattle.track.specs.declared.Track.{Track}
-use Rattle.track.specs.Runs.{hasDay, EarlierOf}
+use Rattle.track.specs.Inner.Runs.{hasDay, EarlierOf}
 use Rattle.track.proofs.PlainLaws.{has-early, has-over, has-picked}
-use Rattle.matcher.specs.Walk.{picksOnBy}
-use Rattle.window.specs.Lists.{listIn}
+use Rattle.matcher.specs.Inner.Walk.{picksOnBy}
+use Rattle.window.specs.Inner.Lists.{listIn}
 use Rattle.window.proofs.ListLaws.{list-split, list-same, list-nothing, list-first}
-use Rattle.listing.specs.Lists.{Listed, Tried, Listing, startOr}
+use Rattle.listing.specs.Inner.Lists.{Listed, Tried, Listing, startOr}
 
 -- ---- the loop: the days so far stand in the list
 

@@ -9,13 +9,13 @@ use lib.ListN.{length, take, drop, getD, set, length-set, length-append, length-
 use lib.Seq.{length-take-le, getD-take, getD-drop, getD-append-add, getD-set-same, getD-set-other}
 use borrow.Author.Tests.{ltb-true, ltb-false}
 use Rattle.rule.proofs.Bools.{by}
-use Rattle.window.specs.Lists.{listIn}
+use Rattle.window.specs.Inner.Lists.{listIn}
 use Rattle.rule.proofs.Counting.{count-most}
 use Rattle.window.proofs.ListLaws.{list-same, list-length}
-use Rattle.months.specs.Kinds.{Kind, picksIn}
-use Rattle.months.specs.Rows.{rowOf, Kept, KeptAt}
-use Rattle.listing.specs.Lists.{hitOn, Listed, Collected}
-use Rattle.listing.specs.Kinds.{kindDays, Held, KeptLists, ListAt, Wrote}
+use Rattle.months.specs.Inner.Kinds.{Kind, picksIn}
+use Rattle.months.specs.Inner.Rows.{rowOf, Kept, KeptAt}
+use Rattle.listing.specs.Inner.Lists.{hitOn, Listed, Collected}
+use Rattle.listing.specs.Inner.Kinds.{kindDays, Held, KeptLists, ListAt, Wrote}
 
 -- ---- a piece of a list
 

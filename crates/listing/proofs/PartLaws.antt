@@ -13,22 +13,22 @@ use Rattle.rule.specs.Day.{dayAt}
 use Rattle.rule.specs.Gives.{endDay}
 use Rattle.rule.specs.Inner.Bounds.{InCalendar}
 use Rattle.matcher.specs.declared.Terms.{Terms}
-use Rattle.matcher.specs.Flags.{monthBy}
-use Rattle.matcher.specs.Walk.{Asked, stepBy, picksOnBy}
+use Rattle.matcher.specs.Inner.Flags.{monthBy}
+use Rattle.matcher.specs.Inner.Walk.{Asked, stepBy, picksOnBy}
 use Rattle.matcher.proofs.WalkLaws.{in-calendar}
-use Rattle.months.specs.Kinds.{Kind, picksIn}
-use Rattle.months.specs.Rows.{Kept, KeptAt}
+use Rattle.months.specs.Inner.Kinds.{Kind, picksIn}
+use Rattle.months.specs.Inner.Rows.{Kept, KeptAt}
 use Rattle.months.proofs.RowLaws.{kept-none}
-use Rattle.track.specs.Skips.{toMonthEnd}
-use Rattle.track.specs.Alike.{firstWeekday}
-use Rattle.track.specs.Plain.{InMonth}
+use Rattle.track.specs.Inner.Skips.{toMonthEnd}
+use Rattle.track.specs.Inner.Alike.{firstWeekday}
+use Rattle.track.specs.Inner.Plain.{InMonth}
 use Rattle.track.proofs.LeapLaws.{firstOf, month-not-early}
 use Rattle.track.proofs.AlikeLaws.{month-kind, picks-kind, unset-none, out-none}
-use Rattle.window.specs.Lists.{listIn}
+use Rattle.window.specs.Inner.Lists.{listIn}
 use Rattle.window.proofs.ListLaws.{list-same, list-nothing}
-use Rattle.listing.specs.Lists.{hitOn, Listed, Collected, Offsets, Copied}
-use Rattle.listing.specs.Kinds.{kindDays, Held, ListAt}
-use Rattle.listing.specs.Parts.{ByMonths, Chosen, Kinds, Room, ListedPart}
+use Rattle.listing.specs.Inner.Lists.{hitOn, Listed, Collected, Offsets, Copied}
+use Rattle.listing.specs.Inner.Kinds.{kindDays, Held, ListAt}
+use Rattle.listing.specs.Inner.Parts.{ByMonths, Chosen, Kinds, Room, ListedPart}
 use Rattle.listing.proofs.KindLaws.{kind-few, piece-size, piece-at, lists-none}
 
 -- ---- lists from another day on

@@ -11,16 +11,16 @@ use Rattle.signed.specs.Choose.{if_then_else_}
 use Rattle.rule.specs.Gives.{onDay}
 use Rattle.rule.proofs.Bools.{by}
 use Rattle.track.specs.declared.Track.{Track}
-use Rattle.track.specs.Runs.{hasDay}
+use Rattle.track.specs.Inner.Runs.{hasDay}
 use Rattle.dates.specs.declared.Tracks.{Tracks}
-use Rattle.dates.specs.Tracked.{someHas, tracksOf}
-use Rattle.dates.specs.Overrides.{isNamed}
-use Rattle.dates.specs.Loaded.{loaded, byRules, isIn}
-use Rattle.window.specs.Next.{dayFrom}
-use Rattle.window.specs.Lists.{listIn}
+use Rattle.dates.specs.Inner.Tracked.{someHas, tracksOf}
+use Rattle.dates.specs.Inner.Overrides.{isNamed}
+use Rattle.dates.specs.Inner.Loaded.{loaded, byRules, isIn}
+use Rattle.window.specs.Inner.Next.{dayFrom}
+use Rattle.window.specs.Inner.Lists.{listIn}
 use Rattle.window.proofs.HitLaws.{FromDay, from-day}
 use Rattle.window.proofs.ListLaws.{list-split, list-nothing}
-use Rattle.listing.specs.Lists.{startOr}
+use Rattle.listing.specs.Inner.Lists.{startOr}
 
 -- ---- seconds by their days
 

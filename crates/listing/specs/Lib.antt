@@ -1,3 +1,1 @@
-pub mod Lists
-pub mod Kinds
-pub mod Parts
+pub mod Inner

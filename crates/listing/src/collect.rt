@@ -5,7 +5,7 @@ ghost use Prim.Native.Nat.{ℕ, _+_, _<_, _≤_};
 ghost use lib.ListN.{length, take, getD};
 ghost use Rattle.signed.specs.Choose.{if_then_else_};
 ghost use Rattle.rule.specs.Gives.{endDay};
-ghost use Rattle.listing.specs.Lists.{Collected, Copied, Offsets};
+ghost use Rattle.listing.specs.Inner.Lists.{Collected, Copied, Offsets};
 
 fn one_more(n: usize, yes: bool) -> usize
     requires { ⌜ n < 4294967296 ⌝ }

@@ -2,10 +2,10 @@
 ghost use mathlib.Core.Path.{_≡_};
 ghost use Prim.Native.Nat.{_<_, _≤_};
 ghost use lib.ListN.{length};
-ghost use Rattle.matcher.specs.Walk.{picksOnBy};
-ghost use Rattle.track.specs.Runs.{Run};
-ghost use Rattle.listing.specs.Lists.{Tried};
-ghost use Rattle.listing.specs.Parts.{ByMonths};
+ghost use Rattle.matcher.specs.Inner.Walk.{picksOnBy};
+ghost use Rattle.track.specs.Inner.Runs.{Run};
+ghost use Rattle.listing.specs.Inner.Lists.{Tried};
+ghost use Rattle.listing.specs.Inner.Parts.{ByMonths};
 use crate::parts::list_part;
 use matcher::Terms;
 

@@ -2,10 +2,10 @@
 ghost use mathlib.Core.Path.{_≡_};
 ghost use Prim.Native.Nat.{_+_, _≤_};
 ghost use lib.ListN.{length};
-ghost use Rattle.matcher.specs.Flags.{Row};
-ghost use Rattle.months.specs.Kinds.{Kind};
-ghost use Rattle.months.specs.Rows.{Kept};
-ghost use Rattle.listing.specs.Kinds.{KeptLists, ListAt, Wrote};
+ghost use Rattle.matcher.specs.Inner.Flags.{Row};
+ghost use Rattle.months.specs.Inner.Kinds.{Kind};
+ghost use Rattle.months.specs.Inner.Rows.{Kept};
+ghost use Rattle.listing.specs.Inner.Kinds.{KeptLists, ListAt, Wrote};
 use crate::collect::collect;
 use months::kinds::keep;
 use months::kinds::row_of;

@@ -1,14 +1,14 @@
 // The days of a rule in a part of a month, listed.
 ghost use mathlib.Core.Path.{_≡_};
 ghost use lib.ListN.{length};
-ghost use Rattle.matcher.specs.Walk.{Asked};
-ghost use Rattle.months.specs.Rows.{Kept};
-ghost use Rattle.track.specs.Alike.{firstWeekday};
-ghost use Rattle.track.specs.Plain.{InMonth};
+ghost use Rattle.matcher.specs.Inner.Walk.{Asked};
+ghost use Rattle.months.specs.Inner.Rows.{Kept};
+ghost use Rattle.track.specs.Inner.Alike.{firstWeekday};
+ghost use Rattle.track.specs.Inner.Plain.{InMonth};
 ghost use Rattle.rule.specs.Inner.Bounds.{InCalendar};
-ghost use Rattle.matcher.specs.Walk.{picksOnBy};
-ghost use Rattle.listing.specs.Lists.{Listed};
-ghost use Rattle.listing.specs.Parts.{ByMonths, Chosen, Kinds, Room, ListedPart};
+ghost use Rattle.matcher.specs.Inner.Walk.{picksOnBy};
+ghost use Rattle.listing.specs.Inner.Lists.{Listed};
+ghost use Rattle.listing.specs.Inner.Parts.{ByMonths, Chosen, Kinds, Room, ListedPart};
 use crate::collect::collect;
 use crate::collect::copy_from;
 use crate::kinds::keep_list;

@@ -10,18 +10,18 @@ use lib.Seq.{take-suc, take-all, length-take-le, length-sets}
 use Rattle.json_tree.specs.Tree.{treeAt}
 use Rattle.rule.specs.declared.Rule.{Rule}
 use Rattle.rule.specs.Written.{RecurrenceRule}
-use Rattle.rule.specs.Read.{written, Sized}
+use Rattle.rule.specs.Inner.Read.{written, Sized}
 use Rattle.event.specs.Rules.{readRule, readRules}
-use Rattle.rule_text.specs.Parts.{RuleRead}
-use Rattle.rule_text.specs.Places.{Places, placesAt}
+use Rattle.rule_text.specs.Inner.Parts.{RuleRead}
+use Rattle.rule_text.specs.Inner.Places.{Places, placesAt}
 use Rattle.rule_text.proofs.PlaceLaws.{rules-are, rules-few, rules-each, all-at, places-stored}
 use Rattle.track.specs.declared.Track.{Track}
 use Rattle.dates.specs.declared.Tracks.{Tracks}
-use Rattle.dates.specs.Load.{put, Loading, Added}
-use Rattle.dates.specs.Tracked.{tracksOf, Tracked}
-use Rattle.dates.specs.Stands.{Settles}
+use Rattle.dates.specs.Inner.Load.{put, Loading, Added}
+use Rattle.dates.specs.Inner.Tracked.{tracksOf, Tracked}
+use Rattle.dates.specs.Inner.Stands.{Settles}
 use Rattle.dates.proofs.LoadLaws.{loaded-settles, loaded-tracked, none-tracked, none-settles}
-use Rattle.loading.specs.Rules.{Season, Faultless, rulesAt, SettledRules}
+use Rattle.loading.specs.Inner.Rules.{Season, Faultless, rulesAt, SettledRules}
 
 pub record LoadedTo (excluded : Bool) (start limit : ℕ) (s places : List ℕ) (ts : Tracks) (flags : List Bool) (i : ℕ) : Type 0 where
   pub within : i ≤ length places

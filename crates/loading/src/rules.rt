@@ -2,10 +2,10 @@
 ghost use mathlib.Core.Path.{_≡_};
 ghost use Prim.Native.Nat.{_≤_};
 ghost use lib.ListN.{length};
-ghost use Rattle.json_ends.specs.Ends.{Ends};
+ghost use Rattle.json_ends.specs.Inner.Ends.{Ends};
 ghost use Rattle.json_tree.specs.Tree.{treeAt};
 ghost use Rattle.event.specs.Rules.{readRules};
-ghost use Rattle.loading.specs.Rules.{Season, Faultless, rulesAt, SettledRules};
+ghost use Rattle.loading.specs.Inner.Rules.{Season, Faultless, rulesAt, SettledRules};
 use dates::Tracks;
 use dates::load::load;
 use dates::load::no_tracks;

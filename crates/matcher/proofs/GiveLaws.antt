@@ -13,12 +13,12 @@ use Rattle.rule.specs.Day.{dayAt}
 use Rattle.rule.specs.Written.{RecurrenceRule}
 use Rattle.rule.specs.Lists.{notAfter}
 use Rattle.rule.specs.Gives.{endDay, onDay, picks, falls, gives}
-use Rattle.rule.specs.Read.{untilFrom, written}
+use Rattle.rule.specs.Inner.Read.{untilFrom, written}
 use Rattle.rule.proofs.PeriodLaws.{day-number}
 use Rattle.matcher.specs.declared.Terms.{Terms}
-use Rattle.matcher.specs.Rows.{Termed}
-use Rattle.matcher.specs.Walk.{picksBy, picksOnBy}
-use Rattle.matcher.specs.Member.{isFirst, fallsBy, fallsOnBy}
+use Rattle.matcher.specs.Inner.Rows.{Termed}
+use Rattle.matcher.specs.Inner.Walk.{picksBy, picksOnBy}
+use Rattle.matcher.specs.Inner.Member.{isFirst, fallsBy, fallsOnBy}
 use Rattle.matcher.proofs.RowLaws.{Marked}
 use Rattle.matcher.proofs.PickLaws.{picks-same}
 

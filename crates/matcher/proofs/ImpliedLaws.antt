@@ -17,8 +17,8 @@ use Rattle.rule.specs.declared.Rule.{Rule}
 use Rattle.rule.specs.Written.{NDay, RecurrenceRule}
 use Rattle.rule.specs.Lists.{absent, orElse}
 use Rattle.rule.specs.Implied.{impliedDay, impliedMonthDay, impliedMonth, daysFrom, monthDaysFrom, monthsFrom}
-use Rattle.rule.specs.Read.{ndays, nthFrom, written, Sized}
-use Rattle.matcher.specs.Rows.{impliesDay, impliesDate, impliesMonth}
+use Rattle.rule.specs.Inner.Read.{ndays, nthFrom, written, Sized}
+use Rattle.matcher.specs.Inner.Rows.{impliesDay, impliesDate, impliesMonth}
 
 absent-take : {A : Type 0} (n : ℕ) (l : List A) → n ≤ length l → absent (take n l) ≡ eqb n 0
 unfolding absent

@@ -13,9 +13,9 @@ use Rattle.signed.specs.Parts.{posPart, negPart}
 use Rattle.rule.specs.declared.Day.{Day}
 use Rattle.rule.specs.declared.Rule.{Rule}
 use Rattle.rule.specs.Implied.{daysFrom, monthDaysFrom, monthsFrom}
-use Rattle.rule.specs.Read.{ndays, written, Sized}
-use Rattle.matcher.specs.Rows.{impliesDay, impliesDate, impliesMonth}
-use Rattle.matcher.specs.Marks.{markOne, markEach, markPlace, markPlaces, markNth, markDays, markAll, markMonths, markDates, markWeekdays, markRow}
+use Rattle.rule.specs.Inner.Read.{ndays, written, Sized}
+use Rattle.matcher.specs.Inner.Rows.{impliesDay, impliesDate, impliesMonth}
+use Rattle.matcher.specs.Inner.Marks.{markOne, markEach, markPlace, markPlaces, markNth, markDays, markAll, markMonths, markDates, markWeekdays, markRow}
 use Rattle.matcher.proofs.ImpliedLaws.{months-written, months-implied, dates-written, dates-implied, days-written, days-implied}
 
 months-list : (fl : List Bool) (n : ℕ) (l : List ℕ) → 0 < n → n ≤ length l → markMonths fl (take n l) ≡ markEach fl 0 13 (take n l)

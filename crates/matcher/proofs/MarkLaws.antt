@@ -15,11 +15,11 @@ use Rattle.signed.specs.Choose.{if_then_else_}
 use Rattle.signed.specs.Parts.{posPart, negPart}
 use Rattle.signed.specs.Place.{placeOf}
 use Rattle.rule.specs.Written.{NDay}
-use Rattle.rule.specs.Read.{nthFrom, ndays}
+use Rattle.rule.specs.Inner.Read.{nthFrom, ndays}
 use Rattle.rule.specs.Lists.{any, meets}
 use Rattle.rule.proofs.Bools.{by, or-left, or-right, both, left, right, same-tests}
-use Rattle.matcher.specs.Flags.{named}
-use Rattle.matcher.specs.Marks.{markOne, markEach, markPlace, markPlaces, markNth, markDays, markAll}
+use Rattle.matcher.specs.Inner.Flags.{named}
+use Rattle.matcher.specs.Inner.Marks.{markOne, markEach, markPlace, markPlaces, markNth, markDays, markAll}
 
 -- ---- one flag
 

@@ -24,9 +24,9 @@ use Rattle.rule.proofs.Counting.{count-same}
 use Rattle.rule.proofs.DayLaws.{day-facts}
 use Rattle.rule.proofs.PeriodLaws.{day-number}
 use Rattle.matcher.specs.declared.Terms.{Terms}
-use Rattle.matcher.specs.Flags.{Places, named, staysBy}
-use Rattle.matcher.specs.Rows.{Termed}
-use Rattle.matcher.specs.Walk.{Asked, staysOnBy, stepBy, placedBy, picksBy, picksOnBy}
+use Rattle.matcher.specs.Inner.Flags.{Places, named, staysBy}
+use Rattle.matcher.specs.Inner.Rows.{Termed}
+use Rattle.matcher.specs.Inner.Walk.{Asked, staysOnBy, stepBy, placedBy, picksBy, picksOnBy}
 use Rattle.matcher.proofs.RowLaws.{Marked, stays-same}
 use Rattle.matcher.proofs.WalkLaws.{before, whole, known, asked-day, asked-before, asked-early, asked-within, asked-places}
 

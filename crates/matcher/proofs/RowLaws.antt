@@ -18,8 +18,8 @@ use Rattle.rule.specs.Lists.{any, meets}
 use Rattle.rule.specs.Implied.{daysFrom, monthDaysFrom, monthsFrom}
 use Rattle.rule.specs.Stays.{countsInYear, isNth, meetsNth, meetsDay, meetsMonthDay, meetsMonth, stays, isPlace}
 use Rattle.rule.specs.Inner.Bounds.{InCalendar}
-use Rattle.matcher.specs.Flags.{named, nthBy, monthBy, dateBy, dayBy, staysBy}
-use Rattle.matcher.specs.Marks.{markEach, markPlaces, markDays, markAll, markMonths, markDates, markWeekdays, markRow}
+use Rattle.matcher.specs.Inner.Flags.{named, nthBy, monthBy, dateBy, dayBy, staysBy}
+use Rattle.matcher.specs.Inner.Marks.{markEach, markPlaces, markDays, markAll, markMonths, markDates, markWeekdays, markRow}
 use Rattle.matcher.proofs.MarkLaws.{any-same, any-never, or-none, hits, hits-in, hits-below, hits-above, hitsPlace, each-length, each-flag, places-length, places-flag, all-length, all-other, all-flag, all-below, named-places}
 use Rattle.matcher.proofs.WeekdayLaws.{nthIs, days-length, days-outside, weekday-named}
 

@@ -12,10 +12,10 @@ use Rattle.rule.specs.declared.Rule.{Rule}
 use Rattle.rule.specs.Lists.{absent}
 use Rattle.rule.specs.Period.{periodOf}
 use Rattle.rule.specs.Stays.{countsInYear}
-use Rattle.rule.specs.Read.{written, Sized}
+use Rattle.rule.specs.Inner.Read.{written, Sized}
 use Rattle.rule.proofs.Bools.{by}
 use Rattle.matcher.specs.declared.Terms.{Terms}
-use Rattle.matcher.specs.Rows.{yearly, Termed}
+use Rattle.matcher.specs.Inner.Rows.{yearly, Termed}
 use Rattle.matcher.proofs.ImpliedLaws.{no-months, no-positions}
 
 module _ (r : Rule) (s : Day) (z : Sized r) where

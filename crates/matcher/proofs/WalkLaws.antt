@@ -20,8 +20,8 @@ use Rattle.rule.proofs.Counting.{count-more, count-less, count-none, count-most
 use Rattle.rule.proofs.DayLaws.{day-facts, of-day}
 use Rattle.rule.proofs.PeriodLaws.{day-number, since-in, days-most, period-within}
 use Rattle.matcher.specs.declared.Terms.{Terms}
-use Rattle.matcher.specs.Flags.{Places, named, staysBy}
-use Rattle.matcher.specs.Walk.{Asked, staysOnBy, stepBy, placedBy, picksBy, picksOnBy}
+use Rattle.matcher.specs.Inner.Flags.{Places, named, staysBy}
+use Rattle.matcher.specs.Inner.Walk.{Asked, staysOnBy, stepBy, placedBy, picksBy, picksOnBy}
 
 -- ---- the interval
 

@@ -16,8 +16,8 @@ use Rattle.signed.specs.Place.{placeOf}
 use Rattle.rule.specs.Written.{NDay}
 use Rattle.rule.specs.Lists.{any}
 use Rattle.rule.proofs.Bools.{by, both, left, right, same-tests}
-use Rattle.matcher.specs.Flags.{named}
-use Rattle.matcher.specs.Marks.{markOne, markPlace, markNth, markDays}
+use Rattle.matcher.specs.Inner.Flags.{named}
+use Rattle.matcher.specs.Inner.Marks.{markOne, markPlace, markNth, markDays}
 use Rattle.matcher.proofs.MarkLaws.{mark-length, mark-flag, place-length, place-flag, hits, hits-in, hits-below, hits-above, hitsPlace, any-same, any-never, any-or, or-none, or-regroup, named-or, place-tests}
 
 abbrev hitsNth : ℕ → Option ℤ → ℕ → Bool

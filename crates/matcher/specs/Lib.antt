@@ -1,5 +1,1 @@
-pub mod Flags
-pub mod Walk
-pub mod Marks
-pub mod Rows
-pub mod Member
+pub mod Inner

@@ -2,7 +2,7 @@
 ghost use mathlib.Core.Path.{_≡_};
 ghost use Prim.Native.Nat.{_+_, _-_, _<_, _≤_};
 ghost use lib.ListN.{length};
-ghost use Rattle.matcher.specs.Flags.{Row, Places, named, nthBy, monthBy, dateBy, dayBy, staysBy};
+ghost use Rattle.matcher.specs.Inner.Flags.{Row, Places, named, nthBy, monthBy, dateBy, dayBy, staysBy};
 ghost use Rattle.rule.specs.Inner.Bounds.{InCalendar};
 use rule::Day;
 

@@ -1,4 +1,4 @@
-// One rule, asked day by day. A rule's by-lists are marked once in a row of flags, so that a day asks a few of them; specs/Flags.antt
+// One rule, asked day by day. A rule's by-lists are marked once in a row of flags, so that a day asks a few of them; specs/Inner/Flags.antt
 // says what each flag is for, and proofs/ that they say what the lists say.
 use rule::Frequency;
 

@@ -3,8 +3,8 @@ ghost use mathlib.Core.Option.{some};
 ghost use mathlib.Core.Path.{_≡_};
 ghost use Prim.Native.Nat.{_+_, _*_, _<_, _≤_};
 ghost use lib.ListN.{length};
-ghost use Rattle.rule.specs.Read.{ndays, nthFrom};
-ghost use Rattle.matcher.specs.Marks.{markOne, markEach, markPlace, markPlaces, markNth, markDays, markAll};
+ghost use Rattle.rule.specs.Inner.Read.{ndays, nthFrom};
+ghost use Rattle.matcher.specs.Inner.Marks.{markOne, markEach, markPlace, markPlaces, markNth, markDays, markAll};
 
 // Flag i of the `limit` flags from `at` on; a number beyond them names nothing.
 pub(crate) fn mark(flags: &mut [bool], at: usize, limit: usize, i: u64)

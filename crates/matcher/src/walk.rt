@@ -6,8 +6,8 @@ ghost use Rattle.gregorian.specs.Days.{dayCount};
 ghost use Rattle.rule.specs.Day.{dayAt};
 ghost use Rattle.rule.specs.Lists.{countIn};
 ghost use Rattle.rule.specs.Inner.Bounds.{InCalendar};
-ghost use Rattle.matcher.specs.Flags.{Row};
-ghost use Rattle.matcher.specs.Walk.{staysOnBy, stepBy};
+ghost use Rattle.matcher.specs.Inner.Flags.{Row};
+ghost use Rattle.matcher.specs.Inner.Walk.{staysOnBy, stepBy};
 use super::Terms;
 use rule::Day;
 

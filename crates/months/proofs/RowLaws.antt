@@ -12,10 +12,10 @@ use Rattle.signed.specs.Choose.{if_then_else_}
 use Rattle.rule.specs.Lists.{countIn}
 use Rattle.rule.proofs.Bools.{by}
 use Rattle.rule.proofs.Counting.{count-split, count-most, count-place, count-same}
-use Rattle.matcher.specs.Flags.{Places, named}
-use Rattle.months.specs.Kinds.{Kind, staysIn, chosenIn, picksIn}
-use Rattle.months.specs.Week.{Week, Prepared}
-use Rattle.months.specs.Rows.{answerAt, Wrote, rowOf, Kept, KeptAt}
+use Rattle.matcher.specs.Inner.Flags.{Places, named}
+use Rattle.months.specs.Inner.Kinds.{Kind, staysIn, chosenIn, picksIn}
+use Rattle.months.specs.Inner.Week.{Week, Prepared}
+use Rattle.months.specs.Inner.Rows.{answerAt, Wrote, rowOf, Kept, KeptAt}
 
 -- ---- writing
 

@@ -10,10 +10,10 @@ use Rattle.signed.specs.Choose.{if_then_else_}
 use Rattle.rule.specs.Lists.{countIn}
 use Rattle.rule.proofs.Bools.{by}
 use Rattle.rule.proofs.Counting.{count-place}
-use Rattle.matcher.specs.Flags.{named, nthBy}
-use Rattle.months.specs.Kinds.{staysIn}
-use Rattle.months.specs.Week.{weekAt, NoPlaces, Week, Prepared}
-use Rattle.months.specs.Rows.{answerAt, Wrote, Writing}
+use Rattle.matcher.specs.Inner.Flags.{named, nthBy}
+use Rattle.months.specs.Inner.Kinds.{staysIn}
+use Rattle.months.specs.Inner.Week.{weekAt, NoPlaces, Week, Prepared}
+use Rattle.months.specs.Inner.Rows.{answerAt, Wrote, Writing}
 
 -- ---- no weekday is asked for by its place
 

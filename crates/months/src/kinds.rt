@@ -1,9 +1,9 @@
 // The rows of the kinds of months that a run has met: months alike are asked once.
 ghost use mathlib.Core.Path.{_≡_};
 ghost use lib.ListN.{length};
-ghost use Rattle.matcher.specs.Flags.{Row};
-ghost use Rattle.months.specs.Kinds.{Kind};
-ghost use Rattle.months.specs.Rows.{rowOf, Kept, KeptAt};
+ghost use Rattle.matcher.specs.Inner.Flags.{Row};
+ghost use Rattle.months.specs.Inner.Kinds.{Kind};
+ghost use Rattle.months.specs.Inner.Rows.{rowOf, Kept, KeptAt};
 
 pub fn row_of(weekday: u32, days: u32) -> usize
     requires { ⌜ Kind weekday days ⌝ }

@@ -5,10 +5,10 @@ ghost use Prim.Native.Nat.{_+_, _<_, _≤_};
 ghost use lib.ListN.{length};
 ghost use Rattle.signed.specs.Choose.{if_then_else_};
 ghost use Rattle.rule.specs.Lists.{countIn};
-ghost use Rattle.matcher.specs.Flags.{Row, Places, named};
-ghost use Rattle.months.specs.Kinds.{Kind, staysIn, chosenIn, picksIn};
-ghost use Rattle.months.specs.Rows.{answerAt, Wrote, Writing};
-ghost use Rattle.months.specs.Week.{NoPlaces};
+ghost use Rattle.matcher.specs.Inner.Flags.{Row, Places, named};
+ghost use Rattle.months.specs.Inner.Kinds.{Kind, staysIn, chosenIn, picksIn};
+ghost use Rattle.months.specs.Inner.Rows.{answerAt, Wrote, Writing};
+ghost use Rattle.months.specs.Inner.Week.{NoPlaces};
 
 // Day k, from 0, of a month with that many days and with its first on that weekday.
 fn stays_in(flags: &[bool], weekday: u32, days: u32, k: u32) -> bool

@@ -2,9 +2,9 @@
 ghost use mathlib.Core.Bool.{true, false};
 ghost use mathlib.Core.Path.{_≡_};
 ghost use lib.ListN.{length, getD};
-ghost use Rattle.matcher.specs.Flags.{Row};
-ghost use Rattle.months.specs.Rows.{Wrote};
-ghost use Rattle.months.specs.Week.{weekAt, NoPlaces, Week, Prepared};
+ghost use Rattle.matcher.specs.Inner.Flags.{Row};
+ghost use Rattle.months.specs.Inner.Rows.{Wrote};
+ghost use Rattle.months.specs.Inner.Week.{weekAt, NoPlaces, Week, Prepared};
 
 fn write_week(flags: &[bool], rows: &mut [bool])
     requires { ⌜ Row (length (now flags)) × (length (now rows) ≡ 960) ⌝ }

@@ -26,10 +26,10 @@ use Rattle.event.specs.Types.{Details, Override}
 use Rattle.event.specs.Reading.{Reading, wrong, limited, atMost}
 use Rattle.event.specs.Properties.{dateTime}
 use Rattle.event.specs.Overrides.{overrideOf, overridesIn, readOverrides}
-use Rattle.property.specs.Words.{wordAt}
-use Rattle.override_text.specs.Patched.{patchAt}
-use Rattle.override_text.specs.Entries.{entriesIn}
-use Rattle.override_text.specs.Names.{lowest}
+use Rattle.property.specs.Inner.Words.{wordAt}
+use Rattle.override_text.specs.Inner.Patched.{patchAt}
+use Rattle.override_text.specs.Inner.Entries.{entriesIn}
+use Rattle.override_text.specs.Inner.Names.{lowest}
 use Rattle.override_text.proofs.PatchLaws.{at-object, at-other}
 use Rattle.override_text.proofs.WalkLaws.{members-next, Left, left-start, left-next, left-end, left-out}
 

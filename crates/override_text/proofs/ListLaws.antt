@@ -23,10 +23,10 @@ use Rattle.event.specs.Values.{object}
 use Rattle.event.specs.Reading.{Reading, orWrong, limited}
 use Rattle.event.specs.Properties.{dateTime}
 use Rattle.event.specs.Overrides.{overrideOf, overridesIn, patchIn, readOverrides}
-use Rattle.property.specs.Words.{wordAt}
-use Rattle.override_text.specs.Entries.{entriesIn}
-use Rattle.override_text.specs.Lists.{Filled, placesOf, placesAt}
-use Rattle.override_text.specs.Patched.{patchAt}
+use Rattle.property.specs.Inner.Words.{wordAt}
+use Rattle.override_text.specs.Inner.Entries.{entriesIn}
+use Rattle.override_text.specs.Inner.Lists.{Filled, placesOf, placesAt}
+use Rattle.override_text.specs.Inner.Patched.{patchAt}
 use Rattle.override_text.proofs.EntryLaws.{Named, named-first, named-next, entries-many, overrides-yes, overrides-no}
 use Rattle.override_text.proofs.WalkLaws.{members-next}
 

@@ -18,7 +18,7 @@ use Rattle.json_walk.proofs.Laws.{bytes-ahead}
 use Rattle.json_walk.proofs.Walks.{members-end}
 use Rattle.json_tree.specs.Tree.{Json, fieldsOf}
 use Rattle.event.specs.Overrides.{hasMark, nameFault, nameFaults, alone}
-use Rattle.override_text.specs.Names.{lowest, ofName, single}
+use Rattle.override_text.specs.Inner.Names.{lowest, ofName, single}
 
 -- ---- the definitions of `event`
 

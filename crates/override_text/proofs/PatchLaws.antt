@@ -16,8 +16,8 @@ use Rattle.event.specs.Values.{isNull, member, object}
 use Rattle.event.specs.Reading.{Reading, right, wrong, orWrong}
 use Rattle.event.specs.Properties.{noLength, readStart, readLength, readBusy, readBoolean, readText}
 use Rattle.event.specs.Overrides.{patched, patchedStart, patchIn, excludedFault, nameFaults, alone}
-use Rattle.property.specs.From.{fieldsIn}
-use Rattle.override_text.specs.Patched.{patchAt}
+use Rattle.property.specs.Inner.From.{fieldsIn}
+use Rattle.override_text.specs.Inner.Patched.{patchAt}
 
 module _ (id : ℕ) (o : Option Json) where
   pub start-own : o ≡ none → right id ≡ patchedStart id o

@@ -17,7 +17,7 @@ use Rattle.event.specs.Properties.{noLength, dateTime, readLength}
 use Rattle.event.specs.Overrides.{patched, patchedStart, patchIn, overrideOf, overridesIn, readOverrides}
 use Rattle.fault.proofs.Laws.{lower-zero}
 use Rattle.property.proofs.Ranges.{Within, Short, date-range, start-range, length-range}
-use Rattle.override_text.specs.Lists.{Filled}
+use Rattle.override_text.specs.Inner.Lists.{Filled}
 
 abbrev pub InYears : ℕ → Type 0
 InYears x = Within (366 * 86400) (3067672 * 86400) x

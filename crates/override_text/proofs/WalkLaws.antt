@@ -10,7 +10,7 @@ use Rattle.json_walk.specs.declared.Member.{Member}
 use Rattle.json_walk.specs.declared.MemberStep.{MemberStep}
 use Rattle.json_walk.specs.declared.MemberStep.the-variants.{One, End}
 use Rattle.json_walk.proofs.Walks.{members-one, members-end, members-none}
-use Rattle.override_text.specs.Names.{lowest}
+use Rattle.override_text.specs.Inner.Names.{lowest}
 
 -- one member of a walk, and those behind it
 pub members-next : (s : List ℕ) (n : ℕ) → 0 < n → (step : MemberStep) (m : Member) → step ≡ One m → (next : MemberStep) → next ≡ nextMemberAt s (m .after)

@@ -1,5 +1,1 @@
-pub mod Names
-pub mod Meaning
-pub mod Patched
-pub mod Entries
-pub mod Lists
+pub mod Inner

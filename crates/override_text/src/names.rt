@@ -2,9 +2,9 @@
 ghost use mathlib.Core.Path.{_≡_};
 ghost use Rattle.json_walk.specs.Walk.{membersOf};
 ghost use Rattle.json_walk.specs.Strings.{bytesAt, rawAt};
-ghost use Rattle.json_ends.specs.Ends.{Ends};
+ghost use Rattle.json_ends.specs.Inner.Ends.{Ends};
 ghost use Rattle.event.specs.Overrides.{hasMark, nameFault};
-ghost use Rattle.override_text.specs.Names.{lowest, ofName, single};
+ghost use Rattle.override_text.specs.Inner.Names.{lowest, ofName, single};
 use fault::lower;
 use json_ends::objects::next_member;
 use json_text::bytes::byte;

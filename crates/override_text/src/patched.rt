@@ -1,11 +1,11 @@
 // One property of the patch at a place: the event's own where the patch does not name it, the default where it is null.
 ghost use Prim.Native.Nat.{ℕ, _+_};
 ghost use mathlib.Core.Path.{_≡_};
-ghost use Rattle.property.specs.From.{textIn};
-ghost use Rattle.override_text.specs.Meaning.{span, whenIn, lastingIn, markIn, shownIn};
-ghost use Rattle.override_text.specs.Patched.{startIn, lengthIn, busyIn, flagIn, textFor};
-ghost use Rattle.property.specs.Rows.{RowTo};
-ghost use Rattle.property.specs.Vocabulary.{wordOf};
+ghost use Rattle.property.specs.Inner.From.{textIn};
+ghost use Rattle.override_text.specs.Inner.Meaning.{span, whenIn, lastingIn, markIn, shownIn};
+ghost use Rattle.override_text.specs.Inner.Patched.{startIn, lengthIn, busyIn, flagIn, textFor};
+ghost use Rattle.property.specs.Inner.Rows.{RowTo};
+ghost use Rattle.property.specs.Inner.Vocabulary.{wordOf};
 use crate::Lasting;
 use crate::Mark;
 use crate::Shown;

@@ -1,8 +1,8 @@
 // What a reader answers, as a value and a fault.
 ghost use mathlib.Core.Path.{_≡_};
 ghost use Rattle.event.specs.Properties.{fromLocal, fromSpan, fromStatus};
-ghost use Rattle.property.specs.From.{fromFlag, fromPassage};
-ghost use Rattle.override_text.specs.Meaning.{whenIn, lastingIn, markIn, shownIn};
+ghost use Rattle.property.specs.Inner.From.{fromFlag, fromPassage};
+ghost use Rattle.override_text.specs.Inner.Meaning.{whenIn, lastingIn, markIn, shownIn};
 use crate::Lasting;
 use crate::Mark;
 use crate::Shown;

@@ -13,7 +13,7 @@ use Rattle.json_tree.specs.Tree.{treeAt}
 use Rattle.event.specs.Properties.{filled, named}
 use Rattle.event.specs.Reading.{Reading, right, wrong, orWrong}
 use Rattle.event.specs.Values.{word}
-use Rattle.property.specs.Words.{wordAt, isWordAt, isFilledAt}
+use Rattle.property.specs.Inner.Words.{wordAt, isWordAt, isFilledAt}
 use Rattle.property.proofs.Words.{word-tree}
 
 pub word-read : {A : Type 0} (a : A) (f : List ℕ → Reading A) (l : ℕ) (s : List ℕ) (i : ℕ)

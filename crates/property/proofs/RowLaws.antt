@@ -29,9 +29,9 @@ use Rattle.json_tree.specs.declared.Found.the-variants.{Here, Missing}
 use Rattle.event.specs.Values.{member}
 use Rattle.property.proofs.Fields.{foundIn, member-tree}
 use Rattle.property.proofs.Vocabularies.{number-says}
-use Rattle.property.specs.From.{valueIn, fieldsIn}
-use Rattle.property.specs.Rows.{placed, spot, Blank, Row, RowTo, noted}
-use Rattle.property.specs.Vocabulary.{wordOf, numberAt}
+use Rattle.property.specs.Inner.From.{valueIn, fieldsIn}
+use Rattle.property.specs.Inner.Rows.{placed, spot, Blank, Row, RowTo, noted}
+use Rattle.property.specs.Inner.Vocabulary.{wordOf, numberAt}
 use Rattle.property.specs.declared.Place.{Place}
 use Rattle.property.specs.declared.Place.the-variants as place
 

@@ -15,7 +15,7 @@ use Rattle.json_tree.specs.declared.Kind.{Kind}
 use Rattle.json_tree.specs.declared.Kind.the-variants as kind
 use Rattle.event.specs.Types.{Text}
 use Rattle.event.specs.Values.{isNull, string}
-use Rattle.property.specs.Words.{wordAt}
+use Rattle.property.specs.Inner.Words.{wordAt}
 
 -- The value of a kind at a place, where an object's fields and an array's items are given.
 abbrev pub shape : Fields → Items → List ℕ → ℕ → Kind → Json

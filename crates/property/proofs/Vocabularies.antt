@@ -14,7 +14,7 @@ use Rattle.json_walk.proofs.Laws.{bytes-ahead, length-bytes}
 use Rattle.json_walk.specs.Strings.{bytesAt, rawAt, same}
 use Rattle.json_walk.specs.Inner.Within.{ahead, within}
 use Rattle.json_names.proofs.Orders.{same-eq}
-use Rattle.property.specs.Vocabulary.{vocabulary, wordOf, numbered, ofShort, ofFive, ofSeven, ofEight, ofTwelve, ofLong, numberBy, numberAt}
+use Rattle.property.specs.Inner.Vocabulary.{vocabulary, wordOf, numbered, ofShort, ofFive, ofSeven, ofEight, ofTwelve, ofLong, numberBy, numberAt}
 
 -- A number that was found for the name x: none, or one whose word x is.
 record Sound (x : List ℕ) (r : ℕ) : Type 0 where

@@ -15,7 +15,7 @@ use Rattle.json_tree.specs.Tree.{treeAt}
 use Rattle.json_tree.specs.Inner.Kinds.{kindAt}
 use Rattle.event.specs.Types.{Text}
 use Rattle.event.specs.Values.{isNull, string, plain, word}
-use Rattle.property.specs.Words.{wordAt, isWordAt}
+use Rattle.property.specs.Inner.Words.{wordAt, isWordAt}
 use Rattle.property.proofs.Shapes.{isStringKind, isNullKind, string-kind, null-kind}
 
 -- What was read to no place has no bytes, and so no backslash.

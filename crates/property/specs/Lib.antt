@@ -1,4 +1,1 @@
-pub mod Words
-pub mod From
-pub mod Vocabulary
-pub mod Rows
+pub mod Inner

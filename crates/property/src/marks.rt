@@ -3,7 +3,7 @@ ghost use Prim.Native.Nat.{ℕ};
 ghost use mathlib.Core.Path.{_≡_};
 ghost use Rattle.json_tree.specs.Tree.{treeAt};
 ghost use Rattle.event.specs.Properties.{fromStatus, readBusy, readBoolean, readPrivacy};
-ghost use Rattle.property.specs.From.{fromFlag, fromSetting};
+ghost use Rattle.property.specs.Inner.From.{fromFlag, fromSetting};
 use crate::Flag;
 use crate::Setting;
 use crate::strings::is_word;

@@ -1,6 +1,6 @@
 // A member of an object by its name.
 ghost use mathlib.Core.Path.{_≡_};
-ghost use Rattle.json_ends.specs.Ends.{Ends};
+ghost use Rattle.json_ends.specs.Inner.Ends.{Ends};
 ghost use Rattle.json_walk.specs.Walk.{membersOf};
 ghost use Rattle.json_tree.specs.Inner.Members.{findIn};
 use json_tree::Found;

@@ -2,11 +2,11 @@
 ghost use mathlib.Core.Path.{_≡_};
 ghost use Prim.Native.Nat.{_+_, _≤_};
 ghost use lib.ListN.{length};
-ghost use Rattle.json_ends.specs.Ends.{Ends};
+ghost use Rattle.json_ends.specs.Inner.Ends.{Ends};
 ghost use Rattle.json_walk.specs.Walk.{firstMemberAt, membersOf};
 ghost use Rattle.json_tree.specs.Inner.Members.{findIn};
-ghost use Rattle.property.specs.Vocabulary.{wordOf};
-ghost use Rattle.property.specs.Rows.{Blank, RowTo, noted, placed};
+ghost use Rattle.property.specs.Inner.Vocabulary.{wordOf};
+ghost use Rattle.property.specs.Inner.Rows.{Blank, RowTo, noted, placed};
 use crate::Place;
 use crate::vocabulary::number_of;
 use json_ends::objects::first_member;

@@ -1,6 +1,6 @@
 // Strings by their place.
 ghost use mathlib.Core.Path.{_≡_};
-ghost use Rattle.property.specs.Words.{isWordAt, wordAt};
+ghost use Rattle.property.specs.Inner.Words.{isWordAt, wordAt};
 use json_text::Read;
 use json_text::bytes::byte;
 use json_text::strings::string;

@@ -3,7 +3,7 @@ ghost use Prim.Native.Nat.{ℕ};
 ghost use mathlib.Core.Path.{_≡_};
 ghost use Rattle.json_tree.specs.Tree.{treeAt};
 ghost use Rattle.event.specs.Properties.{readText};
-ghost use Rattle.property.specs.From.{fromPassage};
+ghost use Rattle.property.specs.Inner.From.{fromPassage};
 use crate::Passage;
 use json_text::bytes::byte;
 

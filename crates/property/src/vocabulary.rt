@@ -2,7 +2,7 @@
 // rule, so that each kind of object needs only the first numbers: an NDay 3, a patch 10, an event 18, a rule all 34.
 ghost use mathlib.Core.Path.{_≡_};
 ghost use Rattle.json_walk.specs.Strings.{rawAt};
-ghost use Rattle.property.specs.Vocabulary.{numbered, ofShort, ofFive, ofSeven, ofEight, ofTwelve, ofLong, numberAt};
+ghost use Rattle.property.specs.Inner.Vocabulary.{numbered, ofShort, ofFive, ofSeven, ofEight, ofTwelve, ofLong, numberAt};
 use json_text::bytes::byte;
 use json_walk::strings::inside;
 use json_walk::strings::raw_is;

@@ -20,8 +20,8 @@ use Rattle.event.specs.Types.{Details}
 use Rattle.table.specs.Window.{epoch, since1970}
 use Rattle.table.specs.Bytes.{ZoneTable, isFloating, marksOf, secondsIn, utcOf, recordOf}
 use Rattle.record.specs.declared.Times.{Times}
-use Rattle.record.specs.Rows.{marksFor, rowOf}
-use Rattle.record.specs.Occurrences.{utcBy, occurrenceRow, Small}
+use Rattle.record.specs.Inner.Rows.{marksFor, rowOf}
+use Rattle.record.specs.Inner.Occurrences.{utcBy, occurrenceRow, Small}
 use Rattle.record.proofs.RowLaws.{marks-of, record-of}
 
 abbrev again : ℤ → ℤ

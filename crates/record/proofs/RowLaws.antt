@@ -15,7 +15,7 @@ use Rattle.little_endian.proofs.ByteLaws.{bytes-length}
 use Rattle.event.specs.Types.{Details}
 use Rattle.table.specs.Window.{since1970}
 use Rattle.table.specs.Bytes.{ZoneTable, isFloating, marksOf, secondsIn, utcOf, recordOf, trailerOf}
-use Rattle.record.specs.Rows.{marksFor, rowOf}
+use Rattle.record.specs.Inner.Rows.{marksFor, rowOf}
 
 -- ---- the definitions of `table` by the numbers
 

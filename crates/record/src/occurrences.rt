@@ -6,7 +6,7 @@ ghost use lib.IntN.{pos, natAbs, _+ℤ_};
 ghost use lib.ListN.{length};
 ghost use lib.Seq.{sets};
 ghost use Rattle.zone.specs.Table.{validTable};
-ghost use Rattle.record.specs.Occurrences.{utcBy, occurrenceRow, Small};
+ghost use Rattle.record.specs.Inner.Occurrences.{utcBy, occurrenceRow, Small};
 use crate::Times;
 use crate::rows::marks;
 use crate::rows::put_record;

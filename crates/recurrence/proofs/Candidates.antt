@@ -17,7 +17,7 @@ use Rattle.rule.proofs.Bools.{by, or-left, or-right, or-either, both, left, rig
 use Rattle.rule.proofs.GivesLaws.{Given, given-parts, picks-low}
 use Rattle.rule.proofs.Counting.{count-more, count-less, within-less}
 use Rattle.recurrence.specs.Event.{Override, Event, overrideExcludes, overrideNames, isStart, someGives, ruleGives, excludedRuleGives, inSet}
-use Rattle.recurrence.specs.Order.{IncreasesFrom, among}
+use Rattle.recurrence.specs.Inner.Order.{IncreasesFrom, among}
 use Rattle.recurrence.specs.Ids.{keep, ids}
 use Rattle.recurrence.specs.Inner.Candidates.{daysThat, isPast, ruleCandidates, allCandidates, candidates, inWindow, idsByCandidates}
 use Rattle.recurrence.proofs.Ordered.{head-among, insert-all-increases, insert-all-has, insert-all-keeps, keep-increases, keep-among, unique}

@@ -11,7 +11,7 @@ use Rattle.rule.specs.Lists.{any}
 use Rattle.rule.proofs.Bools.{by, or-left, or-right, or-either, both, left, right, same-tests}
 use Rattle.recurrence.specs.Event.{Event, overrideExcludes, overrideNames, isStart, ruleGives, excludedRuleGives, inSet}
 use Rattle.recurrence.specs.Occurs.{Occurs, OccursWithin}
-use Rattle.recurrence.specs.Order.{IncreasesFrom, StrictlyIncreases, among}
+use Rattle.recurrence.specs.Inner.Order.{IncreasesFrom, StrictlyIncreases, among}
 use Rattle.recurrence.specs.Ids.{secondsFrom, ids}
 use Rattle.recurrence.specs.Inner.Candidates.{inWindow}
 use Rattle.recurrence.proofs.Ordered.{from-less, keep-increases, keep-among}

@@ -10,7 +10,7 @@ use borrow.Author.Tests.{ltb-true, ltb-false, eqb-true, eqb-false, eq-eqb, ne-eq
 use Rattle.signed.specs.Choose.{if_then_else_}
 use Rattle.rule.specs.Lists.{any}
 use Rattle.rule.proofs.Bools.{by, or-left, or-right}
-use Rattle.recurrence.specs.Order.{IncreasesFrom, among}
+use Rattle.recurrence.specs.Inner.Order.{IncreasesFrom, among}
 use Rattle.recurrence.specs.Ids.{keep}
 use Rattle.recurrence.specs.Inner.Candidates.{insert, insertAll}
 

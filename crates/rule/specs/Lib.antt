@@ -5,5 +5,4 @@ pub mod Period
 pub mod Implied
 pub mod Stays
 pub mod Gives
-pub mod Read
 pub mod Inner

@@ -7,12 +7,12 @@ use native.Mathlib.Omega.{arith}
 use lib.IntN.{ℤ, pos, negsuc}
 use Rattle.json_tree.specs.Tree.{Json, Fields}
 use Rattle.rule.specs.declared.Rule.{Rule}
-use Rattle.rule.specs.Read.{written}
+use Rattle.rule.specs.Inner.Read.{written}
 use Rattle.event.specs.Values.{array, object, integer}
 use Rattle.event.specs.Reading.{Reading, orWrong, optional, readAll, limited}
 use Rattle.event.specs.Rules.{required, maybe, atLeastOne, readCount, readSigned, readWeekday, readMonth, readNth, ndayIn, readNDay, entriesOf, byList, standIn, ruleIn, readRule}
-use Rattle.rule_text.specs.Parts.{RuleRead}
-use Rattle.rule_text.specs.Bounds.{All, nil, more, Given, SizeIn, MonthIn, AtLeastOne, DayIn, Bounded}
+use Rattle.rule_text.specs.Inner.Parts.{RuleRead}
+use Rattle.rule_text.specs.Inner.Bounds.{All, nil, more, Given, SizeIn, MonthIn, AtLeastOne, DayIn, Bounded}
 use Rattle.rule_text.proofs.IntegerLaws.{signed-within}
 use Rattle.fault.proofs.Laws.{lower-zero}
 use Rattle.rule_text.proofs.JoinLaws.{rule-faults, no-faults}

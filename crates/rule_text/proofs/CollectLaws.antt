@@ -13,13 +13,13 @@ use borrow.Author.Tests.{ltb-false}
 use Rattle.signed.specs.Choose.{if_then_else_}
 use Rattle.json_tree.specs.Tree.{Json}
 use Rattle.rule.specs.Written.{NDay}
-use Rattle.rule.specs.Read.{ndays}
+use Rattle.rule.specs.Inner.Read.{ndays}
 use Rattle.event.specs.Values.{array}
 use Rattle.event.specs.Reading.{Reading, orWrong, optional, readAll, atMost, limited}
 use Rattle.event.specs.Rules.{readNDay, entriesOf, byList}
-use Rattle.rule_text.specs.Reads.{Entries}
-use Rattle.rule_text.specs.Lists.{dayOf, nthOf, DayEntries}
-use Rattle.rule_text.specs.Parts.{Collected, DaysCollected}
+use Rattle.rule_text.specs.Inner.Reads.{Entries}
+use Rattle.rule_text.specs.Inner.Lists.{dayOf, nthOf, DayEntries}
+use Rattle.rule_text.specs.Inner.Parts.{Collected, DaysCollected}
 use Rattle.fault.proofs.Laws.{lower-zero}
 use Rattle.rule_text.proofs.ListLaws.{entries-value, entries-length}
 use Rattle.rule_text.proofs.DayLaws.{ndays-back, weekdays-length, nths-length}

@@ -13,7 +13,7 @@ use borrow.Author.Tests.{lt-ltb}
 use Rattle.signed.specs.Choose.{if_then_else_}
 use Rattle.json_text.specs.Bytes.{byte}
 use Rattle.rule.specs.Written.{NDay}
-use Rattle.rule.specs.Read.{nthFrom, ndays}
+use Rattle.rule.specs.Inner.Read.{nthFrom, ndays}
 use Rattle.json_walk.specs.Walk.{nextElementAt}
 use Rattle.json_walk.specs.declared.Element.{Element}
 use Rattle.json_walk.specs.declared.ElementStep.{ElementStep}
@@ -22,8 +22,8 @@ use Rattle.json_tree.specs.Tree.{Json, Fields, treeAt}
 use Rattle.event.specs.Values.{object}
 use Rattle.event.specs.Reading.{Reading, right, wrong, orWrong, readAll}
 use Rattle.event.specs.Rules.{anyNth, readNth, ndayIn, readNDay, entriesOf}
-use Rattle.property.specs.From.{fieldsIn}
-use Rattle.rule_text.specs.Lists.{nthNumber, isSome, dayOf, nthOf, listFault, DayEntries}
+use Rattle.property.specs.Inner.From.{fieldsIn}
+use Rattle.rule_text.specs.Inner.Lists.{nthNumber, isSome, dayOf, nthOf, listFault, DayEntries}
 use Rattle.rule_text.proofs.EntryLaws.{restOf, Counting, Storing, rest-next, counting-ends, storing-ends}
 use Rattle.rule_text.proofs.IntegerLaws.{nth-read}
 use Rattle.rule_text.proofs.ListLaws.{object-is, object-not, entries-value, entries-fault}

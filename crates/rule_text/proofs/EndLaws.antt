@@ -8,12 +8,12 @@ use Rattle.fault.specs.Fault.{lower}
 use Rattle.fault.proofs.Laws.{none-lower, lower-none}
 use Rattle.json_tree.specs.Tree.{treeAt}
 use Rattle.rule.specs.declared.End.the-variants.{Never, Until, Count}
-use Rattle.rule.specs.Read.{untilFrom, countFrom}
+use Rattle.rule.specs.Inner.Read.{untilFrom, countFrom}
 use Rattle.json_text.specs.Ascii.{ascii}
 use Rattle.event.specs.Properties.{readUntil}
 use Rattle.event.specs.Rules.{maybe, bothEnds, readCount}
-use Rattle.rule_text.specs.Members.{memberAt}
-use Rattle.rule_text.specs.Parts.{EndsRead}
+use Rattle.rule_text.specs.Inner.Members.{memberAt}
+use Rattle.rule_text.specs.Inner.Parts.{EndsRead}
 use Rattle.fault.proofs.Laws.{lower-zero}
 
 never : {P : Type 0} (a b : ℕ) → lower a (lower b 7) ≡ 0 → P

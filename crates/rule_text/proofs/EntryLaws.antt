@@ -16,7 +16,7 @@ use Rattle.json_walk.proofs.Walks.{elements-one, elements-end, elements-none}
 use Rattle.json_tree.specs.Tree.{Json, itemsOf}
 use Rattle.event.specs.Values.{listOf}
 use Rattle.event.specs.Reading.{Reading, right, readAll}
-use Rattle.rule_text.specs.Reads.{Entries}
+use Rattle.rule_text.specs.Inner.Reads.{Entries}
 
 -- The reading of the entries from a step on, at most n.
 abbrev pub restOf : {A : Type 0} → (Json → Reading A) → (ℕ → ℕ → Json) → List ℕ → ℕ → ElementStep → ℕ → Reading (List A)

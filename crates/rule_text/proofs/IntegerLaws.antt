@@ -10,7 +10,7 @@ use lib.IntN.{ℤ, pos, negsuc, natAbs, subℕ}
 use borrow.Author.Tests.{eqb-true, ne-eqb, le-leb, lt-leb, leb-true, lt-ltb, ltb-true, ltb-false}
 use Rattle.signed.specs.Choose.{if_then_else_}
 use Rattle.signed.proofs.Parts.{parts-eq, subℕ-parts, subℕ-pos, subℕ-neg}
-use Rattle.rule.specs.Read.{nthFrom}
+use Rattle.rule.specs.Inner.Read.{nthFrom}
 use Rattle.json_text.specs.Bytes.{byte, isDigit}
 use Rattle.json_tree.specs.Tree.{Json, Fields, Items, treeBy, treeAt, scalarTree}
 use Rattle.json_tree.specs.Integers.{integerAt, wholeAt}

@@ -5,7 +5,7 @@ use mathlib.Core.Path.{_≡_, refl, sym, ap, _∙_}
 use Rattle.signed.specs.Choose.{if_then_else_}
 use Rattle.fault.specs.Fault.{lower}
 use Rattle.fault.proofs.Laws.{lower-none, lower-zero, lower-assoc, lower-comm}
-use Rattle.rule_text.specs.Parts.{joined}
+use Rattle.rule_text.specs.Inner.Parts.{joined}
 
 -- 9 joins where a limit is passed.
 pub lower-limit : (c : Bool) (n : ℕ) → lower n (if c then 9 else 0) ≡ (if c then lower n 9 else n)

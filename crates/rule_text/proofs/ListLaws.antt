@@ -16,17 +16,17 @@ use Rattle.json_tree.specs.Tree.{Json, scalarTree, treeBy, treeAt, itemsOf}
 use Rattle.json_tree.proofs.Trees.{choose, always, object-tree, array-tree}
 use Rattle.json_tree.specs.Inner.Members.{findIn}
 use Rattle.property.proofs.RowLaws.{member-place}
-use Rattle.property.specs.From.{valueIn}
-use Rattle.property.specs.Rows.{placed}
+use Rattle.property.specs.Inner.From.{valueIn}
+use Rattle.property.specs.Inner.Rows.{placed}
 use Rattle.property.specs.declared.Place as property
 use Rattle.property.specs.declared.Place.the-variants as place
 use Rattle.event.specs.Values.{array, object, listOf}
 use Rattle.event.specs.Reading.{Reading, right, wrong, orWrong, optional, readAll, atMost, limited}
 use Rattle.event.specs.Rules.{entriesOf, byList}
-use Rattle.property.specs.From.{fieldsIn}
-use Rattle.rule_text.specs.Members.{memberAt}
-use Rattle.rule_text.specs.Reads.{Entries}
-use Rattle.rule_text.specs.Lists.{listPlace, Within, listFault}
+use Rattle.property.specs.Inner.From.{fieldsIn}
+use Rattle.rule_text.specs.Inner.Members.{memberAt}
+use Rattle.rule_text.specs.Inner.Reads.{Entries}
+use Rattle.rule_text.specs.Inner.Lists.{listPlace, Within, listFault}
 use Rattle.rule_text.specs.declared.Place.{Place}
 use Rattle.rule_text.proofs.JoinLaws.{lower-limit}
 use Rattle.rule_text.specs.declared.Place.the-variants.{At, Absent, Wrong}

@@ -18,7 +18,7 @@ use Rattle.json_tree.specs.Tree.{Json}
 use Rattle.event.specs.Values.{word}
 use Rattle.event.specs.Reading.{orWrong}
 use Rattle.event.specs.Rules.{fromNamed, readMonth}
-use Rattle.rule_text.specs.Bounds.{MonthIn}
+use Rattle.rule_text.specs.Inner.Bounds.{MonthIn}
 
 -- Wrong numbers are no fault 0, and a number is a month.
 pub record NamedMonth (x : Named) : Type 0 where

@@ -9,7 +9,7 @@ use Rattle.signed.specs.Choose.{if_then_else_}
 use Rattle.fault.specs.Fault.{lower}
 use Rattle.fault.proofs.Laws.{lower-zero}
 use Rattle.rule_text.proofs.JoinLaws.{lower-limit}
-use Rattle.rule_text.specs.Bounds.{All, nil, more}
+use Rattle.rule_text.specs.Inner.Bounds.{All, nil, more}
 use Rattle.rule_text.proofs.CollectLaws.{take-sets}
 use borrow.Author.Tests.{ltb-false}
 use native.Mathlib.Omega.{arith}
@@ -22,8 +22,8 @@ use Rattle.rule.specs.Written.{RecurrenceRule}
 use Rattle.event.specs.Values.{listOf}
 use Rattle.event.specs.Reading.{Reading, wrong, orWrong, readAll, limited, atMost}
 use Rattle.event.specs.Rules.{readRule, readRules}
-use Rattle.rule_text.specs.Reads.{entriesAt, Entries}
-use Rattle.rule_text.specs.Places.{valueOf, placesAt, Places, readPlace, rulesFault}
+use Rattle.rule_text.specs.Inner.Reads.{entriesAt, Entries}
+use Rattle.rule_text.specs.Inner.Places.{valueOf, placesAt, Places, readPlace, rulesFault}
 use Rattle.rule_text.proofs.ListLaws.{array-is, array-not}
 
 -- ---- places

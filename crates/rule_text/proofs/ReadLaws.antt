@@ -2,7 +2,7 @@
 use Prim.Native.Nat.{ℕ}
 use mathlib.Core.Path.{_≡_, _∙_, sym, ap}
 use Rattle.event.specs.Reading.{Reading}
-use Rattle.rule_text.specs.Reads.{Reads}
+use Rattle.rule_text.specs.Inner.Reads.{Reads}
 
 pub reads-by : {A : Type 0} {tree : ℕ → Reading A} {r : Reading A} {a : A} {n : ℕ} → ((l : ℕ) → tree l ≡ r) → r ≡ record { value = a; fault = n } → Reads tree a n
 reads-by {A} e h =

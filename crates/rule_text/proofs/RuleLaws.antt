@@ -16,7 +16,7 @@ use Rattle.rule.specs.declared.Frequency.the-variants.{Daily, Weekly, Monthly, 
 use Rattle.rule.specs.declared.End.{End}
 use Rattle.rule.specs.declared.Rule.{Rule}
 use Rattle.rule.specs.Written.{NDay, RecurrenceRule}
-use Rattle.rule.specs.Read.{written, Sized}
+use Rattle.rule.specs.Inner.Read.{written, Sized}
 use Rattle.words.specs.declared.Named.{Named}
 use Rattle.words.specs.declared.Named.the-variants.{Number, Wrong}
 use Rattle.words.specs.Rules.{weekdayOf}
@@ -24,9 +24,9 @@ use Rattle.json_text.specs.Ascii.{ascii}
 use Rattle.event.specs.Values.{word}
 use Rattle.event.specs.Reading.{wrong, orWrong, optional}
 use Rattle.event.specs.Rules.{fromNamed, readWeekday, readSigned, readMonth, readNDay, byList, anyNth, nthUnder, standIn, ruleIn, readRule}
-use Rattle.property.specs.From.{fieldsIn}
-use Rattle.rule_text.specs.Members.{memberAt}
-use Rattle.rule_text.specs.Parts.{HeadRead, EndsRead, Collected, DaysCollected, nthFault, joined, otherFault, RuleIn, RuleRead}
+use Rattle.property.specs.Inner.From.{fieldsIn}
+use Rattle.rule_text.specs.Inner.Members.{memberAt}
+use Rattle.rule_text.specs.Inner.Parts.{HeadRead, EndsRead, Collected, DaysCollected, nthFault, joined, otherFault, RuleIn, RuleRead}
 use Rattle.rule_text.proofs.JoinLaws.{rule-faults, no-faults}
 use Rattle.rule_text.proofs.ListLaws.{object-is, object-not}
 

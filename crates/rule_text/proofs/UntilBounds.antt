@@ -6,7 +6,7 @@ use Rattle.json_tree.specs.Tree.{Json}
 use Rattle.event.specs.Properties.{readUntil}
 use Rattle.event.specs.Rules.{maybe}
 use Rattle.property.proofs.Ranges.{until-range}
-use Rattle.rule_text.specs.Bounds.{Given, TimeIn}
+use Rattle.rule_text.specs.Inner.Bounds.{Given, TimeIn}
 
 pub until-given : (o : Option Json) → maybe readUntil o .fault ≡ 0 → Given TimeIn (maybe readUntil o .value)
 unfolding maybe

@@ -1,6 +1,1 @@
-pub mod Reads
-pub mod Members
-pub mod Lists
-pub mod Parts
-pub mod Places
-pub mod Bounds
+pub mod Inner

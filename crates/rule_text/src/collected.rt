@@ -1,12 +1,12 @@
 // The by-lists in arrays of their own.
 ghost use Prim.Native.Nat.{suc, _+_};
-ghost use Rattle.json_ends.specs.Ends.{Ends};
-ghost use Rattle.property.specs.Rows.{RowTo};
-ghost use Rattle.property.specs.Vocabulary.{wordOf};
+ghost use Rattle.json_ends.specs.Inner.Ends.{Ends};
+ghost use Rattle.property.specs.Inner.Rows.{RowTo};
+ghost use Rattle.property.specs.Inner.Vocabulary.{wordOf};
 ghost use Rattle.json_text.specs.Ascii.{ascii};
 ghost use Rattle.event.specs.Rules.{readSigned, readMonth, readNDay, byList};
-ghost use Rattle.rule_text.specs.Members.{memberAt};
-ghost use Rattle.rule_text.specs.Parts.{Collected, DaysCollected};
+ghost use Rattle.rule_text.specs.Inner.Members.{memberAt};
+ghost use Rattle.rule_text.specs.Inner.Parts.{Collected, DaysCollected};
 use crate::DayList;
 use crate::MonthList;
 use crate::NumberList;

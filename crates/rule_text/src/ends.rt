@@ -1,8 +1,8 @@
 // What ends a rule: `until`, `count` or nothing.
 ghost use mathlib.Core.Path.{_≡_};
-ghost use Rattle.property.specs.Rows.{RowTo};
+ghost use Rattle.property.specs.Inner.Rows.{RowTo};
 ghost use Rattle.event.specs.Properties.{fromLocal};
-ghost use Rattle.rule_text.specs.Parts.{EndsRead};
+ghost use Rattle.rule_text.specs.Inner.Parts.{EndsRead};
 use crate::Ending;
 use crate::numbers::count;
 use date_time::DateTime;

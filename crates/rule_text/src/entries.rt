@@ -2,9 +2,9 @@
 ghost use mathlib.Core.Path.{_≡_};
 ghost use Prim.Native.Nat.{_<_};
 ghost use lib.ListN.{length, set};
-ghost use Rattle.json_ends.specs.Ends.{Ends};
+ghost use Rattle.json_ends.specs.Inner.Ends.{Ends};
 ghost use Rattle.event.specs.Rules.{readSigned, readMonth};
-ghost use Rattle.rule_text.specs.Reads.{entriesAt, Entries};
+ghost use Rattle.rule_text.specs.Inner.Reads.{entriesAt, Entries};
 use crate::Listed;
 use crate::numbers::signed_up_to;
 use crate::spelled::fault_of;

@@ -1,8 +1,8 @@
 // A rule's type, frequency, interval and first day of the week.
 ghost use mathlib.Core.Path.{_≡_};
-ghost use Rattle.property.specs.Rows.{RowTo};
+ghost use Rattle.property.specs.Inner.Rows.{RowTo};
 ghost use Rattle.event.specs.Rules.{fromRate};
-ghost use Rattle.rule_text.specs.Parts.{HeadRead};
+ghost use Rattle.rule_text.specs.Inner.Parts.{HeadRead};
 use crate::Head;
 use crate::members::first_in;
 use crate::members::frequency_in;

@@ -1,16 +1,16 @@
 // The by-lists of a rule, each at the member that has it.
 ghost use mathlib.Core.Path.{_≡_};
 ghost use Prim.Native.Nat.{suc, _+_};
-ghost use Rattle.json_ends.specs.Ends.{Ends};
-ghost use Rattle.property.specs.Rows.{RowTo, placed};
-ghost use Rattle.property.specs.Vocabulary.{wordOf};
+ghost use Rattle.json_ends.specs.Inner.Ends.{Ends};
+ghost use Rattle.property.specs.Inner.Rows.{RowTo, placed};
+ghost use Rattle.property.specs.Inner.Vocabulary.{wordOf};
 ghost use Rattle.json_walk.specs.Walk.{membersOf};
 ghost use Rattle.json_tree.specs.Inner.Members.{findIn};
 ghost use Rattle.json_text.specs.Ascii.{ascii};
 ghost use Rattle.event.specs.Rules.{readSigned, readMonth, readNDay, byList};
-ghost use Rattle.rule_text.specs.Members.{memberAt};
-ghost use Rattle.rule_text.specs.Reads.{Entries};
-ghost use Rattle.rule_text.specs.Lists.{Placed, listFault, DayEntries};
+ghost use Rattle.rule_text.specs.Inner.Members.{memberAt};
+ghost use Rattle.rule_text.specs.Inner.Reads.{Entries};
+ghost use Rattle.rule_text.specs.Inner.Lists.{Placed, listFault, DayEntries};
 use crate::DaysListed;
 use crate::Listed;
 use crate::Place;

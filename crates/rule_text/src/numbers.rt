@@ -1,7 +1,7 @@
 // The integers of a rule.
 ghost use Rattle.json_tree.specs.Tree.{treeAt};
 ghost use Rattle.event.specs.Rules.{readCount, readSigned};
-ghost use Rattle.rule_text.specs.Reads.{Reads};
+ghost use Rattle.rule_text.specs.Inner.Reads.{Reads};
 use crate::Number;
 use crate::Signed;
 use json_tree::Integer;

@@ -1,10 +1,10 @@
 // The faults of a rule beside those of its values.
 ghost use Prim.Native.Nat.{ℕ};
 ghost use mathlib.Core.Path.{_≡_};
-ghost use Rattle.property.specs.Rows.{RowTo};
+ghost use Rattle.property.specs.Inner.Rows.{RowTo};
 ghost use Rattle.event.specs.Rules.{unsupportedLists};
-ghost use Rattle.property.specs.From.{fieldsIn};
-ghost use Rattle.rule_text.specs.Parts.{otherFault, nthFault, joined};
+ghost use Rattle.property.specs.Inner.From.{fieldsIn};
+ghost use Rattle.rule_text.specs.Inner.Parts.{otherFault, nthFault, joined};
 use crate::members::scale_in;
 use crate::members::skip_in;
 use crate::members::unsupported_in;

@@ -2,9 +2,9 @@
 ghost use Prim.Native.Nat.{_<_};
 ghost use mathlib.Core.Path.{_≡_};
 ghost use lib.ListN.{length, set};
-ghost use Rattle.json_ends.specs.Ends.{Ends};
-ghost use Rattle.rule_text.specs.Reads.{entriesAt, Entries};
-ghost use Rattle.rule_text.specs.Places.{readPlace, Places};
+ghost use Rattle.json_ends.specs.Inner.Ends.{Ends};
+ghost use Rattle.rule_text.specs.Inner.Reads.{entriesAt, Entries};
+ghost use Rattle.rule_text.specs.Inner.Places.{readPlace, Places};
 use crate::Listed;
 use json_ends::arrays::first_element;
 use json_ends::arrays::next_element;

@@ -13,21 +13,21 @@ use Rattle.table.proofs.DemandTwo.{trailer-length}
 use Rattle.record.proofs.RowLaws.{sets-append}
 use Rattle.track.specs.declared.Track.{Track}
 use Rattle.dates.specs.declared.Tracks.{Tracks}
-use Rattle.dates.specs.Tracked.{Tracked, Weeks, tracksOf}
-use Rattle.dates.specs.Loaded.{loaded, isIn}
+use Rattle.dates.specs.Inner.Tracked.{Tracked, Weeks, tracksOf}
+use Rattle.dates.specs.Inner.Loaded.{loaded, isIn}
 use Rattle.dates.proofs.TrackLaws.{weeks-at}
-use Rattle.window.specs.Next.{dayFrom}
-use Rattle.window.specs.Lists.{listIn}
-use Rattle.window.specs.Chunks.{Window}
+use Rattle.window.specs.Inner.Next.{dayFrom}
+use Rattle.window.specs.Inner.Lists.{listIn}
+use Rattle.window.specs.Inner.Chunks.{Window}
 use Rattle.window.proofs.HitLaws.{from-day}
-use Rattle.listing.specs.Lists.{Tried, Listing, startOr}
+use Rattle.listing.specs.Inner.Lists.{Tried, Listing, startOr}
 use Rattle.listing.proofs.SecondLaws.{event-listed}
-use Rattle.writing.specs.Rows.{rowsOf}
+use Rattle.writing.specs.Inner.Rows.{rowsOf}
 use Rattle.writing.proofs.ChunkLaws.{rows-length}
-use Rattle.tables.specs.Sheet.{sheetBy, fitted}
+use Rattle.tables.specs.Inner.Sheet.{sheetBy, fitted}
 use Rattle.tables.proofs.SheetLaws.{too-long, fits}
-use Rattle.sheets.specs.Days.{sheetOn}
-use Rattle.sheets.specs.Plain.{Plain, ListedWindow}
+use Rattle.sheets.specs.Inner.Days.{sheetOn}
+use Rattle.sheets.specs.Inner.Plain.{Plain, ListedWindow}
 
 -- ---- the table of a list of days
 

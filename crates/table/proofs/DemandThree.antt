@@ -13,7 +13,7 @@ use Rattle.signed.proofs.Parts.{false-true}
 use Rattle.rule.specs.Lists.{any}
 use Rattle.recurrence.specs.Event.{inSet}
 use Rattle.recurrence.specs.Inner.Candidates.{inWindow}
-use Rattle.recurrence.specs.Order.{among}
+use Rattle.recurrence.specs.Inner.Order.{among}
 use Rattle.recurrence.proofs.Ordered.{head-among}
 use Rattle.recurrence.proofs.Exactly.{ids-exactly}
 use Rattle.words.specs.declared.Privacy.{Privacy}

@@ -15,7 +15,7 @@ use Rattle.signed.specs.Choose.{if_then_else_}
 use Rattle.signed.proofs.Parts.{true-false}
 use Rattle.little_endian.specs.Bytes.{bytesOf, twos}
 use Rattle.little_endian.proofs.ByteLaws.{bytes-length}
-use Rattle.recurrence.specs.Order.{StrictlyIncreases, among}
+use Rattle.recurrence.specs.Inner.Order.{StrictlyIncreases, among}
 use Rattle.recurrence.specs.Occurs.{OccursWithin}
 use Rattle.recurrence.proofs.Exactly as recurrence
 use Rattle.words.specs.declared.Privacy.{Privacy}

@@ -12,17 +12,17 @@ use Rattle.rule.specs.Lists.{countIn}
 use Rattle.rule.specs.Gives.{endDay}
 use Rattle.rule.proofs.Bools.{by}
 use Rattle.rule.proofs.Counting.{count-most}
-use Rattle.track.specs.Runs.{run}
-use Rattle.dates.specs.Loaded.{Loaded, isIn, isOn}
-use Rattle.window.specs.Next.{isThere, Stretch}
-use Rattle.window.specs.Lists.{listIn}
-use Rattle.window.specs.Chunks.{Window}
+use Rattle.track.specs.Inner.Runs.{run}
+use Rattle.dates.specs.Inner.Loaded.{Loaded, isIn, isOn}
+use Rattle.window.specs.Inner.Next.{isThere, Stretch}
+use Rattle.window.specs.Inner.Lists.{listIn}
+use Rattle.window.specs.Inner.Chunks.{Window}
 use Rattle.window.proofs.RunLaws.{same-there}
 use Rattle.window.proofs.ListLaws.{list-same}
-use Rattle.writing.specs.Rows.{rowsOf}
+use Rattle.writing.specs.Inner.Rows.{rowsOf}
 use Rattle.table.specs.Bytes.{trailerOf}
 use Rattle.table.specs.Results.{Gives}
-use Rattle.tables.specs.Sheet.{sheetBy, fitted, oneChunk}
+use Rattle.tables.specs.Inner.Sheet.{sheetBy, fitted, oneChunk}
 
 pub one-chunk : (start from to n : ℕ) → Window start from to → (r : Bool) → r ≡ oneChunk from to n → r ≡ true → Stretch (from / 86400) n from to
 unfolding oneChunk

@@ -4,18 +4,18 @@ use mathlib.Core.Bool.{Bool}
 use mathlib.Core.List.{List, [], _∷_, _++_}
 use mathlib.Core.Path.{_≡_, refl, sym, ap, ap₂, _∙_}
 use lib.ListN.{length}
-use Rattle.dates.specs.Loaded.{Loaded, isIn}
-use Rattle.dates.specs.Stands.{Stands}
+use Rattle.dates.specs.Inner.Loaded.{Loaded, isIn}
+use Rattle.dates.specs.Inner.Stands.{Stands}
 use Rattle.event.specs.Types.{Details, Event}
 use Rattle.table.specs.Occurrence.{datesOf, occurrences, detailsAt}
 use Rattle.table.specs.Bytes.{ZoneTable, isFloating, secondsIn, recordOf, recordsOf, trailerOf}
-use Rattle.record.specs.Occurrences.{occurrenceRow}
+use Rattle.record.specs.Inner.Occurrences.{occurrenceRow}
 use Rattle.record.proofs.OccurrenceLaws.{times, occurrence-record}
-use Rattle.window.specs.Lists.{listIn}
+use Rattle.window.specs.Inner.Lists.{listIn}
 use Rattle.window.proofs.ListLaws.{ids-loaded}
-use Rattle.writing.specs.Rows.{rowsOf}
-use Rattle.writing.specs.Details.{timesFrom, timesIn, rowBy}
-use Rattle.tables.specs.Sheet.{sheetBy}
+use Rattle.writing.specs.Inner.Rows.{rowsOf}
+use Rattle.writing.specs.Inner.Details.{timesFrom, timesIn, rowBy}
+use Rattle.tables.specs.Inner.Sheet.{sheetBy}
 
 rows-records : (zones : ZoneTable) (e : Event) (row : ℕ → List ℕ) → ((x : ℕ) → row x ≡ recordOf zones (e .zone) x (detailsAt e x))
     → (xs : List ℕ) → rowsOf row xs ≡ recordsOf zones e xs

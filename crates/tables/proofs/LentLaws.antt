@@ -6,8 +6,8 @@ use native.Mathlib.Omega.{arith}
 use lib.ListN.{length, take}
 use lib.Seq.{length-take-le}
 use Rattle.dates.specs.declared.Tracks.{Tracks}
-use Rattle.dates.specs.Tracked.{Tracked}
-use Rattle.window.specs.Chunks.{Ready}
+use Rattle.dates.specs.Inner.Tracked.{Tracked}
+use Rattle.window.specs.Inner.Chunks.{Ready}
 
 pub taken : {A : Type 0} (l : List A) (n : ℕ) → n ≤ length l → n ≡ length (take n l)
 taken l n h = sym (length-take-le n l h)

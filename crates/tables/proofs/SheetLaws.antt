@@ -16,13 +16,13 @@ use Rattle.table.specs.Answer.{outcomeBy}
 use Rattle.table.specs.Results.{Gives}
 use Rattle.table.proofs.DemandTwo.{trailer-length}
 use Rattle.record.proofs.RowLaws.{sets-append}
-use Rattle.window.specs.Lists.{listIn}
-use Rattle.window.specs.Chunks.{Window}
+use Rattle.window.specs.Inner.Lists.{listIn}
+use Rattle.window.specs.Inner.Chunks.{Window}
 use Rattle.window.proofs.ListLaws.{list-length}
-use Rattle.writing.specs.Rows.{rowsOf}
-use Rattle.writing.specs.Runs.{Written}
+use Rattle.writing.specs.Inner.Rows.{rowsOf}
+use Rattle.writing.specs.Inner.Runs.{Written}
 use Rattle.writing.proofs.ChunkLaws.{rows-length}
-use Rattle.tables.specs.Sheet.{sheetBy, fitted}
+use Rattle.tables.specs.Inner.Sheet.{sheetBy, fitted}
 
 -- ---- what a call leaves
 

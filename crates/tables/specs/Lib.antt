@@ -1,1 +1,1 @@
-pub mod Sheet
+pub mod Inner

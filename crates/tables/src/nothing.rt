@@ -1,7 +1,7 @@
 // The table with no records: a secret event has only the trailer.
 ghost use Rattle.table.specs.Bytes.{trailerOf};
 ghost use Rattle.table.specs.Results.{Gives};
-ghost use Rattle.tables.specs.Sheet.{fitted};
+ghost use Rattle.tables.specs.Inner.Sheet.{fitted};
 use record::rows::put_trailer;
 
 pub fn put_trailer_alone(buffer: &mut [u8], length: &mut u64) -> u32

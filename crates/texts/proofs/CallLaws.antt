@@ -16,7 +16,7 @@ use Rattle.table.specs.Call.{Shown, noPlace, textFault, shownAt, textOf, titleO
 use Rattle.table.specs.Results.{Shows, Tells}
 use Rattle.texts.specs.declared.Told.{Told}
 use Rattle.texts.specs.declared.Lookup.{Lookup}
-use Rattle.texts.specs.Shown.{toldShown, lookupShown, Placed, chosen}
+use Rattle.texts.specs.Inner.Shown.{toldShown, lookupShown, Placed, chosen}
 
 -- f is the fault of the text; the date was passed by its bits.
 module _ (s : List ℕ) (title : Bool) (t : ℤ) (fits : SFits w64 t) (f : ℕ) (was : f ≡ textFault s) where

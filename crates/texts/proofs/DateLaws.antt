@@ -23,7 +23,7 @@ use Rattle.table.specs.Answer.{isSecret, isPublic, textAnswerFor, textAnswer, d
 use Rattle.table.specs.Call.{Shown, noPlace, placeOf, shownFor, shownAt}
 use Rattle.table.specs.Occurrence.{isOccurrence, detailsAt}
 use Rattle.record.proofs.WindowLaws.{since-none}
-use Rattle.texts.specs.Shown.{shownBy}
+use Rattle.texts.specs.Inner.Shown.{shownBy}
 
 -- ---- who may see it
 

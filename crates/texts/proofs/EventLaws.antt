@@ -8,7 +8,7 @@ use native.Mathlib.Nat.{min-le-left}
 use native.Mathlib.Omega.{arith}
 use lib.ListN.{length, take, length-take}
 use lib.Seq.{length-take-le}
-use Rattle.property.specs.From.{valueIn}
+use Rattle.property.specs.Inner.From.{valueIn}
 use Rattle.rule.specs.Gives.{endDay}
 use Rattle.event.specs.Event.{eventFault, eventOf}
 use Rattle.event.specs.Properties.{noLength}
@@ -17,24 +17,24 @@ use Rattle.event.specs.Reading.{optional}
 use Rattle.event.specs.Rules.{readRules}
 use Rattle.event.specs.Types.{Details, Override}
 use Rattle.override_text.specs.declared.Own.{Own}
-use Rattle.override_text.specs.Lists.{Filled}
-use Rattle.override_text.specs.Meaning.{detailsIn}
-use Rattle.event_text.specs.Front.{frontOf, inner}
-use Rattle.event_text.specs.Held.{fromHead}
+use Rattle.override_text.specs.Inner.Lists.{Filled}
+use Rattle.override_text.specs.Inner.Meaning.{detailsIn}
+use Rattle.event_text.specs.Inner.Front.{frontOf, inner}
+use Rattle.event_text.specs.Inner.Held.{fromHead}
 use Rattle.event_text.specs.declared.Head.{Head}
 use Rattle.event_text.proofs.FromHead.{head-accepted}
 use Rattle.table.specs.Call.{Shown, placeOf}
 use Rattle.table.specs.Occurrence.{datesOf, isOccurrence, detailsAt}
 use Rattle.dates.specs.declared.Tracks.{Tracks}
-use Rattle.dates.specs.Loaded.{loaded, isIn}
+use Rattle.dates.specs.Inner.Loaded.{loaded, isIn}
 use Rattle.dates.proofs.SetLaws.{in-set}
-use Rattle.window.specs.Chunks.{Window, Ready}
-use Rattle.writing.specs.Details.{detailsBy}
-use Rattle.writing.specs.Runs.{Overridden}
-use Rattle.loading.specs.Rules.{Season, SettledRules}
-use Rattle.event_loading.specs.Patches.{patchesIn}
+use Rattle.window.specs.Inner.Chunks.{Window, Ready}
+use Rattle.writing.specs.Inner.Details.{detailsBy}
+use Rattle.writing.specs.Inner.Runs.{Overridden}
+use Rattle.loading.specs.Inner.Rules.{Season, SettledRules}
+use Rattle.event_loading.specs.Inner.Patches.{patchesIn}
 use Rattle.event_loading.proofs.KeptLaws.{kept-season, kept-even, kept-details, kept-stands}
-use Rattle.texts.specs.Shown.{Placed, chosen, shownBy}
+use Rattle.texts.specs.Inner.Shown.{Placed, chosen, shownBy}
 use Rattle.texts.proofs.PartLaws.{placed-same}
 
 -- The overrides that were loaded stand at the front of arrays of 256.

@@ -10,8 +10,8 @@ use lib.ListN.{length}
 use mir.Syntax.{w64}
 use mir.Val.{SFits, toZ, ofZ}
 use Rattle.event.specs.Event.{eventFault, eventOf}
-use Rattle.event_text.specs.Front.{frontOf, inner}
-use Rattle.event_text.specs.Held.{fromHead}
+use Rattle.event_text.specs.Inner.Front.{frontOf, inner}
+use Rattle.event_text.specs.Inner.Held.{fromHead}
 use Rattle.event_text.specs.declared.Head.{Head}
 use Rattle.event_text.proofs.FromHead.{head-privacy}
 use Rattle.event_loading.proofs.KeptLaws.{kept-years}
@@ -19,7 +19,7 @@ use Rattle.table.specs.Window.{since1600}
 use Rattle.table.specs.Answer.{isSecret, isPublic, dateTimeOf}
 use Rattle.table.specs.Call.{Shown, noPlace, placeOf, shownAt}
 use Rattle.table.specs.Occurrence.{isOccurrence, detailsAt}
-use Rattle.texts.specs.Shown.{Placed, chosen, shownBy}
+use Rattle.texts.specs.Inner.Shown.{Placed, chosen, shownBy}
 use Rattle.texts.proofs.PartLaws.{empty-placed, placed-same}
 use Rattle.texts.proofs.DateLaws.{shown-secret, shown-open, date-inside, date-outside}
 

@@ -6,15 +6,15 @@ use mathlib.Core.Path.{_≡_, ap, _∙_}
 use Rattle.signed.specs.Choose.{if_then_else_}
 use Rattle.event.specs.Types.{Details, Override}
 use Rattle.event.specs.Reading.{Reading}
-use Rattle.property.specs.From.{textIn}
+use Rattle.property.specs.Inner.From.{textIn}
 use Rattle.property.specs.declared.Place.{Place}
 use Rattle.override_text.specs.declared.Own.{Own}
 use Rattle.override_text.specs.declared.Patch.{Patch}
-use Rattle.override_text.specs.Meaning.{detailsIn, overrideIn}
-use Rattle.override_text.specs.Patched.{patchAt}
+use Rattle.override_text.specs.Inner.Meaning.{detailsIn, overrideIn}
+use Rattle.override_text.specs.Inner.Patched.{patchAt}
 use Rattle.table.specs.Occurrence.{withStart}
-use Rattle.writing.specs.Details.{patchDetails}
-use Rattle.texts.specs.Shown.{chosen}
+use Rattle.writing.specs.Inner.Details.{patchDetails}
+use Rattle.texts.specs.Inner.Shown.{chosen}
 
 module _ (s : List ℕ) (title : Bool) (first second r : Place) (is : r ≡ (if title then first else second)) (d : Details) where
   choice : textIn s first ≡ d .title → textIn s second ≡ d .description → textIn s r ≡ chosen title d

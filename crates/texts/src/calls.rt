@@ -2,7 +2,7 @@
 // between the quotes, and has none after a refusal.
 ghost use Rattle.table.specs.Call.{textOf, titleOf, descriptionOf};
 ghost use Rattle.table.specs.Results.{Shows, Tells};
-ghost use Rattle.texts.specs.Shown.{chosen};
+ghost use Rattle.texts.specs.Inner.Shown.{chosen};
 use crate::answered::told;
 
 // The place of the title or of the description in the text.

@@ -2,10 +2,10 @@
 ghost use mathlib.Core.Path.{_≡_};
 ghost use Prim.Native.Nat.{_+_, _-_, _≤_};
 ghost use lib.ListN.{length};
-ghost use Rattle.property.specs.From.{textIn};
-ghost use Rattle.property.specs.Words.{wordAt};
+ghost use Rattle.property.specs.Inner.From.{textIn};
+ghost use Rattle.property.specs.Inner.Words.{wordAt};
 ghost use Rattle.table.specs.Call.{placeFrom, placeOf};
-ghost use Rattle.texts.specs.Shown.{partShown, spanned, Placed};
+ghost use Rattle.texts.specs.Inner.Shown.{partShown, spanned, Placed};
 use crate::Part;
 use json_text::Read;
 use json_text::strings::string;

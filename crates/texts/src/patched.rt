@@ -1,12 +1,12 @@
 // The title or the description of one occurrence, by the place of its opening quote.
 ghost use mathlib.Core.Path.{_≡_};
 ghost use lib.ListN.{length};
-ghost use Rattle.json_ends.specs.Ends.{Ends};
+ghost use Rattle.json_ends.specs.Inner.Ends.{Ends};
 ghost use Rattle.signed.specs.Choose.{if_then_else_};
-ghost use Rattle.property.specs.From.{textIn};
-ghost use Rattle.override_text.specs.Meaning.{detailsIn};
-ghost use Rattle.writing.specs.Details.{patchDetails, detailsBy};
-ghost use Rattle.texts.specs.Shown.{chosen};
+ghost use Rattle.property.specs.Inner.From.{textIn};
+ghost use Rattle.override_text.specs.Inner.Meaning.{detailsIn};
+ghost use Rattle.writing.specs.Inner.Details.{patchDetails, detailsBy};
+ghost use Rattle.texts.specs.Inner.Shown.{chosen};
 use override_text::Own;
 use override_text::patches::patch;
 use property::Place;

@@ -14,12 +14,12 @@ use Rattle.rule.proofs.Counting.{count-more, count-less, count-none, count-noth
 use Rattle.rule.specs.declared.Day.{Day}
 use Rattle.matcher.specs.declared.Terms.{Terms}
 use Rattle.matcher.proofs.WalkLaws.{number-is, day-again}
-use Rattle.matcher.specs.Walk.{picksOnBy}
-use Rattle.matcher.specs.Member.{isFirst, fallsOnBy}
-use Rattle.track.specs.Last.{endOf, Ending}
+use Rattle.matcher.specs.Inner.Walk.{picksOnBy}
+use Rattle.matcher.specs.Inner.Member.{isFirst, fallsOnBy}
+use Rattle.track.specs.Inner.Last.{endOf, Ending}
 use Rattle.rule.specs.Day.{dayAt}
 use Rattle.track.specs.declared.Rest.{Rest}
-use Rattle.track.specs.Ahead.{EndAt, AheadAt, AheadOf, Resting, OutAfter}
+use Rattle.track.specs.Inner.Ahead.{EndAt, AheadAt, AheadOf, Resting, OutAfter}
 use Rattle.track.proofs.LastLaws.{end-yes, end-no, end-leaps, falls-by}
 
 -- ---- how many of some days pass

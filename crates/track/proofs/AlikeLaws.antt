@@ -22,15 +22,15 @@ use Rattle.rule.specs.Period.{periodOf, sinceFirst, daysOf}
 use Rattle.rule.specs.Inner.Bounds.{InCalendar}
 use Rattle.rule.proofs.Bools.{by}
 use Rattle.matcher.specs.declared.Terms.{Terms}
-use Rattle.matcher.specs.Flags.{named, nthBy, monthBy, dateBy, dayBy, staysBy}
-use Rattle.matcher.specs.Walk.{Asked, staysOnBy, stepBy, placedBy, picksBy, picksOnBy}
+use Rattle.matcher.specs.Inner.Flags.{named, nthBy, monthBy, dateBy, dayBy, staysBy}
+use Rattle.matcher.specs.Inner.Walk.{Asked, staysOnBy, stepBy, placedBy, picksBy, picksOnBy}
 use Rattle.matcher.proofs.WalkLaws.{step-each, in-calendar}
-use Rattle.months.specs.Kinds.{Kind, staysIn, chosenIn, picksIn}
-use Rattle.months.specs.Rows.{answerAt, KeptAt}
-use Rattle.track.specs.Runs.{marked}
-use Rattle.track.specs.Skips.{toMonthEnd}
-use Rattle.track.specs.Plain.{InMonth}
-use Rattle.track.specs.Alike.{isWhole, WeekdaysSet, Alike, firstWeekday}
+use Rattle.months.specs.Inner.Kinds.{Kind, staysIn, chosenIn, picksIn}
+use Rattle.months.specs.Inner.Rows.{answerAt, KeptAt}
+use Rattle.track.specs.Inner.Runs.{marked}
+use Rattle.track.specs.Inner.Skips.{toMonthEnd}
+use Rattle.track.specs.Inner.Plain.{InMonth}
+use Rattle.track.specs.Inner.Alike.{isWhole, WeekdaysSet, Alike, firstWeekday}
 use Rattle.track.proofs.RunLaws.{MarkAt, mark-yes, mark-no, marked-none, marked-shift}
 use Rattle.track.proofs.SkipLaws.{later, in-same-month, month-reaches}
 use Rattle.track.proofs.LeapLaws.{firstOf, first-of-month, month-not-early}

@@ -9,9 +9,9 @@ use lib.ListN.{length, take, drop, length-drop}
 use lib.Seq.{length-take-le}
 use borrow.Author.Tests.{ltb-true, ltb-false}
 use Rattle.rule.proofs.Bools.{by}
-use Rattle.matcher.specs.Walk.{picksOnBy}
+use Rattle.matcher.specs.Inner.Walk.{picksOnBy}
 use Rattle.track.specs.declared.Track.{Track}
-use Rattle.track.specs.Runs.{hasDay, marked, Marking, Run, LaterOf, EarlierOf}
+use Rattle.track.specs.Inner.Runs.{hasDay, marked, Marking, Run, LaterOf, EarlierOf}
 use Rattle.track.proofs.RunLaws.{MarkAt, mark-starts, mark-goes-by, mark-rests, marked-none, marked-shift}
 use Rattle.track.proofs.PlainLaws.{has-early, has-over, has-picked, mark-part}
 

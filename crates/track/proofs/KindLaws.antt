@@ -24,9 +24,9 @@ use Rattle.rule.proofs.Bools.{by}
 use Rattle.rule.proofs.DayLaws.{day-facts}
 use Rattle.rule.proofs.PeriodLaws.{day-number}
 use Rattle.matcher.specs.declared.Terms.{Terms}
-use Rattle.matcher.specs.Flags.{named, staysBy}
-use Rattle.matcher.specs.Walk.{staysOnBy, stepBy, placedBy, picksBy, picksOnBy}
-use Rattle.track.specs.Years.{NewYear, ownsPlaces, phaseOf}
+use Rattle.matcher.specs.Inner.Flags.{named, staysBy}
+use Rattle.matcher.specs.Inner.Walk.{staysOnBy, stepBy, placedBy, picksBy, picksOnBy}
+use Rattle.track.specs.Inner.Years.{NewYear, ownsPlaces, phaseOf}
 use Rattle.track.proofs.YearDayLaws.{anyYear, stays-alike, days-alike, year-known, year-at, year-whole, year-same}
 use Rattle.track.proofs.NeighbourLaws.{stays-anywhere, around-alike}
 

@@ -14,14 +14,14 @@ use Rattle.rule.proofs.Bools.{by, same-tests}
 use Rattle.rule.proofs.Counting.{count-more, count-less, count-none}
 use Rattle.rule.specs.declared.End.{End}
 use Rattle.rule.specs.Lists.{notAfter}
-use Rattle.rule.specs.Read.{untilFrom}
+use Rattle.rule.specs.Inner.Read.{untilFrom}
 use Rattle.rule.proofs.PeriodLaws.{day-number}
 use Rattle.matcher.specs.declared.Terms.{Terms}
-use Rattle.matcher.specs.Walk.{picksBy, picksOnBy}
-use Rattle.matcher.specs.Member.{isFirst, fallsBy, fallsOnBy}
-use Rattle.track.specs.Last.{untilDay, endOf}
-use Rattle.track.specs.Ahead.{EndAt}
-use Rattle.track.specs.Skips.{Between}
+use Rattle.matcher.specs.Inner.Walk.{picksBy, picksOnBy}
+use Rattle.matcher.specs.Inner.Member.{isFirst, fallsBy, fallsOnBy}
+use Rattle.track.specs.Inner.Last.{untilDay, endOf}
+use Rattle.track.specs.Inner.Ahead.{EndAt}
+use Rattle.track.specs.Inner.Skips.{Between}
 
 -- ---- one turn
 

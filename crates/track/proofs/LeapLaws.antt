@@ -11,7 +11,7 @@ use Rattle.gregorian.specs.Year.{yearLength, firstOfYear}
 use Rattle.gregorian.specs.Month.{monthStart, monthLength}
 use Rattle.gregorian.proofs.YearLaws.{first-suc, first-cycle, first-zero}
 use Rattle.gregorian.proofs.MonthLaws.{month-most, month-next, year-is-months}
-use Rattle.calendar.specs.Within.{HoldsDayOfYear}
+use Rattle.calendar.specs.Inner.Within.{HoldsDayOfYear}
 use Rattle.gregorian.proofs.DayLaws.{Parts, is-date}
 use Rattle.gregorian.proofs.RoundTrips.{date-parts, day-date-day, date-day-date}
 use Rattle.rule.specs.declared.Day.{Day}

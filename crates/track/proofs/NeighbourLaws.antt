@@ -18,8 +18,8 @@ use Rattle.rule.specs.Inner.Bounds.{InCalendar}
 use Rattle.rule.proofs.Bools.{by}
 use Rattle.rule.proofs.DayLaws.{day-facts, step-month, step-year, step-next-year, year-within}
 use Rattle.rule.proofs.PeriodLaws.{day-number}
-use Rattle.matcher.specs.Flags.{monthBy, dateBy, dayBy, nthBy, staysBy}
-use Rattle.track.specs.Years.{NewYear}
+use Rattle.matcher.specs.Inner.Flags.{monthBy, dateBy, dayBy, nthBy, staysBy}
+use Rattle.track.specs.Inner.Years.{NewYear}
 use Rattle.track.proofs.LeapLaws.{new-year}
 use Rattle.track.proofs.SkipLaws.{in-same-month}
 use Rattle.track.proofs.YearDayLaws.{anyYear, days-alike}

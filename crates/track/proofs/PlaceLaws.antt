@@ -21,13 +21,13 @@ use Rattle.rule.proofs.Counting.{count-most}
 use Rattle.rule.proofs.DayLaws.{day-facts}
 use Rattle.rule.proofs.PeriodLaws.{day-number}
 use Rattle.matcher.specs.declared.Terms.{Terms}
-use Rattle.matcher.specs.Flags.{named, staysBy}
-use Rattle.matcher.specs.Walk.{Asked, staysOnBy, stepBy, placedBy, picksBy, picksOnBy}
+use Rattle.matcher.specs.Inner.Flags.{named, staysBy}
+use Rattle.matcher.specs.Inner.Walk.{Asked, staysOnBy, stepBy, placedBy, picksBy, picksOnBy}
 use Rattle.matcher.proofs.WalkLaws.{before, whole, asked-early, asked-places}
-use Rattle.track.specs.Skips.{Between}
-use Rattle.track.specs.Places.{mostDays, Unset, InPeriod}
+use Rattle.track.specs.Inner.Skips.{Between}
+use Rattle.track.specs.Inner.Places.{mostDays, Unset, InPeriod}
 use Rattle.track.specs.declared.Cursor.{Cursor}
-use Rattle.track.specs.Steps.{staying, Holding}
+use Rattle.track.specs.Inner.Steps.{staying, Holding}
 use Rattle.track.proofs.StepLaws.{held-asked, held-total}
 use Rattle.track.proofs.SpanLaws.{Later, in-period}
 

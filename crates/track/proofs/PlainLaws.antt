@@ -12,14 +12,14 @@ use Rattle.signed.specs.Choose.{if_then_else_}
 use Rattle.rule.specs.declared.Day.{Day}
 use Rattle.rule.specs.Day.{dayAt}
 use Rattle.matcher.specs.declared.Terms.{Terms}
-use Rattle.matcher.specs.Flags.{staysBy}
-use Rattle.matcher.specs.Walk.{Asked, stepBy, placedBy, picksBy, picksOnBy}
+use Rattle.matcher.specs.Inner.Flags.{staysBy}
+use Rattle.matcher.specs.Inner.Walk.{Asked, stepBy, placedBy, picksBy, picksOnBy}
 use Rattle.matcher.proofs.WalkLaws.{picks-on, in-calendar, number-is, day-again}
 use Rattle.rule.specs.Gives.{endDay}
 use Rattle.track.specs.declared.Track.{Track}
-use Rattle.track.specs.Runs.{hasDay, marked}
-use Rattle.track.specs.Skips.{toMonthEnd}
-use Rattle.track.specs.Plain.{InMonth}
+use Rattle.track.specs.Inner.Runs.{hasDay, marked}
+use Rattle.track.specs.Inner.Skips.{toMonthEnd}
+use Rattle.track.specs.Inner.Plain.{InMonth}
 use Rattle.track.proofs.RunLaws.{MarkAt, marked-length}
 
 -- ---- a day

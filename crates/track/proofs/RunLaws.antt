@@ -8,7 +8,7 @@ use native.Mathlib.Numerals.{add-one}
 use lib.ListN.{length, take, drop, getD, set, length-set}
 use lib.Seq.{drop-cons, take-suc, take-suc-set, drop-set-lt, append-snoc, take-all, drop-length}
 use Rattle.signed.specs.Choose.{if_then_else_}
-use Rattle.track.specs.Runs.{marked, run}
+use Rattle.track.specs.Inner.Runs.{marked, run}
 
 -- ---- the loop that marks: what is marked, and what is left to mark, make the whole
 

@@ -18,18 +18,18 @@ use Rattle.rule.specs.Lists.{countIn, within, notAfter}
 use Rattle.rule.specs.Period.{periodOf}
 use Rattle.rule.specs.Written.{RecurrenceRule}
 use Rattle.rule.specs.Gives.{endDay, onDay, picks, falls, gives}
-use Rattle.rule.specs.Read.{untilFrom, countFrom, written}
+use Rattle.rule.specs.Inner.Read.{untilFrom, countFrom, written}
 use Rattle.rule.proofs.Counting.{count-same}
 use Rattle.matcher.specs.declared.Terms.{Terms}
-use Rattle.matcher.specs.Walk.{picksBy, picksOnBy}
-use Rattle.matcher.specs.Rows.{Termed}
-use Rattle.matcher.specs.Member.{isFirst, fallsBy, fallsOnBy}
+use Rattle.matcher.specs.Inner.Walk.{picksBy, picksOnBy}
+use Rattle.matcher.specs.Inner.Rows.{Termed}
+use Rattle.matcher.specs.Inner.Member.{isFirst, fallsBy, fallsOnBy}
 use Rattle.matcher.proofs.RowLaws.{Marked, row-marked}
 use Rattle.matcher.proofs.GiveLaws.{clear-row, picks-here, falls-same}
 use Rattle.track.specs.declared.Track.{Track}
-use Rattle.track.specs.Runs.{hasDay}
-use Rattle.track.specs.Last.{untilDay, endOf, lastBy}
-use Rattle.track.specs.Settle.{cleared, SettledBy, Settled}
+use Rattle.track.specs.Inner.Runs.{hasDay}
+use Rattle.track.specs.Inner.Last.{untilDay, endOf, lastBy}
+use Rattle.track.specs.Inner.Settle.{cleared, SettledBy, Settled}
 use Rattle.track.proofs.LastLaws.{count-ends, until-ends}
 
 -- the terms' own period is that of the start

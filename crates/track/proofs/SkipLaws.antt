@@ -24,10 +24,10 @@ use Rattle.rule.proofs.Bools.{by}
 use Rattle.rule.proofs.DayLaws.{step-month, year-within}
 use Rattle.rule.proofs.PeriodLaws.{day-number}
 use Rattle.matcher.specs.declared.Terms.{Terms}
-use Rattle.matcher.specs.Flags.{monthBy, staysBy}
-use Rattle.matcher.specs.Walk.{stepBy, picksBy, picksOnBy}
+use Rattle.matcher.specs.Inner.Flags.{monthBy, staysBy}
+use Rattle.matcher.specs.Inner.Walk.{stepBy, picksBy, picksOnBy}
 use Rattle.matcher.proofs.WalkLaws.{in-calendar}
-use Rattle.track.specs.Skips.{Without, Between, MonthsUnset, stepAt, stepOn, monthOn, toMonthEnd, daysAhead}
+use Rattle.track.specs.Inner.Skips.{Without, Between, MonthsUnset, stepAt, stepOn, monthOn, toMonthEnd, daysAhead}
 use Rattle.track.proofs.SpanLaws.{Later, in-period}
 
 -- ---- a day and the months of its year

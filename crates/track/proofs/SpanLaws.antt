@@ -18,9 +18,9 @@ use Rattle.rule.proofs.DayLaws.{of-day, step-month, step-year, step-next-year, 
 use Rattle.rule.proofs.PeriodLaws.{day-number}
 use Rattle.matcher.proofs.WalkLaws.{number-is}
 use Rattle.matcher.specs.declared.Terms.{Terms}
-use Rattle.matcher.specs.Walk.{stepBy}
-use Rattle.track.specs.Skips.{Without, stepOn}
-use Rattle.track.specs.Places.{InPeriod}
+use Rattle.matcher.specs.Inner.Walk.{stepBy}
+use Rattle.track.specs.Inner.Skips.{Without, stepOn}
+use Rattle.track.specs.Inner.Places.{InPeriod}
 use Rattle.track.proofs.StepLaws.{SamePeriod, same-period}
 
 pub year-length-of : (n : ℕ) → dayAt n .yeardays ≡ yearLength (dayAt n .year)

@@ -22,11 +22,11 @@ use Rattle.rule.proofs.Counting.{count-more, count-less, count-none, count-spli
 use Rattle.rule.proofs.PeriodLaws.{day-number}
 use Rattle.rule.proofs.DayLaws.{of-day, step-month, step-year, step-next-year}
 use Rattle.matcher.specs.declared.Terms.{Terms}
-use Rattle.matcher.specs.Flags.{Places, named, staysBy}
-use Rattle.matcher.specs.Walk.{Asked, staysOnBy, stepBy, placedBy, picksBy, picksOnBy}
+use Rattle.matcher.specs.Inner.Flags.{Places, named, staysBy}
+use Rattle.matcher.specs.Inner.Walk.{Asked, staysOnBy, stepBy, placedBy, picksBy, picksOnBy}
 use Rattle.matcher.proofs.WalkLaws.{number-is, asked-early, asked-places, asked-small, stays-on, picks-on}
 use Rattle.track.specs.declared.Cursor.{Cursor}
-use Rattle.track.specs.Steps.{isCounted, staying, seenOn, totalOn, cursorOn, cursorAt, Reached, Holding}
+use Rattle.track.specs.Inner.Steps.{isCounted, staying, seenOn, totalOn, cursorOn, cursorAt, Reached, Holding}
 
 -- ---- the next day of the same period
 

@@ -19,9 +19,9 @@ use Rattle.rule.specs.Inner.Bounds.{InCalendar}
 use Rattle.rule.proofs.Bools.{by}
 use Rattle.rule.proofs.DayLaws.{step-month, step-year, step-next-year}
 use Rattle.rule.proofs.PeriodLaws.{day-number}
-use Rattle.matcher.specs.Flags.{monthBy, dateBy, dayBy, nthBy, staysBy}
+use Rattle.matcher.specs.Inner.Flags.{monthBy, dateBy, dayBy, nthBy, staysBy}
 use Rattle.matcher.proofs.WalkLaws.{in-calendar}
-use Rattle.track.specs.Years.{NewYear}
+use Rattle.track.specs.Inner.Years.{NewYear}
 use Rattle.track.proofs.SpanLaws.{Later, in-period, year-length-of}
 
 -- a day of any year

@@ -22,7 +22,7 @@ use Rattle.rule.specs.declared.End.the-variants.{Count}
 use Rattle.rule.specs.Day.{dayAt}
 use Rattle.rule.specs.Lists.{countIn, notAfter}
 use Rattle.rule.specs.Period.{periodOf}
-use Rattle.rule.specs.Read.{untilFrom}
+use Rattle.rule.specs.Inner.Read.{untilFrom}
 use Rattle.rule.specs.Gives.{endDay, onDay}
 use Rattle.rule.specs.Inner.Bounds.{InCalendar}
 use Rattle.rule.proofs.Bools.{by}
@@ -30,13 +30,13 @@ use Rattle.rule.proofs.Counting.{count-nothing, count-most}
 use Rattle.rule.proofs.DayLaws.{day-facts, year-start-of}
 use Rattle.rule.proofs.PeriodLaws.{day-number}
 use Rattle.matcher.specs.declared.Terms.{Terms}
-use Rattle.matcher.specs.Walk.{stepBy, picksOnBy}
-use Rattle.matcher.specs.Member.{isFirst, fallsOnBy}
+use Rattle.matcher.specs.Inner.Walk.{stepBy, picksOnBy}
+use Rattle.matcher.specs.Inner.Member.{isFirst, fallsOnBy}
 use Rattle.matcher.proofs.WalkLaws.{in-calendar}
 use Rattle.track.specs.declared.Rest.{Rest}
-use Rattle.track.specs.Ahead.{Resting}
-use Rattle.track.specs.Years.{ownsPlaces, isAlike, isFar, NewYear, phaseOf, idleIn, isIdle, slotOf, YearBegins, Alike, Spanning, YearAsked, Kept}
-use Rattle.track.specs.Skips.{Without, stepAt, stepOn}
+use Rattle.track.specs.Inner.Ahead.{Resting}
+use Rattle.track.specs.Inner.Years.{ownsPlaces, isAlike, isFar, NewYear, phaseOf, idleIn, isIdle, slotOf, YearBegins, Alike, Spanning, YearAsked, Kept}
+use Rattle.track.specs.Inner.Skips.{Without, stepAt, stepOn}
 use Rattle.track.proofs.LastLaws.{falls-by}
 use Rattle.track.proofs.AheadLaws.{falls-without}
 use Rattle.track.proofs.SkipLaws.{periods-without, skip-out-of-step}

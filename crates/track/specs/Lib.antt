@@ -1,10 +1,1 @@
-pub mod Steps
-pub mod Runs
-pub mod Last
-pub mod Settle
-pub mod Skips
-pub mod Places
-pub mod Plain
-pub mod Alike
-pub mod Ahead
-pub mod Years
+pub mod Inner

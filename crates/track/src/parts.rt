@@ -1,11 +1,11 @@
 // The days of a rule in a run of days, a part of a month at a time.
 ghost use mathlib.Core.Path.{_≡_};
 ghost use lib.ListN.{length};
-ghost use Rattle.matcher.specs.Walk.{Asked, picksOnBy};
-ghost use Rattle.months.specs.Rows.{Kept};
-ghost use Rattle.track.specs.Runs.{marked, Run};
-ghost use Rattle.track.specs.Plain.{InMonth};
-ghost use Rattle.track.specs.Alike.{Way, MarkedMonth};
+ghost use Rattle.matcher.specs.Inner.Walk.{Asked, picksOnBy};
+ghost use Rattle.months.specs.Inner.Rows.{Kept};
+ghost use Rattle.track.specs.Inner.Runs.{marked, Run};
+ghost use Rattle.track.specs.Inner.Plain.{InMonth};
+ghost use Rattle.track.specs.Inner.Alike.{Way, MarkedMonth};
 use matcher::Terms;
 use rule::Day;
 

@@ -1,8 +1,8 @@
 // Set positions that a period has too few days for.
 ghost use mathlib.Core.Path.{_≡_};
 ghost use lib.ListN.{length};
-ghost use Rattle.matcher.specs.Walk.{Asked};
-ghost use Rattle.track.specs.Places.{mostDays, Unset, InPeriod};
+ghost use Rattle.matcher.specs.Inner.Walk.{Asked};
+ghost use Rattle.track.specs.Inner.Places.{mostDays, Unset, InPeriod};
 use matcher::Terms;
 use rule::Day;
 use rule::Frequency;

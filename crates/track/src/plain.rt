@@ -5,9 +5,9 @@ ghost use Prim.Native.Nat.{_<_, _≤_};
 ghost use lib.ListN.{length};
 ghost use Rattle.rule.specs.Day.{dayAt};
 ghost use Rattle.rule.specs.Gives.{endDay};
-ghost use Rattle.matcher.specs.Walk.{Asked, picksOnBy};
-ghost use Rattle.track.specs.Runs.{marked};
-ghost use Rattle.track.specs.Plain.{InMonth, Part};
+ghost use Rattle.matcher.specs.Inner.Walk.{Asked, picksOnBy};
+ghost use Rattle.track.specs.Inner.Runs.{marked};
+ghost use Rattle.track.specs.Inner.Plain.{InMonth, Part};
 use matcher::Terms;
 use rule::Day;
 

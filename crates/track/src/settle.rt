@@ -2,8 +2,8 @@
 ghost use mathlib.Core.Path.{_≡_};
 ghost use Prim.Native.Nat.{_/_, _<_, _≤_};
 ghost use lib.ListN.{length};
-ghost use Rattle.rule.specs.Read.{Sized};
-ghost use Rattle.track.specs.Settle.{Settling, SettledBy};
+ghost use Rattle.rule.specs.Inner.Read.{Sized};
+ghost use Rattle.track.specs.Inner.Settle.{Settling, SettledBy};
 use super::Track;
 use rule::Rule;
 

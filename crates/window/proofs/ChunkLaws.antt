@@ -10,8 +10,8 @@ use Rattle.rule.specs.Lists.{countIn}
 use Rattle.rule.specs.Gives.{endDay}
 use Rattle.rule.proofs.Bools.{by}
 use Rattle.rule.proofs.Counting.{count-split, count-most}
-use Rattle.window.specs.Next.{nextOf, lower, Stretch}
-use Rattle.window.specs.Chunks.{chunkDays, chunkEnd, Window}
+use Rattle.window.specs.Inner.Next.{nextOf, lower, Stretch}
+use Rattle.window.specs.Inner.Chunks.{chunkDays, chunkEnd, Window}
 use Rattle.window.proofs.NextLaws.{next-is, count-over}
 
 pub record Lower (a b r : ℕ) : Type 0 where

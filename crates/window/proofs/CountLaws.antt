@@ -11,8 +11,8 @@ use Rattle.signed.specs.Choose.{if_then_else_}
 use Rattle.rule.specs.Lists.{countIn}
 use Rattle.rule.proofs.Bools.{by}
 use Rattle.rule.proofs.Counting.{count-most, count-split, count-same, count-none, count-nothing}
-use Rattle.dates.specs.Overrides.{isNamed, isKept}
-use Rattle.window.specs.Next.{atHit, isHit, isThere, dayFrom, Stretch}
+use Rattle.dates.specs.Inner.Overrides.{isNamed, isKept}
+use Rattle.window.specs.Inner.Next.{atHit, isHit, isThere, dayFrom, Stretch}
 use Rattle.window.proofs.ChunkLaws.{CountedAt, counted-goes-on}
 use Rattle.window.proofs.HitLaws.{FromDay, from-day, day-low, day-high}
 

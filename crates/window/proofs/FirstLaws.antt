@@ -8,7 +8,7 @@ use lib.Dec.{ltb}
 use borrow.Author.Tests.{ltb-true, ltb-false}
 use Rattle.signed.specs.Choose.{if_then_else_}
 use Rattle.rule.proofs.Bools.{by}
-use Rattle.window.specs.Next.{firstFrom, noneIn}
+use Rattle.window.specs.Inner.Next.{firstFrom, noneIn}
 
 pub first-none : (p : ℕ → Bool) (d : ℕ) → firstFrom p 0 d ≡ d
 unfolding firstFrom

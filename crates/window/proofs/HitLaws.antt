@@ -12,7 +12,7 @@ use Rattle.signed.specs.Choose.{if_then_else_}
 use Rattle.rule.specs.Gives.{endDay}
 use Rattle.rule.proofs.Bools.{by}
 use Rattle.window.proofs.FirstLaws.{First, first-is, first-none, first-here, first-later, first-passed}
-use Rattle.window.specs.Next.{firstFrom, noneIn, nextOf, atHit, TrueAt, isHit, dayFrom, Stretch}
+use Rattle.window.specs.Inner.Next.{firstFrom, noneIn, nextOf, atHit, TrueAt, isHit, dayFrom, Stretch}
 use Rattle.window.proofs.NextLaws.{Next, next-made}
 
 -- ---- the walk through the hits

@@ -10,10 +10,10 @@ use Rattle.rule.specs.Lists.{countIn}
 use Rattle.recurrence.specs.Event.{Event, inSet}
 use Rattle.recurrence.specs.Ids.{secondsFrom, keep, ids}
 use Rattle.recurrence.proofs.Few.{keep-length}
-use Rattle.dates.specs.Loaded.{Loaded, isIn}
-use Rattle.dates.specs.Stands.{Stands}
+use Rattle.dates.specs.Inner.Loaded.{Loaded, isIn}
+use Rattle.dates.specs.Inner.Stands.{Stands}
 use Rattle.dates.proofs.SetLaws.{in-set}
-use Rattle.window.specs.Lists.{listIn}
+use Rattle.window.specs.Inner.Lists.{listIn}
 use Rattle.window.proofs.NextLaws.{Next}
 
 -- ---- as what is kept of the stretch

@@ -10,7 +10,7 @@ use Rattle.rule.specs.Lists.{countIn}
 use Rattle.rule.proofs.Bools.{by, or-left, or-right}
 use Rattle.rule.proofs.Counting.{count-more, count-nothing, count-split}
 use Rattle.window.proofs.FirstLaws.{First, first-is, first-same}
-use Rattle.window.specs.Next.{firstFrom, nextOf, lower}
+use Rattle.window.specs.Inner.Next.{firstFrom, nextOf, lower}
 
 pub record Next (p : ℕ → Bool) (a to r : ℕ) : Type 0 where
   pub low : a ≤ r

@@ -11,8 +11,8 @@ use lib.Seq.{drop-cons, drop-length}
 use borrow.Author.Tests.{ltb-true, ltb-false, eqb-true, eq-eqb, ne-eqb}
 use Rattle.signed.specs.Choose.{if_then_else_}
 use Rattle.rule.proofs.Bools.{by, or-left, or-right}
-use Rattle.dates.specs.Overrides.{counts, isNamed, isKept}
-use Rattle.window.specs.Next.{nearer, leastOf, nextOf}
+use Rattle.dates.specs.Inner.Overrides.{counts, isNamed, isKept}
+use Rattle.window.specs.Inner.Next.{nearer, leastOf, nextOf}
 use Rattle.window.proofs.NextLaws.{next-is, next-made}
 
 neither : (b c : Bool) → ((b && false) || c) ≡ c

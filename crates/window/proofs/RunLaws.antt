@@ -12,11 +12,11 @@ use Rattle.rule.specs.Lists.{countIn}
 use Rattle.rule.specs.Gives.{onDay}
 use Rattle.rule.proofs.Bools.{by}
 use Rattle.rule.proofs.Counting.{count-same}
-use Rattle.track.specs.Runs.{run}
+use Rattle.track.specs.Inner.Runs.{run}
 use Rattle.track.proofs.RunLaws.{run-at}
-use Rattle.dates.specs.Overrides.{isNamed, isKept}
-use Rattle.dates.specs.Loaded.{Loaded, byRules, isIn, isOn}
-use Rattle.window.specs.Next.{nextOf, isHit, isThere, lower, renewed, Stretch}
+use Rattle.dates.specs.Inner.Overrides.{isNamed, isKept}
+use Rattle.dates.specs.Inner.Loaded.{Loaded, byRules, isIn, isOn}
+use Rattle.window.specs.Inner.Next.{nextOf, isHit, isThere, lower, renewed, Stretch}
 use Rattle.window.proofs.NextLaws.{Next, next-is, next-made, next-same, next-lower, next-later, count-next, count-over}
 
 -- ---- what is next in both

@@ -11,9 +11,9 @@ use lib.Seq.{drop-cons, getD-drop}
 use borrow.Author.Tests.{ltb-true, ltb-false, lt-ltb, le-ltb, eqb-true, eqb-false, eq-eqb, ne-eqb}
 use Rattle.signed.specs.Choose.{if_then_else_}
 use Rattle.rule.proofs.Bools.{by}
-use Rattle.dates.specs.Overrides.{counts, isNamed, isKept}
-use Rattle.window.specs.Next.{nextOf, lower}
-use Rattle.window.specs.Sorted.{Rising, lessThan, Below}
+use Rattle.dates.specs.Inner.Overrides.{counts, isNamed, isKept}
+use Rattle.window.specs.Inner.Next.{nextOf, lower}
+use Rattle.window.specs.Inner.Sorted.{Rising, lessThan, Below}
 use Rattle.window.proofs.NextLaws.{Next, next-made}
 
 -- ---- the walk that looks whether they increase

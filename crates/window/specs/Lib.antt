@@ -1,4 +1,1 @@
-pub mod Next
-pub mod Chunks
-pub mod Lists
-pub mod Sorted
+pub mod Inner

@@ -4,10 +4,10 @@ ghost use Prim.Native.Nat.{_+_, _-_, _*_, _/_, _<_, _≤_};
 ghost use lib.ListN.{length};
 ghost use Rattle.rule.specs.Gives.{endDay};
 ghost use Rattle.rule.specs.Lists.{countIn};
-ghost use Rattle.dates.specs.Tracked.{Tracked};
-ghost use Rattle.dates.specs.Loaded.{loaded, isIn};
-ghost use Rattle.window.specs.Next.{nextOf, isThere, Stretch};
-ghost use Rattle.window.specs.Chunks.{chunkDays, chunkEnd, Window};
+ghost use Rattle.dates.specs.Inner.Tracked.{Tracked};
+ghost use Rattle.dates.specs.Inner.Loaded.{loaded, isIn};
+ghost use Rattle.window.specs.Inner.Next.{nextOf, isThere, Stretch};
+ghost use Rattle.window.specs.Inner.Chunks.{chunkDays, chunkEnd, Window};
 use dates::Tracks;
 
 // How many days of the hits a chunk takes that begins on the day of `at`.

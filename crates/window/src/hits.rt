@@ -4,7 +4,7 @@ ghost use Prim.Native.Nat.{_+_, _-_, _<_, _≤_};
 ghost use lib.ListN.{length};
 ghost use Rattle.signed.specs.Choose.{if_then_else_};
 ghost use Rattle.rule.specs.Lists.{countIn};
-ghost use Rattle.window.specs.Next.{atHit, isHit, Few, Stretch};
+ghost use Rattle.window.specs.Inner.Next.{atHit, isHit, Few, Stretch};
 use super::next::day_from;
 
 fn one(hit: bool) -> u8

@@ -4,9 +4,9 @@ ghost use mathlib.Core.Path.{_≡_};
 ghost use Prim.Native.Nat.{_+_, _-_, _≤_};
 ghost use lib.ListN.{length};
 ghost use Rattle.signed.specs.Choose.{if_then_else_};
-ghost use Rattle.dates.specs.Overrides.{isNamed, isKept};
-ghost use Rattle.window.specs.Sorted.{Ordered};
-ghost use Rattle.window.specs.Next.{firstFrom, noneIn, nextOf, atHit, TrueAt, isHit, dayFrom, nearer, leastOf, lower, renewed, Stretch};
+ghost use Rattle.dates.specs.Inner.Overrides.{isNamed, isKept};
+ghost use Rattle.window.specs.Inner.Sorted.{Ordered};
+ghost use Rattle.window.specs.Inner.Next.{firstFrom, noneIn, nextOf, atHit, TrueAt, isHit, dayFrom, nearer, leastOf, lower, renewed, Stretch};
 use super::sorted::next_sorted;
 
 // Whether an override names x: any, or one that is excluded.

@@ -3,9 +3,9 @@ ghost use mathlib.Core.Bool.{true};
 ghost use mathlib.Core.Path.{_≡_};
 ghost use Prim.Native.Nat.{_≤_};
 ghost use lib.ListN.{length};
-ghost use Rattle.dates.specs.Overrides.{isKept};
-ghost use Rattle.window.specs.Next.{nextOf, lower};
-ghost use Rattle.window.specs.Sorted.{Rising, Ordered, Below};
+ghost use Rattle.dates.specs.Inner.Overrides.{isKept};
+ghost use Rattle.window.specs.Inner.Next.{nextOf, lower};
+ghost use Rattle.window.specs.Inner.Sorted.{Rising, Ordered, Below};
 
 // Is each id less than the one behind it?
 pub fn rises(ids: &[u64]) -> bool

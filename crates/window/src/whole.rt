@@ -4,9 +4,9 @@ ghost use mathlib.Core.Path.{_≡_};
 ghost use Prim.Native.Nat.{_+_, _-_, _/_};
 ghost use lib.ListN.{length};
 ghost use Rattle.rule.specs.Lists.{countIn};
-ghost use Rattle.dates.specs.Loaded.{loaded, isIn};
-ghost use Rattle.window.specs.Next.{nextOf, Stretch};
-ghost use Rattle.window.specs.Chunks.{Window, Ready};
+ghost use Rattle.dates.specs.Inner.Loaded.{loaded, isIn};
+ghost use Rattle.window.specs.Inner.Next.{nextOf, Stretch};
+ghost use Rattle.window.specs.Inner.Chunks.{Window, Ready};
 use dates::Tracks;
 
 fn count_chunk(

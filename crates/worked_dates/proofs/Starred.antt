@@ -30,8 +30,8 @@ use Rattle.table.specs.Window.{since1600, since1970, validWindow}
 use Rattle.table.specs.Occurrence.{datesOf, occurrences, overrideAt, withStart, patchedBy, detailsAt}
 use Rattle.table.specs.Bytes.{ZoneTable, utcOf, secondsIn, marksOf, recordOf, recordsOf, trailerOf, listed, tableOf}
 use Rattle.table.specs.Answer.{Outcome, otherZone, answerFor, outcomeBy, expanded}
-use Rattle.worked_dates.specs.Written.{Case, on, lasting, eventOf, rule, row, floatingRows, noZone, dated, ruled, timed}
-use Rattle.worked_dates.specs.Cases.{newYork, losAngeles, melbourne, starred}
+use Rattle.worked_dates.specs.Inner.Written.{Case, on, lasting, eventOf, rule, row, floatingRows, noZone, dated, ruled, timed}
+use Rattle.worked_dates.specs.Inner.Cases.{newYork, losAngeles, melbourne, starred}
 
 -- ---- the ids from their candidates, a form that is computed: no proof goes through the seconds of the window
 

@@ -8,14 +8,14 @@ use lib.ListN.{length, length-append}
 use lib.Seq.{sets, length-sets}
 use Rattle.rule.specs.Lists.{countIn}
 use Rattle.rule.proofs.Counting.{count-same, count-split}
-use Rattle.track.specs.Runs.{run}
-use Rattle.dates.specs.Loaded.{Loaded, isIn, isOn}
+use Rattle.track.specs.Inner.Runs.{run}
+use Rattle.dates.specs.Inner.Loaded.{Loaded, isIn, isOn}
 use Rattle.record.proofs.RowLaws.{sets-append}
-use Rattle.window.specs.Next.{isThere, Stretch}
+use Rattle.window.specs.Inner.Next.{isThere, Stretch}
 use Rattle.window.proofs.RunLaws.{run-there}
-use Rattle.window.specs.Lists.{listIn}
-use Rattle.writing.specs.Rows.{rowsOf}
-use Rattle.writing.specs.Runs.{Written}
+use Rattle.window.specs.Inner.Lists.{listIn}
+use Rattle.writing.specs.Inner.Rows.{rowsOf}
+use Rattle.writing.specs.Inner.Runs.{Written}
 use Rattle.window.proofs.ListLaws.{list-same, list-split, list-length}
 use Rattle.writing.proofs.WriteLaws.{WriteAt}
 

@@ -18,12 +18,12 @@ use Rattle.event.specs.Reading.{Reading}
 use Rattle.table.specs.Occurrence.{withStart}
 use Rattle.override_text.specs.declared.Patch.{Patch}
 use Rattle.override_text.specs.declared.Own.{Own}
-use Rattle.override_text.specs.Meaning.{overrideIn, detailsIn}
-use Rattle.override_text.specs.Patched.{patchAt}
+use Rattle.override_text.specs.Inner.Meaning.{overrideIn, detailsIn}
+use Rattle.override_text.specs.Inner.Patched.{patchAt}
 use Rattle.record.specs.declared.Times.{Times}
-use Rattle.record.specs.Occurrences.{occurrenceRow, Small}
+use Rattle.record.specs.Inner.Occurrences.{occurrenceRow, Small}
 use Rattle.writing.proofs.WriteLaws.{row-length}
-use Rattle.writing.specs.Details.{patchDetails, detailsBy, Passed, timesFrom, timesIn, patchTimes, rowBy, ownRow}
+use Rattle.writing.specs.Inner.Details.{patchDetails, detailsBy, Passed, timesFrom, timesIn, patchTimes, rowBy, ownRow}
 
 -- ---- a patch that was read
 

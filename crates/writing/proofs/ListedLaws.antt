@@ -7,7 +7,7 @@ use native.Mathlib.Omega.{arith}
 use lib.ListN.{length, getD, drop, drop-of-length-le}
 use lib.Seq.{sets, length-sets, drop-cons}
 use Rattle.record.proofs.RowLaws.{sets-append}
-use Rattle.writing.specs.Rows.{rowsOf}
+use Rattle.writing.specs.Inner.Rows.{rowsOf}
 
 -- Before the i-th of the days, with the buffer `buf` and the place `place`.
 pub record ListAt (row : ℕ → List ℕ) (f : ℕ → ℕ) (days before : List ℕ) (i place : ℕ) (buf : List ℕ) : Type 0 where

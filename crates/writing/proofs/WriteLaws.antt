@@ -11,18 +11,18 @@ use Rattle.rule.specs.Lists.{countIn}
 use Rattle.rule.proofs.Counting.{count-most}
 use Rattle.little_endian.specs.Bytes.{bytesOf, twos}
 use Rattle.little_endian.proofs.ByteLaws.{bytes-length}
-use Rattle.record.specs.Rows.{rowOf}
-use Rattle.record.specs.Occurrences.{occurrenceRow}
+use Rattle.record.specs.Inner.Rows.{rowOf}
+use Rattle.record.specs.Inner.Occurrences.{occurrenceRow}
 use Rattle.record.proofs.RowLaws.{sets-append}
 use Rattle.event.specs.Types.{Details}
-use Rattle.dates.specs.Overrides.{isKept}
-use Rattle.window.specs.Next.{nextOf, isHit, isThere, lower, renewed}
+use Rattle.dates.specs.Inner.Overrides.{isKept}
+use Rattle.window.specs.Inner.Next.{nextOf, isHit, isThere, lower, renewed}
 use Rattle.window.proofs.NextLaws.{Next, next-is, count-next, count-over}
 use Rattle.window.proofs.RunLaws.{there-next, renewed-is}
-use Rattle.window.specs.Lists.{listIn}
-use Rattle.writing.specs.Rows.{rowsOf}
-use Rattle.writing.specs.Details.{rowBy}
-use Rattle.writing.specs.Runs.{Written}
+use Rattle.window.specs.Inner.Lists.{listIn}
+use Rattle.writing.specs.Inner.Rows.{rowsOf}
+use Rattle.writing.specs.Inner.Details.{rowBy}
+use Rattle.writing.specs.Inner.Runs.{Written}
 use Rattle.window.proofs.ListLaws.{list-length, list-next, list-over}
 
 -- ---- a row has 28 bytes

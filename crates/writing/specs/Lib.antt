@@ -1,3 +1,1 @@
-pub mod Rows
-pub mod Details
-pub mod Runs
+pub mod Inner

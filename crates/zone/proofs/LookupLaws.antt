@@ -12,7 +12,7 @@ use lib.ListN.{length, getD, drop, drop-of-length-le}
 use lib.Signed.{leZ, ltZ}
 use Rattle.signed.specs.Choose.{if_then_else_}
 use Rattle.zone.specs.Table.{Transition, transitions, mark, within, allWithin, increasing, validTable}
-use Rattle.zone.specs.Places.{markAt}
+use Rattle.zone.specs.Inner.Places.{markAt}
 use Rattle.zone.specs.Lookup.{lastAfter, offsetAt, utcAt}
 use Rattle.zone.proofs.RangeLaws.{and-left, and-right, range-abs, difference-abs}
 use Rattle.zone.proofs.OrderLaws.{lt-not-le, not-lt-le, not-lt-smaller, lt-trans, increasing-drop, neighbours}

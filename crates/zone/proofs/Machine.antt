@@ -14,7 +14,7 @@ use mir.Facts.{toZ-ofZ}
 use Rattle.signed.proofs.Parts.{back}
 use Rattle.zone.specs.Table.{larger, within, allWithin, increasing, validTable}
 use Rattle.zone.specs.Lookup.{offsetAt}
-use Rattle.zone.specs.Places.{InRange, markAt}
+use Rattle.zone.specs.Inner.Places.{InRange, markAt}
 use Rattle.zone.proofs.RangeLaws.{range-at, sum-abs, difference-abs, abs-fits}
 use Rattle.zone.proofs.OrderLaws.{ends-first, ends-last}
 use Rattle.zone.proofs.TableLaws.{valid-gives}

@@ -1,3 +1,3 @@
 pub mod Table
 pub mod Lookup
-pub mod Places
+pub mod Inner

@@ -5,7 +5,7 @@ use lib.ListN.{length, drop}
 use borrow.Author.Needs.{needs}
 use borrow.Author.Tests.{not-true, not-false}
 use Rattle.digits.specs.Fraction.{legalFraction}
-use Rattle.digits.specs.Judged.{judged}
+use Rattle.digits.specs.Inner.Judged.{judged}
 use Rattle.digits.proofs.Laws.{judged-legal, judged-turn, judged-end}
 use Rattle.digits.proofs.legal_fraction.Statement.{statement}
 use Rattle.digits.proofs.legal_fraction.Tie as tie

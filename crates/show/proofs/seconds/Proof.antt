@@ -1,7 +1,7 @@
 -- `show::seconds` asks for the moment of seconds within the calendar only.
 use mir.Syntax.{w64}
 use mir.Val.{toZ, ofZ}
-use Rattle.gregorian.specs.Seconds.{InCalendar}
+use Rattle.gregorian.specs.Inner.Seconds.{InCalendar}
 use Rattle.gregorian.proofs.SecondLaws.{day-within}
 use borrow.Author.Needs.{needs}
 use Rattle.show.proofs.seconds.Statement.{statement}

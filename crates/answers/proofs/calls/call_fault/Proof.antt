@@ -1,7 +1,7 @@
 -- `call_fault` meets its contract: the tests in the order of the answers.
 use borrow.Author.Tests.{not-false, not-true}
 use borrow.Author.Needs.{needs}
-use Rattle.answers.specs.Refusal.{refusalFor}
+use Rattle.answers.specs.Inner.Refusal.{refusalFor}
 use Rattle.answers.proofs.RefusalLaws.{table-was, window-was}
 use Rattle.answers.proofs.calls.call_fault.Statement.{statement}
 use Rattle.answers.proofs.calls.call_fault.Tie as tie

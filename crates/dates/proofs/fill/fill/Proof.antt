@@ -1,6 +1,6 @@
 -- `dates::fill::fill` meets its contract.
 use Rattle.dates.proofs.FillLaws.{filled}
-use Rattle.dates.specs.Loaded.{loaded}
+use Rattle.dates.specs.Inner.Loaded.{loaded}
 use borrow.Author.Needs.{needs}
 use Rattle.dates.proofs.fill.fill.Statement.{statement}
 use Rattle.dates.proofs.fill.fill.Tie as tie

@@ -1,5 +1,5 @@
 -- `dates::load::put_track` meets its contract.
-use Rattle.dates.specs.Load.{put}
+use Rattle.dates.specs.Inner.Load.{put}
 use mathlib.Core.Path.{_≡_, refl}
 use borrow.Author.Needs.{needs}
 use Rattle.dates.proofs.load.put_track.Statement.{statement}

@@ -1,5 +1,5 @@
 -- `dates::load::settle_row` meets its contract.
-use Rattle.track.specs.Settle.{SettledBy}
+use Rattle.track.specs.Inner.Settle.{SettledBy}
 use lib.ListN.{replicate}
 use mathlib.Core.Path.{_≡_, sym, ap, _∙_, subst}
 use mathlib.Core.List.{List}

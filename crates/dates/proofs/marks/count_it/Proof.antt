@@ -1,5 +1,5 @@
 -- `dates::marks::count_it` meets its contract.
-use Rattle.dates.specs.Overrides.{counts}
+use Rattle.dates.specs.Inner.Overrides.{counts}
 use Rattle.dates.proofs.marks.count_it.Statement.{statement}
 use Rattle.dates.proofs.marks.count_it.Tie as tie
 

@@ -1,5 +1,5 @@
 -- `event_loading::limits::limit_of` meets its contract.
-use Rattle.event_loading.specs.Limit.{limitOf}
+use Rattle.event_loading.specs.Inner.Limit.{limitOf}
 use borrow.Author.Tests.{le-ltb, lt-ltb}
 use borrow.Author.Needs.{needs}
 use Rattle.event_loading.proofs.limits.limit_of.Statement.{statement}

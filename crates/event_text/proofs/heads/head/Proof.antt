@@ -1,6 +1,6 @@
 -- `event_text::heads::head` meets its contract.
 use borrow.Author.Tests.{eq-eqb, ne-eqb}
-use Rattle.event_text.specs.Front.{inner}
+use Rattle.event_text.specs.Inner.Front.{inner}
 use Rattle.event_text.proofs.Objects.{front-object, front-none}
 use borrow.Author.Needs.{needs}
 use Rattle.event_text.proofs.heads.head.Statement.{statement}

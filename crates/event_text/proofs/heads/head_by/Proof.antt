@@ -1,7 +1,7 @@
 -- `event_text::heads::head_by` meets its contract.
-use Rattle.event_text.specs.Front.{frontIn}
+use Rattle.event_text.specs.Inner.Front.{frontIn}
 use Rattle.property.proofs.RowLaws.{value}
-use Rattle.property.specs.Vocabulary.{vocabulary, wordOf}
+use Rattle.property.specs.Inner.Vocabulary.{vocabulary, wordOf}
 use Rattle.json_text.specs.Ascii.{ascii}
 use native.Mathlib.Omega.{arith}
 use borrow.Author.Needs.{needs}

@@ -1,6 +1,6 @@
 -- `event_text::own::own_details` meets its contract.
 use Rattle.event.specs.Event.{detailsIn}
-use Rattle.property.specs.Vocabulary.{vocabulary, wordOf}
+use Rattle.property.specs.Inner.Vocabulary.{vocabulary, wordOf}
 use native.Mathlib.Omega.{arith}
 use borrow.Author.Needs.{needs}
 use Rattle.event_text.proofs.own.own_details.Statement.{statement}

@@ -3,7 +3,7 @@ use borrow.Author.Tests.{eq-eqb, ne-eqb}
 use mathlib.Core.Path.{_∙_}
 use Rattle.event_text.proofs.Events.{fault-none, fault-some, front-some}
 use Rattle.event_text.proofs.Objects.{tree-object, tree-none}
-use Rattle.event_text.specs.Front.{inner}
+use Rattle.event_text.specs.Inner.Front.{inner}
 use borrow.Author.Needs.{needs}
 use Rattle.event_text.proofs.whole.event_fault.Statement.{statement}
 use Rattle.event_text.proofs.whole.event_fault.Tie as tie

@@ -1,5 +1,5 @@
 -- `event_text::whole::lists_fault` meets its contract.
-use Rattle.event_text.specs.Front.{listsFault}
+use Rattle.event_text.specs.Inner.Front.{listsFault}
 use borrow.Author.Needs.{needs}
 use Rattle.event_text.proofs.whole.lists_fault.Statement.{statement}
 use Rattle.event_text.proofs.whole.lists_fault.Tie as tie

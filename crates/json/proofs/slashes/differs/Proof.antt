@@ -1,6 +1,6 @@
 use borrow.Author.Needs.{needs}
 use borrow.Author.Tests.{eq-eqb, ne-eqb}
-use Rattle.json.specs.Slashes.{differ}
+use Rattle.json.specs.Inner.Slashes.{differ}
 use Rattle.json.proofs.slashes.differs.Statement.{statement}
 use Rattle.json.proofs.slashes.differs.Tie as tie
 

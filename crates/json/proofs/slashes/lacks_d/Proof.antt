@@ -1,6 +1,6 @@
 use borrow.Author.Needs.{needs}
 use borrow.Author.Tests.{eq-eqb, ne-eqb}
-use Rattle.json.specs.Slashes.{lacksD}
+use Rattle.json.specs.Inner.Slashes.{lacksD}
 use Rattle.json.proofs.slashes.lacks_d.Statement.{statement}
 use Rattle.json.proofs.slashes.lacks_d.Tie as tie
 

@@ -3,7 +3,7 @@ use mathlib.Core.Bool.{true, false}
 use mathlib.Core.Path.{_≡_}
 use borrow.Author.Needs.{needs}
 use lib.ListN.{length}
-use Rattle.json.specs.Slashes.{NoFront}
+use Rattle.json.specs.Inner.Slashes.{NoFront}
 use Rattle.json.proofs.Free.{free-none, free-more, free-all, not-both}
 use Rattle.json.proofs.slashes.surrogate_free.Statement.{statement}
 use Rattle.json.proofs.slashes.surrogate_free.Tie as tie

@@ -1,5 +1,5 @@
 use Prim.Native.Nat.{_*_, _+_, _-_}
-use Rattle.json_ends.specs.Ends.{Ends}
+use Rattle.json_ends.specs.Inner.Ends.{Ends}
 use Rattle.json_value.proofs.Laws.{array-none, array-step, elements-none, elements-step, members-none, members-step, object-none, object-step, value-step}
 use Rattle.json_value.specs.Values.{arrayOf, elementsAt, membersAt, objectOf, valueAt, valueOf}
 use Rattle.json_value.specs.Inner.Groups.{arrayAt, objectAt}

@@ -1,6 +1,6 @@
 use Prim.Native.Nat.{_*_, _+_, _≤_}
-use Rattle.json_names.specs.Names.{anyElement, faultAt}
-use Rattle.json_names.specs.Walked.{anyFault}
+use Rattle.json_names.specs.Inner.Names.{anyElement, faultAt}
+use Rattle.json_names.specs.Inner.Walked.{anyFault}
 use Rattle.json_walk.specs.Walk.{elementsFrom, elementsOf, membersFrom, membersOf}
 use Rattle.json_walk.proofs.Walks.{members-one, members-end, members-none, elements-one, elements-end, elements-none}
 use Rattle.json_names.proofs.Laws.{fault-step, fault-none}

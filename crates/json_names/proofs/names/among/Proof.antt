@@ -1,6 +1,6 @@
 use Rattle.json_walk.proofs.Walks.{members-one, members-end}
 use Rattle.json_walk.proofs.Walks.{members-none}
-use Rattle.json_names.specs.Names.{named}
+use Rattle.json_names.specs.Inner.Names.{named}
 use Rattle.json_walk.specs.Strings.{rawAt}
 use Rattle.json_walk.specs.Walk.{membersFrom, nextMemberAt}
 use borrow.Author.Needs.{needs}

@@ -1,6 +1,6 @@
 use borrow.Author.Needs.{needs}
 use borrow.Author.Tests.{eq-eqb, ne-eqb}
-use Rattle.json_names.specs.Walked.{opener}
+use Rattle.json_names.specs.Inner.Walked.{opener}
 use Rattle.json_names.proofs.opening.opens.Statement.{statement}
 use Rattle.json_names.proofs.opening.opens.Tie as tie
 

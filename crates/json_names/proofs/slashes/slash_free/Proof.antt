@@ -3,7 +3,7 @@ use mathlib.Core.Bool.{true, false}
 use mathlib.Core.Path.{_≡_}
 use borrow.Author.Needs.{needs}
 use lib.ListN.{length}
-use Rattle.json_names.specs.Slashes.{NoSlash}
+use Rattle.json_names.specs.Inner.Slashes.{NoSlash}
 use Rattle.json_names.proofs.Clean.{clean-none, clean-more, clean-all, not-clean}
 use Rattle.json_names.proofs.slashes.slash_free.Statement.{statement}
 use Rattle.json_names.proofs.slashes.slash_free.Tie as tie

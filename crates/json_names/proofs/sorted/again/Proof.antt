@@ -1,6 +1,6 @@
 use Rattle.json_walk.proofs.Walks.{members-one}
 use Rattle.json_names.proofs.Sorting.{repeats-here, repeats-later, not-both}
-use Rattle.json_names.specs.Names.{repeats}
+use Rattle.json_names.specs.Inner.Names.{repeats}
 use Rattle.json_walk.specs.Walk.{membersFrom, membersOf}
 use borrow.Author.Needs.{needs}
 use mathlib.Core.Bool.{true}

@@ -1,7 +1,7 @@
 use mathlib.Core.Path.{sym, _∙_}
 use Rattle.json_walk.proofs.Walks.{members-one, members-end, members-none}
 use Rattle.json_names.proofs.Sorting.{not-both}
-use Rattle.json_names.specs.Order.{Covered}
+use Rattle.json_names.specs.Inner.Order.{Covered}
 use Rattle.json_walk.specs.Walk.{membersFrom, membersOf}
 use borrow.Author.Needs.{needs}
 use Rattle.json_names.proofs.sorted.covered.Statement.{statement}

@@ -1,6 +1,6 @@
 use borrow.Author.Count.{below-none, below-more}
 use borrow.Author.Tests.{not-false}
-use Rattle.json_names.specs.Order.{Rising}
+use Rattle.json_names.specs.Inner.Order.{Rising}
 use Prim.Native.Nat.{_-_}
 use borrow.Author.Needs.{needs}
 use Rattle.json_names.proofs.sorted.rising.Statement.{statement}

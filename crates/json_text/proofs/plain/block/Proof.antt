@@ -1,7 +1,7 @@
 use Prim.Native.Nat.{ℕ, _≤_, _-_}
 use mathlib.Core.Path.{_≡_}
 use borrow.Author.Needs.{needs}
-use Rattle.json_text.specs.Plain.{PlainRun}
+use Rattle.json_text.specs.Inner.Plain.{PlainRun}
 use Rattle.json_text.proofs.Blocks.{run-none, run-more, run-all, not-both}
 use Rattle.json_text.proofs.plain.block.Statement.{statement}
 use Rattle.json_text.proofs.plain.block.Tie as tie

@@ -4,7 +4,7 @@ use native.Mathlib.Omega.{arith}
 use borrow.Author.Needs.{needs}
 use borrow.Author.Tests.{not-false}
 use lib.ListN.{length}
-use Rattle.json_text.specs.Plain.{plainAt}
+use Rattle.json_text.specs.Inner.Plain.{plainAt}
 use Rattle.json_text.proofs.Blocks.{run-on}
 use Rattle.json_text.proofs.plain.blocks.Statement.{statement}
 use Rattle.json_text.proofs.plain.blocks.Tie as tie

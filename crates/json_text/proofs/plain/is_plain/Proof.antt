@@ -1,6 +1,6 @@
 -- `is_plain` meets its contract: it asks what the definition asks, in its order.
 use borrow.Author.Tests.{eq-eqb, ne-eqb, lt-ltb, le-ltb}
-use Rattle.json_text.specs.Plain.{isPlain}
+use Rattle.json_text.specs.Inner.Plain.{isPlain}
 use Rattle.json_text.proofs.plain.is_plain.Statement.{statement}
 use Rattle.json_text.proofs.plain.is_plain.Tie as tie
 

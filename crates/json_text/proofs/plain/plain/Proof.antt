@@ -3,7 +3,7 @@ use mathlib.Core.Path.{_≡_, sym, _∙_}
 use native.Mathlib.Omega.{arith}
 use borrow.Author.Needs.{needs}
 use Rattle.json_text.specs.Bytes.{past}
-use Rattle.json_text.specs.Plain.{plainAt}
+use Rattle.json_text.specs.Inner.Plain.{plainAt}
 use Rattle.json_text.proofs.Skip.{some-plain, plain-more, plain-stop}
 use Rattle.json_text.proofs.plain.plain.Statement.{statement}
 use Rattle.json_text.proofs.plain.plain.Tie as tie

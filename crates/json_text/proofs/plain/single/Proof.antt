@@ -5,7 +5,7 @@ use native.Mathlib.Omega.{arith}
 use lib.ListN.{length}
 use borrow.Author.Needs.{needs}
 use Rattle.json_text.specs.Bytes.{past}
-use Rattle.json_text.specs.Plain.{plainAt}
+use Rattle.json_text.specs.Inner.Plain.{plainAt}
 use Rattle.json_text.proofs.Skip.{some-plain, plain-more, plain-stop}
 use Rattle.json_text.proofs.plain.single.Statement.{statement}
 use Rattle.json_text.proofs.plain.single.Tie as tie

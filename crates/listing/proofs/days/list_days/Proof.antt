@@ -1,9 +1,9 @@
 -- `listing::days::list_days` meets its contract. The invariant: the days so far stand in the list, and what is kept of the kinds of months is right.
 use Rattle.listing.proofs.DayLaws.{DaysAt, days-start, not-listed, days-end, days-pass, days-part, days-rest}
 use Rattle.listing.proofs.PartLaws.{kinds-none, part-few}
-use Rattle.listing.specs.Parts.{Kinds}
+use Rattle.listing.specs.Inner.Parts.{Kinds}
 use Rattle.rule.specs.Day.{dayAt}
-use Rattle.matcher.specs.Walk.{picksOnBy}
+use Rattle.matcher.specs.Inner.Walk.{picksOnBy}
 use Rattle.matcher.proofs.WalkLaws.{number-is, day-again}
 use Rattle.track.proofs.PlainLaws.{month-at}
 use Prim.Native.Nat.{_+_, _-_}

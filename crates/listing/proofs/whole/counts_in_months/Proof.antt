@@ -4,7 +4,7 @@ use mathlib.Core.Path.{_≡_, refl, sym, ap, _∙_}
 use borrow.Author.Tests.{not-true, not-false}
 use Rattle.rule.specs.declared.Frequency.{Frequency}
 use Rattle.rule.specs.declared.Frequency.the-variants.{Daily, Weekly, Monthly, Yearly}
-use Rattle.listing.specs.Parts.{isMonthly}
+use Rattle.listing.specs.Inner.Parts.{isMonthly}
 use borrow.Author.Needs.{needs}
 use Rattle.listing.proofs.whole.counts_in_months.Statement.{statement}
 use Rattle.listing.proofs.whole.counts_in_months.Tie as tie

@@ -1,5 +1,5 @@
 -- `listing::whole::is_monthly` meets its contract: the tests of the definition in their order.
-use Rattle.listing.specs.Parts.{isMonthly}
+use Rattle.listing.specs.Inner.Parts.{isMonthly}
 use borrow.Author.Needs.{needs}
 use Rattle.listing.proofs.whole.is_monthly.Statement.{statement}
 use Rattle.listing.proofs.whole.is_monthly.Tie as tie

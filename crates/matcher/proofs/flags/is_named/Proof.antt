@@ -1,5 +1,5 @@
 -- `matcher::flags::is_named` meets its contract: the flag of the place, else that of the place from the end.
-use Rattle.matcher.specs.Flags.{named}
+use Rattle.matcher.specs.Inner.Flags.{named}
 use borrow.Author.Needs.{needs}
 use Rattle.matcher.proofs.flags.is_named.Statement.{statement}
 use Rattle.matcher.proofs.flags.is_named.Tie as tie

@@ -1,5 +1,5 @@
 -- `matcher::flags::is_nth` meets its contract: the tests of the definition in their order.
-use Rattle.matcher.specs.Flags.{nthBy}
+use Rattle.matcher.specs.Inner.Flags.{nthBy}
 use borrow.Author.Needs.{needs}
 use Rattle.matcher.proofs.flags.is_nth.Statement.{statement}
 use Rattle.matcher.proofs.flags.is_nth.Tie as tie

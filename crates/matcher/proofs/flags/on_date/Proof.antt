@@ -1,5 +1,5 @@
 -- `matcher::flags::on_date` meets its contract: the tests of the definition in their order.
-use Rattle.matcher.specs.Flags.{dateBy}
+use Rattle.matcher.specs.Inner.Flags.{dateBy}
 use borrow.Author.Needs.{needs}
 use Rattle.matcher.proofs.flags.on_date.Statement.{statement}
 use Rattle.matcher.proofs.flags.on_date.Tie as tie

@@ -1,5 +1,5 @@
 -- `matcher::flags::on_day` meets its contract: the tests of the definition in their order.
-use Rattle.matcher.specs.Flags.{dayBy}
+use Rattle.matcher.specs.Inner.Flags.{dayBy}
 use borrow.Author.Needs.{needs}
 use Rattle.matcher.proofs.flags.on_day.Statement.{statement}
 use Rattle.matcher.proofs.flags.on_day.Tie as tie

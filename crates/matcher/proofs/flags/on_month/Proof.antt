@@ -1,5 +1,5 @@
 -- `matcher::flags::on_month` meets its contract: the tests of the definition in their order.
-use Rattle.matcher.specs.Flags.{monthBy}
+use Rattle.matcher.specs.Inner.Flags.{monthBy}
 use borrow.Author.Needs.{needs}
 use Rattle.matcher.proofs.flags.on_month.Statement.{statement}
 use Rattle.matcher.proofs.flags.on_month.Tie as tie

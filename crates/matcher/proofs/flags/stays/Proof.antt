@@ -1,5 +1,5 @@
 -- `matcher::flags::stays` meets its contract: the tests of the definition in their order.
-use Rattle.matcher.specs.Flags.{staysBy}
+use Rattle.matcher.specs.Inner.Flags.{staysBy}
 use borrow.Author.Tests.{not-false, not-true}
 use borrow.Author.Needs.{needs}
 use Rattle.matcher.proofs.flags.stays.Statement.{statement}

@@ -1,5 +1,5 @@
 -- `matcher::marks::mark` meets its contract: the tests of the definition in their order.
-use Rattle.matcher.specs.Marks.{markOne}
+use Rattle.matcher.specs.Inner.Marks.{markOne}
 use borrow.Author.Tests.{le-ltb, lt-ltb}
 use borrow.Author.Needs.{needs}
 use Rattle.matcher.proofs.marks.mark.Statement.{statement}

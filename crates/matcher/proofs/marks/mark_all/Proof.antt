@@ -1,7 +1,7 @@
 -- `matcher::marks::mark_all` meets its contract: what is marked from here on is what is marked from the start on.
 use native.Mathlib.Omega.{arith}
 use Rattle.matcher.proofs.MarkLaws.{AllAt, all-starts, all-goes-on, all-ends}
-use Rattle.matcher.specs.Marks.{markAll}
+use Rattle.matcher.specs.Inner.Marks.{markAll}
 use borrow.Author.Needs.{needs}
 use Rattle.matcher.proofs.marks.mark_all.Statement.{statement}
 use Rattle.matcher.proofs.marks.mark_all.Tie as tie

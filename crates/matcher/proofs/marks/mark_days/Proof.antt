@@ -5,8 +5,8 @@ use lib.IntN.{pos}
 use lib.ListN.{length, getD}
 use borrow.Author.Needs.{needs}
 use Rattle.signed.proofs.Parts.{passed}
-use Rattle.rule.specs.Read.{nthFrom}
-use Rattle.matcher.specs.Marks.{markNth}
+use Rattle.rule.specs.Inner.Read.{nthFrom}
+use Rattle.matcher.specs.Inner.Marks.{markNth}
 use Rattle.matcher.proofs.MarkLaws.{DaysAt, days-starts, days-goes-on, days-ends}
 use Rattle.matcher.proofs.marks.mark_days.Statement.{statement}
 use Rattle.matcher.proofs.marks.mark_days.Tie as tie

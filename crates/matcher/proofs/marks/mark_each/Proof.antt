@@ -3,7 +3,7 @@ use Prim.Native.Nat.{_-_}
 use native.Mathlib.Omega.{arith}
 use lib.ListN.{length}
 use Rattle.matcher.proofs.MarkLaws.{EachAt, each-starts, each-goes-on, each-ends}
-use Rattle.matcher.specs.Marks.{markEach}
+use Rattle.matcher.specs.Inner.Marks.{markEach}
 use borrow.Author.Needs.{needs}
 use Rattle.matcher.proofs.marks.mark_each.Statement.{statement}
 use Rattle.matcher.proofs.marks.mark_each.Tie as tie

@@ -2,7 +2,7 @@
 use mathlib.Core.Option.{some}
 use Rattle.signed.specs.Parts.{posPart, negPart}
 use Rattle.signed.proofs.Parts.{passed}
-use Rattle.matcher.specs.Marks.{markNth}
+use Rattle.matcher.specs.Inner.Marks.{markNth}
 use Rattle.matcher.proofs.MarkLaws.{nth-on, nth-back, nth-none}
 use borrow.Author.Needs.{needs}
 use Rattle.matcher.proofs.marks.mark_nth.Statement.{statement}

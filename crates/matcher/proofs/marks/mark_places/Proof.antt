@@ -2,7 +2,7 @@
 use Prim.Native.Nat.{_-_}
 use native.Mathlib.Omega.{arith}
 use lib.ListN.{length}
-use Rattle.matcher.specs.Marks.{markPlace}
+use Rattle.matcher.specs.Inner.Marks.{markPlace}
 use Rattle.signed.proofs.Parts.{passed}
 use Rattle.matcher.proofs.MarkLaws.{PlacesAt, places-starts, places-goes-on, places-ends}
 use borrow.Author.Needs.{needs}

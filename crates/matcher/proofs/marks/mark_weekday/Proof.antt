@@ -1,8 +1,8 @@
 -- `matcher::marks::mark_weekday` meets its contract.
 use Rattle.signed.proofs.Parts.{passed}
-use Rattle.matcher.specs.Marks.{markPlace}
+use Rattle.matcher.specs.Inner.Marks.{markPlace}
 use Rattle.matcher.proofs.MarkLaws.{weekday-made}
-use Rattle.matcher.specs.Marks.{markNth, markOne}
+use Rattle.matcher.specs.Inner.Marks.{markNth, markOne}
 use borrow.Author.Tests.{le-ltb}
 use borrow.Author.Needs.{needs}
 use Rattle.matcher.proofs.marks.mark_weekday.Statement.{statement}

@@ -1,5 +1,5 @@
 -- `matcher::rows::counts_in_year` meets its contract: the tests of the definition in their order.
-use Rattle.matcher.specs.Rows.{yearly}
+use Rattle.matcher.specs.Inner.Rows.{yearly}
 use borrow.Author.Needs.{needs}
 use Rattle.matcher.proofs.rows.counts_in_year.Statement.{statement}
 use Rattle.matcher.proofs.rows.counts_in_year.Tie as tie

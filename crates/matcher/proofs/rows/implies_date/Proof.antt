@@ -1,5 +1,5 @@
 -- `matcher::rows::implies_date` meets its contract: the tests of the definition in their order.
-use Rattle.matcher.specs.Rows.{impliesDate}
+use Rattle.matcher.specs.Inner.Rows.{impliesDate}
 use borrow.Author.Needs.{needs}
 use Rattle.matcher.proofs.rows.implies_date.Statement.{statement}
 use Rattle.matcher.proofs.rows.implies_date.Tie as tie

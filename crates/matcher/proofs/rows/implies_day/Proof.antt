@@ -1,5 +1,5 @@
 -- `matcher::rows::implies_day` meets its contract: the tests of the definition in their order.
-use Rattle.matcher.specs.Rows.{impliesDay}
+use Rattle.matcher.specs.Inner.Rows.{impliesDay}
 use borrow.Author.Needs.{needs}
 use Rattle.matcher.proofs.rows.implies_day.Statement.{statement}
 use Rattle.matcher.proofs.rows.implies_day.Tie as tie

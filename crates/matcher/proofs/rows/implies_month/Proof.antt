@@ -1,7 +1,7 @@
 -- `matcher::rows::implies_month` meets its contract.
 use native.Mathlib.Omega.{arith}
 use borrow.Author.Tests.{eq-eqb, ne-eqb}
-use Rattle.matcher.specs.Rows.{impliesMonth}
+use Rattle.matcher.specs.Inner.Rows.{impliesMonth}
 use borrow.Author.Needs.{needs}
 use Rattle.matcher.proofs.rows.implies_month.Statement.{statement}
 use Rattle.matcher.proofs.rows.implies_month.Tie as tie

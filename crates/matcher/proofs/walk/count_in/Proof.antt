@@ -4,7 +4,7 @@ use mathlib.Core.Path.{_≡_, sym, _∙_}
 use native.Mathlib.Omega.{arith}
 use lib.ListN.{length}
 use borrow.Author.Needs.{needs}
-use Rattle.matcher.specs.Walk.{staysOnBy}
+use Rattle.matcher.specs.Inner.Walk.{staysOnBy}
 use Rattle.matcher.proofs.WalkLaws.{Counting, counting-starts, counting-yes, counting-no, counting-ends, in-calendar, stays-on}
 use Rattle.matcher.proofs.walk.count_in.Statement.{statement}
 use Rattle.matcher.proofs.walk.count_in.Tie as tie

@@ -1,6 +1,6 @@
 -- `matcher::walk::in_step` meets its contract; a period before the start's has the difference 0.
 use Rattle.matcher.proofs.WalkLaws.{step-each, step-first, step-never}
-use Rattle.matcher.specs.Walk.{stepBy}
+use Rattle.matcher.specs.Inner.Walk.{stepBy}
 use borrow.Author.Needs.{needs}
 use Rattle.matcher.proofs.walk.in_step.Statement.{statement}
 use Rattle.matcher.proofs.walk.in_step.Tie as tie

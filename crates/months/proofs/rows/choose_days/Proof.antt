@@ -1,7 +1,7 @@
 -- `months::rows::choose_days` meets its contract. The invariant: the answers so far are written, and those that stay are counted.
 use Rattle.months.proofs.RowLaws.{wrote-none, wrote-more, count-next, chosen-place, chosen-is}
-use Rattle.months.specs.Kinds.{chosenIn}
-use Rattle.months.specs.Rows.{answerAt, Wrote}
+use Rattle.months.specs.Inner.Kinds.{chosenIn}
+use Rattle.months.specs.Inner.Rows.{answerAt, Wrote}
 use Rattle.rule.specs.Lists.{countIn}
 use Rattle.rule.proofs.Counting.{count-none, count-most}
 use Prim.Native.Nat.{ℕ, _+_, _-_, _≤_}

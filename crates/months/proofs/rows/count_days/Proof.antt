@@ -1,6 +1,6 @@
 -- `months::rows::count_days` meets its contract. The invariant: what was found is what the days so far hold.
 use Rattle.months.proofs.RowLaws.{count-next}
-use Rattle.months.specs.Rows.{answerAt}
+use Rattle.months.specs.Inner.Rows.{answerAt}
 use Rattle.rule.specs.Lists.{countIn}
 use Rattle.rule.proofs.Counting.{count-none, count-most}
 use Prim.Native.Nat.{_-_, _≤_}

@@ -1,5 +1,5 @@
 -- `months::rows::stays_in` meets its contract: the tests of the definition in their order.
-use Rattle.months.specs.Kinds.{staysIn}
+use Rattle.months.specs.Inner.Kinds.{staysIn}
 use borrow.Author.Tests.{not-false, not-true}
 use borrow.Author.Needs.{needs}
 use Rattle.months.proofs.rows.stays_in.Statement.{statement}

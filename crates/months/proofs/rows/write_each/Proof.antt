@@ -1,7 +1,7 @@
 -- `months::rows::write_each` meets its contract. The invariant: the answers so far are written.
 use Rattle.months.proofs.RowLaws.{wrote-none, wrote-more}
-use Rattle.months.specs.Kinds.{staysIn}
-use Rattle.months.specs.Rows.{Wrote}
+use Rattle.months.specs.Inner.Kinds.{staysIn}
+use Rattle.months.specs.Inner.Rows.{Wrote}
 use Prim.Native.Nat.{ℕ, _-_, _≤_}
 use mathlib.Core.Path.{_≡_, subst}
 use native.Mathlib.Omega.{arith}

@@ -1,8 +1,8 @@
 -- `months::rows::write_plain` meets its contract. The invariant: the answers so far are written.
 use Rattle.months.proofs.RowLaws.{wrote-none, wrote-more}
 use Rattle.months.proofs.WeekLaws.{plain-is}
-use Rattle.months.specs.Kinds.{staysIn}
-use Rattle.months.specs.Rows.{Wrote}
+use Rattle.months.specs.Inner.Kinds.{staysIn}
+use Rattle.months.specs.Inner.Rows.{Wrote}
 use Prim.Native.Nat.{ℕ, _-_, _≤_}
 use mathlib.Core.Path.{_≡_, subst}
 use native.Mathlib.Omega.{arith}

@@ -1,7 +1,7 @@
 -- `months::week::write_week` meets its contract. The invariant: the answers so far are written.
 use Rattle.months.proofs.RowLaws.{wrote-none, wrote-more}
-use Rattle.months.specs.Week.{weekAt}
-use Rattle.months.specs.Rows.{Wrote}
+use Rattle.months.specs.Inner.Week.{weekAt}
+use Rattle.months.specs.Inner.Rows.{Wrote}
 use Prim.Native.Nat.{ℕ, _-_, _≤_}
 use mathlib.Core.Path.{_≡_, refl, subst}
 use native.Mathlib.Omega.{arith}

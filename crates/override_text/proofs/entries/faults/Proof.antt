@@ -1,5 +1,5 @@
 -- `override_text::entries::faults` meets its contract: what was found and what is left make the whole.
-use Rattle.override_text.specs.Meaning.{detailsIn}
+use Rattle.override_text.specs.Inner.Meaning.{detailsIn}
 use Rattle.override_text.proofs.EntryLaws.{Walk, walk-start, walk-next, walk-end, walk-out}
 use borrow.Author.Needs.{needs}
 use Rattle.override_text.proofs.entries.faults.Statement.{statement}

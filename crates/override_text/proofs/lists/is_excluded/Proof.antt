@@ -7,7 +7,7 @@ use Rattle.event.specs.Reading.{Reading}
 use Rattle.event.specs.Overrides.{patchIn}
 use Rattle.override_text.proofs.PatchLaws.{patch-yes, patch-no}
 use Rattle.property.proofs.RowLaws.{zeros}
-use Rattle.property.specs.Vocabulary.{vocabulary, wordOf}
+use Rattle.property.specs.Inner.Vocabulary.{vocabulary, wordOf}
 use borrow.Author.Needs.{needs}
 use Rattle.override_text.proofs.lists.is_excluded.Statement.{statement}
 use Rattle.override_text.proofs.lists.is_excluded.Tie as tie

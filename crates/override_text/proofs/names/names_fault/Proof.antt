@@ -2,7 +2,7 @@
 use mathlib.Core.Path.{_∙_, ap}
 use Prim.Native.Nat.{ℕ}
 use Rattle.fault.specs.Fault.{lower}
-use Rattle.override_text.specs.Names.{ofName}
+use Rattle.override_text.specs.Inner.Names.{ofName}
 use Rattle.override_text.proofs.WalkLaws.{Left, left-start, left-next, left-end, left-out}
 use borrow.Author.Needs.{needs}
 use Rattle.override_text.proofs.names.names_fault.Statement.{statement}

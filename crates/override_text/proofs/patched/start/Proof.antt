@@ -2,7 +2,7 @@
 use mathlib.Core.Path.{_∙_}
 use Rattle.override_text.proofs.PatchLaws.{start-own, start-read}
 use Rattle.property.proofs.RowLaws.{here, missing}
-use Rattle.property.specs.Vocabulary.{vocabulary, wordOf}
+use Rattle.property.specs.Inner.Vocabulary.{vocabulary, wordOf}
 use borrow.Author.Needs.{needs}
 use Rattle.override_text.proofs.patched.start.Statement.{statement}
 use Rattle.override_text.proofs.patched.start.Tie as tie

@@ -3,7 +3,7 @@ use mathlib.Core.Path.{_∙_}
 use Rattle.json_walk.specs.Walk.{membersOf}
 use Rattle.override_text.proofs.NameLaws.{alone-tree, names-tree}
 use Rattle.override_text.proofs.PatchLaws.{patch-made}
-use Rattle.property.specs.Vocabulary.{vocabulary, wordOf}
+use Rattle.property.specs.Inner.Vocabulary.{vocabulary, wordOf}
 use native.Mathlib.Omega.{arith}
 use borrow.Author.Needs.{needs}
 use Rattle.override_text.proofs.patches.patch_by.Statement.{statement}

@@ -1,5 +1,5 @@
 -- `property::names::is_filled` meets its contract.
-use Rattle.property.specs.Words.{isFilledAt}
+use Rattle.property.specs.Inner.Words.{isFilledAt}
 use borrow.Author.Tests.{not-false, not-true}
 use borrow.Author.Needs.{needs}
 use Rattle.property.proofs.names.is_filled.Statement.{statement}

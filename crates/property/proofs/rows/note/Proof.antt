@@ -1,5 +1,5 @@
 -- `property::rows::note` meets its contract.
-use Rattle.property.specs.Rows.{noted}
+use Rattle.property.specs.Inner.Rows.{noted}
 use borrow.Author.Tests.{eq-eqb, ne-eqb}
 use Rattle.property.proofs.RowLaws.{noted-out}
 use borrow.Author.Needs.{needs}

@@ -1,6 +1,6 @@
 -- `property::strings::is_word` meets its contract.
 use Rattle.property.proofs.Words.{slashed-nothing}
-use Rattle.property.specs.Words.{isWordAt, wordAt}
+use Rattle.property.specs.Inner.Words.{isWordAt, wordAt}
 use borrow.Author.Tests.{eq-eqb, ne-eqb}
 use borrow.Author.Needs.{needs}
 use Rattle.property.proofs.strings.is_word.Statement.{statement}

@@ -2,7 +2,7 @@
 use mathlib.Core.Path.{sym, _∙_}
 use Rattle.property.proofs.Ends.{string-end}
 use Rattle.property.proofs.Words.{raw-none}
-use Rattle.property.specs.Words.{wordAt}
+use Rattle.property.specs.Inner.Words.{wordAt}
 use borrow.Author.Needs.{needs}
 use Rattle.property.proofs.strings.word.Statement.{statement}
 use Rattle.property.proofs.strings.word.Tie as tie

@@ -1,6 +1,6 @@
 -- `property::vocabulary::eight` meets its contract.
 use Rattle.json_walk.specs.Strings.{rawAt}
-use Rattle.property.specs.Vocabulary.{ofEight}
+use Rattle.property.specs.Inner.Vocabulary.{ofEight}
 use borrow.Author.Tests.{eq-eqb, ne-eqb}
 use borrow.Author.Needs.{needs}
 use Rattle.property.proofs.vocabulary.eight.Statement.{statement}

@@ -1,6 +1,6 @@
 -- `property::vocabulary::five` meets its contract.
 use Rattle.json_walk.specs.Strings.{rawAt}
-use Rattle.property.specs.Vocabulary.{ofFive}
+use Rattle.property.specs.Inner.Vocabulary.{ofFive}
 use borrow.Author.Tests.{eq-eqb, ne-eqb}
 use borrow.Author.Needs.{needs}
 use Rattle.property.proofs.vocabulary.five.Statement.{statement}

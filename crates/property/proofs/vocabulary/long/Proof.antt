@@ -1,6 +1,6 @@
 -- `property::vocabulary::long` meets its contract.
 use Rattle.json_walk.specs.Strings.{rawAt}
-use Rattle.property.specs.Vocabulary.{ofLong}
+use Rattle.property.specs.Inner.Vocabulary.{ofLong}
 use borrow.Author.Tests.{eq-eqb, ne-eqb}
 use borrow.Author.Needs.{needs}
 use Rattle.property.proofs.vocabulary.long.Statement.{statement}

@@ -2,7 +2,7 @@
 use Rattle.event.specs.Values.{plain, word}
 use Rattle.json_value.specs.Values.{arrayOf, objectOf}
 use Rattle.json_walk.specs.Strings.{rawAt}
-use Rattle.property.specs.Vocabulary.{numbered}
+use Rattle.property.specs.Inner.Vocabulary.{numbered}
 use borrow.Author.Needs.{needs}
 use Rattle.property.proofs.vocabulary.number.Statement.{statement}
 use Rattle.property.proofs.vocabulary.number.Tie as tie

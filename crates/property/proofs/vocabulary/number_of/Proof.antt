@@ -1,5 +1,5 @@
 -- `property::vocabulary::number_of` meets its contract.
-use Rattle.property.specs.Vocabulary.{numberAt, numberBy}
+use Rattle.property.specs.Inner.Vocabulary.{numberAt, numberBy}
 use borrow.Author.Tests.{eq-eqb, le-ltb, lt-ltb, ne-eqb}
 use borrow.Author.Needs.{needs}
 use Rattle.property.proofs.vocabulary.number_of.Statement.{statement}

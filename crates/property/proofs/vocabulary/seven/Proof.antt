@@ -1,6 +1,6 @@
 -- `property::vocabulary::seven` meets its contract.
 use Rattle.json_walk.specs.Strings.{rawAt}
-use Rattle.property.specs.Vocabulary.{ofSeven}
+use Rattle.property.specs.Inner.Vocabulary.{ofSeven}
 use borrow.Author.Tests.{eq-eqb, ne-eqb}
 use borrow.Author.Needs.{needs}
 use Rattle.property.proofs.vocabulary.seven.Statement.{statement}

@@ -1,6 +1,6 @@
 -- `property::vocabulary::short` meets its contract.
 use Rattle.json_walk.specs.Strings.{rawAt}
-use Rattle.property.specs.Vocabulary.{ofShort}
+use Rattle.property.specs.Inner.Vocabulary.{ofShort}
 use borrow.Author.Tests.{eq-eqb, ne-eqb}
 use borrow.Author.Needs.{needs}
 use Rattle.property.proofs.vocabulary.short.Statement.{statement}

@@ -1,6 +1,6 @@
 -- `property::vocabulary::twelve` meets its contract.
 use Rattle.json_walk.specs.Strings.{rawAt}
-use Rattle.property.specs.Vocabulary.{ofTwelve}
+use Rattle.property.specs.Inner.Vocabulary.{ofTwelve}
 use borrow.Author.Tests.{eq-eqb, ne-eqb}
 use borrow.Author.Needs.{needs}
 use Rattle.property.proofs.vocabulary.twelve.Statement.{statement}

@@ -2,7 +2,7 @@
 use mathlib.Core.Path.{_∙_}
 use mir.Facts.{toZ-ofZ}
 use Rattle.signed.proofs.Parts.{back}
-use Rattle.record.specs.Occurrences.{utcBy}
+use Rattle.record.specs.Inner.Occurrences.{utcBy}
 use borrow.Author.Needs.{needs}
 use Rattle.record.proofs.occurrences.utc_of.Statement.{statement}
 use Rattle.record.proofs.occurrences.utc_of.Tie as tie

@@ -1,5 +1,5 @@
 -- `record::rows::marks` meets its contract: the sum of the marks that are set.
-use Rattle.record.specs.Rows.{marksFor}
+use Rattle.record.specs.Inner.Rows.{marksFor}
 use borrow.Author.Needs.{needs}
 use Rattle.record.proofs.rows.marks.Statement.{statement}
 use Rattle.record.proofs.rows.marks.Tie as tie

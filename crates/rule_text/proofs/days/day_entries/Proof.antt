@@ -2,16 +2,16 @@
 use native.Mathlib.Omega.{arith}
 use Rattle.rule_text.proofs.DayLaws.{Flagging, flagging-starts, flagging-goes-on, days-end, nday-nth}
 use Rattle.rule_text.proofs.EntryLaws.{Counting, Storing, rest-stop, rest-none, counting-goes-on, storing-goes-on, counting-starts, storing-starts}
-use Rattle.rule_text.specs.Lists.{dayOf, nthOf}
+use Rattle.rule_text.specs.Inner.Lists.{dayOf, nthOf}
 use Rattle.event.specs.Rules.{readNDay}
-use Rattle.rule.specs.Read.{nthFrom}
+use Rattle.rule.specs.Inner.Read.{nthFrom}
 use Rattle.signed.proofs.Parts.{back}
 use Rattle.json_tree.specs.Tree.{treeAt}
 use Rattle.json_walk.specs.Walk.{elementsOf}
 use mathlib.Core.Path.{ap, _∙_}
 use Prim.Native.Nat.{suc}
 -- `rule_text::days::day_entries` meets its contract.
-use Rattle.rule_text.specs.Reads.{entriesAt}
+use Rattle.rule_text.specs.Inner.Reads.{entriesAt}
 use borrow.Author.Needs.{needs}
 use Rattle.rule_text.proofs.days.day_entries.Statement.{statement}
 use Rattle.rule_text.proofs.days.day_entries.Tie as tie

@@ -1,6 +1,6 @@
 -- `rule_text::days::or_nth` meets its contract.
 use Rattle.rule_text.proofs.DayLaws.{is-some}
-use Rattle.rule.specs.Read.{nthFrom}
+use Rattle.rule.specs.Inner.Read.{nthFrom}
 use Rattle.signed.proofs.Parts.{passed}
 use Rattle.signed.specs.Parts.{posPart, negPart}
 use borrow.Author.Tests.{lt-ltb, le-ltb}

@@ -1,6 +1,6 @@
 -- `rule_text::days::read_nday` meets its contract.
 use Rattle.rule_text.proofs.DayLaws.{nday-is, nday-not, number-from}
-use Rattle.rule_text.specs.Lists.{nthNumber}
+use Rattle.rule_text.specs.Inner.Lists.{nthNumber}
 use Prim.Native.Nat.{ℕ}
 use Rattle.event.specs.Rules.{ndayIn}
 use Rattle.event.specs.Reading.{Reading}

@@ -4,7 +4,7 @@ use Rattle.event.specs.Reading.{Reading}
 use mathlib.Core.Path.{ap, _∙_}
 use Prim.Native.Nat.{ℕ}
 use Rattle.property.proofs.RowLaws.{here, missing}
-use Rattle.property.specs.Vocabulary.{vocabulary, wordOf}
+use Rattle.property.specs.Inner.Vocabulary.{vocabulary, wordOf}
 use Rattle.json_text.specs.Ascii.{ascii}
 use borrow.Author.Needs.{needs}
 use Rattle.rule_text.proofs.ends.read_ends.Statement.{statement}

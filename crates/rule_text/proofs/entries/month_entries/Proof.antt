@@ -7,7 +7,7 @@ use Rattle.json_walk.specs.Walk.{elementsOf}
 use mathlib.Core.Path.{ap, _∙_}
 use Prim.Native.Nat.{ℕ}
 -- `rule_text::entries::month_entries` meets its contract.
-use Rattle.rule_text.specs.Reads.{entriesAt}
+use Rattle.rule_text.specs.Inner.Reads.{entriesAt}
 use borrow.Author.Needs.{needs}
 use Rattle.rule_text.proofs.entries.month_entries.Statement.{statement}
 use Rattle.rule_text.proofs.entries.month_entries.Tie as tie

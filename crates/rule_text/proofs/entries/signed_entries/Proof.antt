@@ -4,7 +4,7 @@ use Rattle.rule_text.proofs.EntryLaws.{Counting, Storing, rest-stop, re
 use Rattle.event.specs.Rules.{readSigned}
 use Rattle.json_tree.specs.Tree.{treeAt}
 use Rattle.json_walk.specs.Walk.{elementsOf}
-use Rattle.rule_text.specs.Reads.{entriesAt}
+use Rattle.rule_text.specs.Inner.Reads.{entriesAt}
 use borrow.Author.Needs.{needs}
 use Rattle.rule_text.proofs.entries.signed_entries.Statement.{statement}
 use Rattle.rule_text.proofs.entries.signed_entries.Tie as tie

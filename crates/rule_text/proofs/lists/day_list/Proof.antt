@@ -1,7 +1,7 @@
 -- `rule_text::lists::day_list` meets its contract.
 use Rattle.rule_text.proofs.DayLaws.{days-same, days-limited, days-none, weekdays-length, nths-length}
 use Rattle.rule_text.proofs.ListLaws.{by-place, at-within}
-use Rattle.property.specs.Vocabulary.{vocabulary, wordOf}
+use Rattle.property.specs.Inner.Vocabulary.{vocabulary, wordOf}
 use Rattle.json_text.specs.Ascii.{ascii}
 use borrow.Author.Needs.{needs}
 use Rattle.rule_text.proofs.lists.day_list.Statement.{statement}

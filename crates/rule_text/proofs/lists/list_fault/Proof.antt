@@ -1,5 +1,5 @@
 -- `rule_text::lists::list_fault` meets its contract.
-use Rattle.rule_text.specs.Lists.{listFault}
+use Rattle.rule_text.specs.Inner.Lists.{listFault}
 use borrow.Author.Tests.{eq-eqb, ne-eqb, lt-ltb, le-ltb}
 -- `rule_text::lists::list_fault` meets its contract.
 use borrow.Author.Needs.{needs}

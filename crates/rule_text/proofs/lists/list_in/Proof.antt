@@ -1,5 +1,5 @@
 -- `rule_text::lists::list_in` meets its contract.
-use Rattle.rule_text.specs.Lists.{listPlace}
+use Rattle.rule_text.specs.Inner.Lists.{listPlace}
 use borrow.Author.Tests.{eq-eqb, ne-eqb}
 use mathlib.Core.Path.{refl}
 use borrow.Author.Needs.{needs}

@@ -1,6 +1,6 @@
 -- `rule_text::lists::month_list` meets its contract.
 use Rattle.rule_text.proofs.ListLaws.{by-place, at-within, entries-same, entries-limited, entries-none, entries-length}
-use Rattle.property.specs.Vocabulary.{vocabulary, wordOf}
+use Rattle.property.specs.Inner.Vocabulary.{vocabulary, wordOf}
 use Rattle.json_text.specs.Ascii.{ascii}
 use borrow.Author.Needs.{needs}
 use Rattle.rule_text.proofs.lists.month_list.Statement.{statement}

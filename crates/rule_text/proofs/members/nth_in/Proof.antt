@@ -1,11 +1,11 @@
 -- `rule_text::members::nth_in` meets its contract.
 use Rattle.rule_text.proofs.IntegerLaws.{nth-read}
 use Rattle.event.specs.Rules.{readNth}
-use Rattle.rule.specs.Read.{nthFrom}
+use Rattle.rule.specs.Inner.Read.{nthFrom}
 use native.Mathlib.Omega.{arith}
 use mathlib.Core.Path.{ap, _∙_}
 use Rattle.property.proofs.RowLaws.{here, missing}
-use Rattle.property.specs.Vocabulary.{vocabulary, wordOf}
+use Rattle.property.specs.Inner.Vocabulary.{vocabulary, wordOf}
 use Rattle.json_text.specs.Ascii.{ascii}
 use borrow.Author.Needs.{needs}
 use Rattle.rule_text.proofs.members.nth_in.Statement.{statement}

@@ -2,7 +2,7 @@
 use Rattle.event.specs.Values.{isType}
 use Rattle.event.specs.Rules.{typed}
 use Rattle.property.proofs.RowLaws.{here, missing}
-use Rattle.property.specs.Vocabulary.{vocabulary, wordOf}
+use Rattle.property.specs.Inner.Vocabulary.{vocabulary, wordOf}
 use Rattle.json_text.specs.Ascii.{ascii}
 use borrow.Author.Needs.{needs}
 use Rattle.rule_text.proofs.members.type_in.Statement.{statement}

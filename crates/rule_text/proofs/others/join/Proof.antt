@@ -1,6 +1,6 @@
 -- `rule_text::others::join` meets its contract.
 use Rattle.fault.specs.Fault.{lower}
-use Rattle.rule_text.specs.Parts.{joined}
+use Rattle.rule_text.specs.Inner.Parts.{joined}
 -- `rule_text::others::join` meets its contract.
 use borrow.Author.Needs.{needs}
 use Rattle.rule_text.proofs.others.join.Statement.{statement}

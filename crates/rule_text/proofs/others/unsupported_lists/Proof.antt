@@ -2,7 +2,7 @@
 use Rattle.event.specs.Rules.{unsupportedLists}
 use Rattle.fault.specs.Fault.{lower}
 use mathlib.Core.Path.{ap₂, _∙_}
-use Rattle.property.specs.Vocabulary.{vocabulary, wordOf}
+use Rattle.property.specs.Inner.Vocabulary.{vocabulary, wordOf}
 use borrow.Author.Needs.{needs}
 use Rattle.rule_text.proofs.others.unsupported_lists.Statement.{statement}
 use Rattle.rule_text.proofs.others.unsupported_lists.Tie as tie

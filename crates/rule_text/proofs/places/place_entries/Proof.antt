@@ -1,13 +1,13 @@
 -- `rule_text::places::place_entries` meets its contract.
 use Rattle.rule_text.proofs.EntryLaws.{Counting, Storing, rest-stop, rest-none, counting-goes-on, storing-goes-on, counting-starts, storing-starts, entries-end}
-use Rattle.rule_text.specs.Places.{readPlace}
+use Rattle.rule_text.specs.Inner.Places.{readPlace}
 use Rattle.json_tree.proofs.Trees.{place-tree}
 use Rattle.fault.proofs.Laws.{none-lower}
 use mathlib.Core.Path.{refl, sym}
 use Rattle.json_tree.specs.Tree.{treeAt}
 use Rattle.json_walk.specs.Walk.{elementsOf}
 -- `rule_text::places::place_entries` meets its contract.
-use Rattle.rule_text.specs.Reads.{entriesAt}
+use Rattle.rule_text.specs.Inner.Reads.{entriesAt}
 use borrow.Author.Needs.{needs}
 use Rattle.rule_text.proofs.places.place_entries.Statement.{statement}
 use Rattle.rule_text.proofs.places.place_entries.Tie as tie

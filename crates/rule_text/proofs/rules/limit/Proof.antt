@@ -1,5 +1,5 @@
 -- `rule_text::rules::limit` meets its contract.
-use Rattle.rule_text.specs.Places.{rulesFault}
+use Rattle.rule_text.specs.Inner.Places.{rulesFault}
 use borrow.Author.Tests.{lt-ltb, le-ltb}
 -- `rule_text::rules::limit` meets its contract.
 use borrow.Author.Needs.{needs}

@@ -1,6 +1,6 @@
 -- `rule_text::rules::rule_by` meets its contract.
 use Rattle.rule_text.proofs.RuleLaws.{rule-made}
-use Rattle.property.specs.Vocabulary.{vocabulary, wordOf}
+use Rattle.property.specs.Inner.Vocabulary.{vocabulary, wordOf}
 use native.Mathlib.Omega.{arith}
 use borrow.Author.Needs.{needs}
 use Rattle.rule_text.proofs.rules.rule_by.Statement.{statement}

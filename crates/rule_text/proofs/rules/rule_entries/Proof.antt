@@ -5,7 +5,7 @@ use Rattle.json_tree.specs.Tree.{treeAt}
 use Rattle.json_walk.specs.Walk.{elementsOf}
 use Prim.Native.Nat.{suc}
 -- `rule_text::rules::rule_entries` meets its contract.
-use Rattle.rule_text.specs.Reads.{entriesAt}
+use Rattle.rule_text.specs.Inner.Reads.{entriesAt}
 use borrow.Author.Needs.{needs}
 use Rattle.rule_text.proofs.rules.rule_entries.Statement.{statement}
 use Rattle.rule_text.proofs.rules.rule_entries.Tie as tie

@@ -1,5 +1,5 @@
 -- `rule_text::rules::stand_in` meets its contract.
-use Rattle.rule.specs.Read.{written, ndays, untilFrom, countFrom}
+use Rattle.rule.specs.Inner.Read.{written, ndays, untilFrom, countFrom}
 use mathlib.Core.Path.{refl}
 -- `rule_text::rules::stand_in` meets its contract.
 use Rattle.rule_text.proofs.rules.stand_in.Statement.{statement}

@@ -1,7 +1,7 @@
 -- `sheets::listed::put_days` meets its contract: the trailer stands behind the records.
 use native.Mathlib.Omega.{arith}
 use mir.Facts.{toZ-ofZ}
-use Rattle.writing.specs.Details.{ownRow}
+use Rattle.writing.specs.Inner.Details.{ownRow}
 use Rattle.writing.proofs.DetailsLaws.{own-length}
 use Rattle.sheets.proofs.DayLaws.{days-written}
 use borrow.Author.Needs.{needs}

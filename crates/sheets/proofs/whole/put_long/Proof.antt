@@ -1,8 +1,8 @@
 -- `sheets::whole::put_long` meets its contract: the days that are listed are those of the window.
 use native.Mathlib.Omega.{arith}
 use mir.Facts.{toZ-ofZ}
-use Rattle.override_text.specs.Meaning.{detailsIn}
-use Rattle.writing.specs.Details.{detailsBy, rowBy, ownRow}
+use Rattle.override_text.specs.Inner.Meaning.{detailsIn}
+use Rattle.writing.specs.Inner.Details.{detailsBy, rowBy, ownRow}
 use Rattle.writing.proofs.DetailsLaws.{own-row, own-small}
 use Rattle.tables.proofs.LentLaws.{taken}
 use Rattle.sheets.proofs.DayLaws.{plain-gives, few-lent}

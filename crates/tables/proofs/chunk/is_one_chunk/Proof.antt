@@ -1,6 +1,6 @@
 -- `tables::chunk::is_one_chunk` meets its contract.
 use borrow.Author.Tests.{le-ltb, lt-ltb}
-use Rattle.tables.specs.Sheet.{oneChunk}
+use Rattle.tables.specs.Inner.Sheet.{oneChunk}
 use borrow.Author.Needs.{needs}
 use Rattle.tables.proofs.chunk.is_one_chunk.Statement.{statement}
 use Rattle.tables.proofs.chunk.is_one_chunk.Tie as tie

@@ -1,9 +1,9 @@
 -- `tables::chunk::put_filled` meets its contract: the records are counted, and written only where they and the trailer fit.
 use native.Mathlib.Omega.{arith}
 use mir.Facts.{toZ-ofZ}
-use Rattle.override_text.specs.Meaning.{detailsIn}
-use Rattle.window.specs.Next.{isThere}
-use Rattle.writing.specs.Details.{detailsBy, rowBy}
+use Rattle.override_text.specs.Inner.Meaning.{detailsIn}
+use Rattle.window.specs.Inner.Next.{isThere}
+use Rattle.writing.specs.Inner.Details.{detailsBy, rowBy}
 use Rattle.writing.proofs.WriteLaws.{by-length}
 use Rattle.tables.proofs.SheetLaws.{sheet-short, sheet-fits}
 use Rattle.tables.proofs.ChunkLaws.{run-small}

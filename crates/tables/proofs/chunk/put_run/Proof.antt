@@ -1,9 +1,9 @@
 -- `tables::chunk::put_run` meets its contract: the trailer stands behind the records.
 use native.Mathlib.Omega.{arith}
 use mir.Facts.{toZ-ofZ}
-use Rattle.override_text.specs.Meaning.{detailsIn}
-use Rattle.window.specs.Next.{isThere}
-use Rattle.writing.specs.Details.{detailsBy, rowBy}
+use Rattle.override_text.specs.Inner.Meaning.{detailsIn}
+use Rattle.window.specs.Inner.Next.{isThere}
+use Rattle.writing.specs.Inner.Details.{detailsBy, rowBy}
 use Rattle.writing.proofs.WriteLaws.{by-length}
 use Rattle.tables.proofs.SheetLaws.{sheet-written}
 use borrow.Author.Needs.{needs}

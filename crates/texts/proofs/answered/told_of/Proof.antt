@@ -1,6 +1,6 @@
 -- `texts::answered::told_of` meets its contract.
 use mathlib.Core.Path.{sym, ap, _∙_}
-use Rattle.texts.specs.Shown.{lookupShown}
+use Rattle.texts.specs.Inner.Shown.{lookupShown}
 use borrow.Author.Needs.{needs}
 use Rattle.texts.proofs.answered.told_of.Statement.{statement}
 use Rattle.texts.proofs.answered.told_of.Tie as tie

@@ -2,7 +2,7 @@
 use mathlib.Core.Path.{ap}
 use borrow.Author.Tests.{not-true, not-false}
 use Rattle.table.specs.Call.{placeOf}
-use Rattle.texts.specs.Shown.{shownBy}
+use Rattle.texts.specs.Inner.Shown.{shownBy}
 use Rattle.texts.proofs.PartLaws.{empty-placed, placed-same, visible-placed}
 use borrow.Author.Needs.{needs}
 use Rattle.texts.proofs.kept.look_up_kept.Statement.{statement}

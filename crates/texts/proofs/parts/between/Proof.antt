@@ -1,5 +1,5 @@
 -- `texts::parts::between` meets its contract.
-use Rattle.texts.specs.Shown.{spanned}
+use Rattle.texts.specs.Inner.Shown.{spanned}
 use borrow.Author.Tests.{eq-eqb, ne-eqb}
 use borrow.Author.Needs.{needs}
 use Rattle.texts.proofs.parts.between.Statement.{statement}

@@ -1,7 +1,7 @@
 -- `texts::parts::part_from` meets its contract.
 use mathlib.Core.Path.{sym, _∙_}
 use native.Mathlib.Omega.{arith}
-use Rattle.property.specs.Words.{wordAt}
+use Rattle.property.specs.Inner.Words.{wordAt}
 use Rattle.property.proofs.Ends.{string-end}
 use Rattle.property.proofs.Words.{raw-none}
 use Rattle.texts.proofs.PartLaws.{raw-placed, none-placed, no-bytes}

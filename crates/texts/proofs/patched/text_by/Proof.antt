@@ -3,9 +3,9 @@ use mathlib.Core.Path.{refl, ap, _∙_}
 use Prim.Native.Nat.{_-_}
 use native.Mathlib.Omega.{arith}
 use lib.ListN.{length}
-use Rattle.override_text.specs.Meaning.{detailsIn}
+use Rattle.override_text.specs.Inner.Meaning.{detailsIn}
 use Rattle.writing.proofs.DetailsLaws.{Seen, seen-patch, seen-next, seen-own}
-use Rattle.texts.specs.Shown.{chosen}
+use Rattle.texts.specs.Inner.Shown.{chosen}
 use Rattle.texts.proofs.TextLaws.{own-text}
 use borrow.Author.Needs.{needs}
 use Rattle.texts.proofs.patched.text_by.Statement.{statement}

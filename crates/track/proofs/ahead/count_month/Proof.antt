@@ -2,7 +2,7 @@
 use Rattle.track.proofs.AheadLaws.{CountAt, count-starts, count-yes, count-no, count-ends}
 use Rattle.track.proofs.PlainLaws.{month-asked}
 use Rattle.track.proofs.SkipLaws.{month-reaches}
-use Rattle.matcher.specs.Member.{fallsOnBy}
+use Rattle.matcher.specs.Inner.Member.{fallsOnBy}
 use Rattle.matcher.proofs.WalkLaws.{number-is}
 use Prim.Native.Nat.{_-_}
 use native.Mathlib.Omega.{arith}

@@ -2,8 +2,8 @@
 use Rattle.track.proofs.AheadLaws.{end-passes, end-begins, falls-without}
 use Rattle.track.proofs.LastLaws.{end-leaps}
 use Rattle.track.proofs.PlainLaws.{month-at}
-use Rattle.track.specs.Ahead.{EndAt}
-use Rattle.matcher.specs.Member.{fallsOnBy}
+use Rattle.track.specs.Inner.Ahead.{EndAt}
+use Rattle.matcher.specs.Inner.Member.{fallsOnBy}
 use Rattle.matcher.proofs.WalkLaws.{number-is, day-again}
 use Rattle.rule.specs.Day.{dayAt}
 use Prim.Native.Nat.{_+_}

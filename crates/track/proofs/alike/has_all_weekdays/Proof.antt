@@ -1,6 +1,6 @@
 -- `track::alike::has_all_weekdays` meets its contract. The invariant: the weekdays so far are set.
 use Rattle.track.proofs.AlikeLaws.{weekdays-none, weekdays-more}
-use Rattle.track.specs.Alike.{WeekdaysSet}
+use Rattle.track.specs.Inner.Alike.{WeekdaysSet}
 use Prim.Native.Nat.{ℕ, _-_, _≤_}
 use mathlib.Core.Bool.{false≢true}
 use mathlib.Core.Path.{_≡_, refl, sym, _∙_, subst}

@@ -1,5 +1,5 @@
 -- `track::alike::is_whole` meets its contract: the tests of the definition in their order.
-use Rattle.track.specs.Alike.{isWhole}
+use Rattle.track.specs.Inner.Alike.{isWhole}
 use borrow.Author.Needs.{needs}
 use Rattle.track.proofs.alike.is_whole.Statement.{statement}
 use Rattle.track.proofs.alike.is_whole.Tie as tie

@@ -1,7 +1,7 @@
 -- `track::alike::lay` meets its contract. The invariant: what is marked, and what is left to mark, make the whole.
 use Rattle.track.proofs.AlikeLaws.{lay-one}
 use Rattle.track.proofs.RunLaws.{MarkAt, mark-starts, mark-ends}
-use Rattle.months.specs.Rows.{answerAt}
+use Rattle.months.specs.Inner.Rows.{answerAt}
 use lib.ListN.{length, length-set}
 use Prim.Native.Nat.{_-_}
 use native.Mathlib.Omega.{arith}

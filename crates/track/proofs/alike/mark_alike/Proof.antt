@@ -1,6 +1,6 @@
 -- `track::alike::mark_alike` meets its contract.
 use Rattle.track.proofs.AlikeLaws.{month-kind, unset-marked, out-marked, kind-marked}
-use Rattle.track.specs.Skips.{toMonthEnd}
+use Rattle.track.specs.Inner.Skips.{toMonthEnd}
 use Rattle.matcher.proofs.WalkLaws.{asked-day, known}
 use native.Mathlib.Omega.{arith}
 use mathlib.Core.Path.{sym, _∙_}

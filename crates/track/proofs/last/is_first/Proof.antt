@@ -1,5 +1,5 @@
 -- `track::last::is_first` meets its contract: the tests of the definition in their order.
-use Rattle.matcher.specs.Member.{isFirst}
+use Rattle.matcher.specs.Inner.Member.{isFirst}
 use Rattle.track.proofs.last.is_first.Statement.{statement}
 use Rattle.track.proofs.last.is_first.Tie as tie
 

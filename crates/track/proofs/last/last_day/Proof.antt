@@ -1,5 +1,5 @@
 -- `track::last::last_day` meets its contract.
-use Rattle.track.specs.Last.{lastBy}
+use Rattle.track.specs.Inner.Last.{lastBy}
 use Rattle.track.proofs.YearLaws.{counted-endless}
 use borrow.Author.Needs.{needs}
 use Rattle.track.proofs.last.last_day.Statement.{statement}

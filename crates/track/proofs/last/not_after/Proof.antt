@@ -1,6 +1,6 @@
 -- `track::last::not_after` meets its contract: the tests of the definition in their order.
 use Rattle.rule.specs.Lists.{notAfter}
-use Rattle.rule.specs.Read.{untilFrom}
+use Rattle.rule.specs.Inner.Read.{untilFrom}
 use borrow.Author.Needs.{needs}
 use Rattle.track.proofs.last.not_after.Statement.{statement}
 use Rattle.track.proofs.last.not_after.Tie as tie

@@ -1,5 +1,5 @@
 -- `track::last::until_day` meets its contract.
-use Rattle.track.specs.Last.{untilDay}
+use Rattle.track.specs.Inner.Last.{untilDay}
 use borrow.Author.Tests.{le-leb, le-ltb, lt-leb, lt-ltb}
 use borrow.Author.Needs.{needs}
 use Rattle.track.proofs.last.until_day.Statement.{statement}

@@ -3,9 +3,9 @@ use Rattle.track.proofs.LastLaws.{end-found, end-over, end-goes-on, end
 use Rattle.track.proofs.StepLaws.{cursor-at-day, at-number, at-again, held-here}
 use Rattle.track.proofs.AheadLaws.{end-moves}
 use Rattle.track.proofs.SkipLaws.{between-all}
-use Rattle.track.specs.Steps.{cursorAt}
-use Rattle.track.specs.Ahead.{EndAt}
-use Rattle.matcher.specs.Member.{fallsOnBy}
+use Rattle.track.specs.Inner.Steps.{cursorAt}
+use Rattle.track.specs.Inner.Ahead.{EndAt}
+use Rattle.matcher.specs.Inner.Member.{fallsOnBy}
 use Prim.Native.Nat.{_/_, _-_}
 use native.Mathlib.Omega.{arith}
 use mathlib.Core.Path.{_≡_, sym, _∙_}

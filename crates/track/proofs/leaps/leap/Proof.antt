@@ -1,6 +1,6 @@
 -- `track::leaps::leap` meets its contract.
 use Rattle.track.proofs.StepLaws.{cursor-at-day, held-day}
-use Rattle.track.specs.Steps.{cursorAt}
+use Rattle.track.specs.Inner.Steps.{cursorAt}
 use Rattle.matcher.proofs.WalkLaws.{number-is, day-again}
 use native.Mathlib.Omega.{arith}
 use mathlib.Core.Path.{_≡_, sym, ap, _∙_}

@@ -2,9 +2,9 @@
 use Rattle.track.proofs.PlainLaws.{month-at, month-fits, part-size, mark-lent, mark-falls}
 use Rattle.track.proofs.RunLaws.{MarkAt, mark-starts, mark-goes-by, mark-rests, mark-ends}
 use Rattle.rule.specs.Day.{dayAt}
-use Rattle.matcher.specs.Walk.{picksOnBy}
+use Rattle.matcher.specs.Inner.Walk.{picksOnBy}
 use Rattle.matcher.proofs.WalkLaws.{number-is, day-again}
-use Rattle.months.specs.Rows.{Kept}
+use Rattle.months.specs.Inner.Rows.{Kept}
 use Rattle.months.proofs.RowLaws.{kept-none}
 use lib.ListN.{length}
 use Prim.Native.Nat.{_+_, _-_}

@@ -1,6 +1,6 @@
 -- `track::places::least_days` meets its contract. The invariant: the positions before k are not set.
 use Rattle.track.proofs.PlaceLaws.{scan-starts, scan-goes-on, most-few}
-use Rattle.track.specs.Places.{Unset}
+use Rattle.track.specs.Inner.Places.{Unset}
 use native.Mathlib.Omega.{arith}
 use Prim.Native.Nat.{_+_, _-_}
 use borrow.Author.Needs.{needs}

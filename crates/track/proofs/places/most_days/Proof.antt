@@ -1,5 +1,5 @@
 -- `track::places::most_days` meets its contract: the tests of the definition in their order.
-use Rattle.track.specs.Places.{mostDays}
+use Rattle.track.specs.Inner.Places.{mostDays}
 use borrow.Author.Needs.{needs}
 use Rattle.track.proofs.places.most_days.Statement.{statement}
 use Rattle.track.proofs.places.most_days.Tie as tie

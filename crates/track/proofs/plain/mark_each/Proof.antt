@@ -2,7 +2,7 @@
 use Rattle.track.proofs.PlainLaws.{month-asked}
 use Rattle.track.proofs.RunLaws.{MarkAt, mark-starts, mark-yes, mark-no, mark-ends}
 use Rattle.track.proofs.SkipLaws.{month-reaches}
-use Rattle.matcher.specs.Walk.{picksOnBy}
+use Rattle.matcher.specs.Inner.Walk.{picksOnBy}
 use Rattle.matcher.proofs.WalkLaws.{number-is}
 use lib.ListN.{length, length-set}
 use Prim.Native.Nat.{_-_}

@@ -2,8 +2,8 @@
 use Rattle.track.proofs.RunLaws.{MarkAt, mark-starts, mark-yes, mark-goes-by, mark-rests, mark-ends}
 use Rattle.track.proofs.StepLaws.{at-number, at-leap, held-here}
 use Rattle.track.proofs.SkipLaws.{between-all}
-use Rattle.track.specs.Steps.{cursorAt}
-use Rattle.matcher.specs.Walk.{picksOnBy}
+use Rattle.track.specs.Inner.Steps.{cursorAt}
+use Rattle.matcher.specs.Inner.Walk.{picksOnBy}
 use lib.ListN.{length, length-set}
 use Prim.Native.Nat.{_+_, _-_}
 use native.Mathlib.Omega.{arith}

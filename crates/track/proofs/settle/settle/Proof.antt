@@ -1,9 +1,9 @@
 -- `track::settle::settle` meets its contract.
 use Rattle.matcher.proofs.WalkLaws.{number-is, in-calendar}
 use Rattle.track.proofs.SettleLaws.{termed-begun}
-use Rattle.matcher.specs.Marks.{markRow}
-use Rattle.matcher.specs.Rows.{Termed}
-use Rattle.rule.specs.Read.{written}
+use Rattle.matcher.specs.Inner.Marks.{markRow}
+use Rattle.matcher.specs.Inner.Rows.{Termed}
+use Rattle.rule.specs.Inner.Read.{written}
 use Rattle.rule.specs.declared.Day.{Day}
 use native.Mathlib.Omega.{arith}
 use mathlib.Core.Path.{_≡_, sym, _∙_, ap, subst}

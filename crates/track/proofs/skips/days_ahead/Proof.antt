@@ -1,5 +1,5 @@
 -- `track::skips::days_ahead` meets its contract: the tests of the definition in their order.
-use Rattle.track.specs.Skips.{daysAhead}
+use Rattle.track.specs.Inner.Skips.{daysAhead}
 use Rattle.matcher.proofs.WalkLaws.{in-calendar}
 use native.Mathlib.Omega.{arith}
 use borrow.Author.Needs.{needs}

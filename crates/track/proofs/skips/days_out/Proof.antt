@@ -1,6 +1,6 @@
 -- `track::skips::days_out` meets its contract.
 use Rattle.track.proofs.SkipLaws.{without-none, ahead-without}
-use Rattle.track.specs.Skips.{Without, stepOn}
+use Rattle.track.specs.Inner.Skips.{Without, stepOn}
 use Rattle.matcher.proofs.WalkLaws.{known, asked-day}
 use native.Mathlib.Omega.{arith}
 use mathlib.Core.Path.{_≡_, sym, subst}

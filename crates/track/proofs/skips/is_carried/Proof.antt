@@ -1,5 +1,5 @@
 -- `track::skips::is_carried` meets its contract: the tests of the definition in their order.
-use Rattle.track.specs.Skips.{isCarried}
+use Rattle.track.specs.Inner.Skips.{isCarried}
 use borrow.Author.Needs.{needs}
 use Rattle.track.proofs.skips.is_carried.Statement.{statement}
 use Rattle.track.proofs.skips.is_carried.Tie as tie

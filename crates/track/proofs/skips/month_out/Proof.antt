@@ -1,6 +1,6 @@
 -- `track::skips::month_out` meets its contract.
 use Rattle.track.proofs.SkipLaws.{without-none, behind-month, months-without}
-use Rattle.track.specs.Skips.{Without, monthOn}
+use Rattle.track.specs.Inner.Skips.{Without, monthOn}
 use Rattle.matcher.proofs.WalkLaws.{in-calendar}
 use native.Mathlib.Omega.{arith}
 use mathlib.Core.Path.{_≡_, sym, subst}

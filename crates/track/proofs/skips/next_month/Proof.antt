@@ -1,6 +1,6 @@
 -- `track::skips::next_month` meets its contract. The invariant: the months before the next one are not set.
 use Rattle.track.proofs.SkipLaws.{unset-none, unset-more}
-use Rattle.track.specs.Skips.{MonthsUnset}
+use Rattle.track.specs.Inner.Skips.{MonthsUnset}
 use native.Mathlib.Omega.{arith}
 use Prim.Native.Nat.{_-_}
 use borrow.Author.Needs.{needs}

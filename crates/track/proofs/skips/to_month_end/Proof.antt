@@ -1,5 +1,5 @@
 -- `track::skips::to_month_end` meets its contract.
-use Rattle.track.specs.Skips.{toMonthEnd}
+use Rattle.track.specs.Inner.Skips.{toMonthEnd}
 use Rattle.matcher.proofs.WalkLaws.{in-calendar}
 use native.Mathlib.Omega.{arith}
 use borrow.Author.Needs.{needs}

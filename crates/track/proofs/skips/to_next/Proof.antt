@@ -1,7 +1,7 @@
 -- `track::skips::to_next` meets its contract. The invariant: no day between this one and the k-th behind it is picked.
 use Rattle.track.proofs.SkipLaws.{between-one, between-more, not-staying, month-few, month-reaches}
-use Rattle.track.specs.Skips.{Between}
-use Rattle.matcher.specs.Walk.{picksOnBy}
+use Rattle.track.specs.Inner.Skips.{Between}
+use Rattle.matcher.specs.Inner.Walk.{picksOnBy}
 use Rattle.matcher.proofs.WalkLaws.{in-calendar}
 use native.Mathlib.Omega.{arith}
 use mathlib.Core.Path.{_≡_, sym, _∙_}

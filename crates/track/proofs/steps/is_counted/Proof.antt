@@ -1,5 +1,5 @@
 -- `track::steps::is_counted` meets its contract.
-use Rattle.track.specs.Steps.{isCounted}
+use Rattle.track.specs.Inner.Steps.{isCounted}
 use Rattle.track.proofs.steps.is_counted.Statement.{statement}
 use Rattle.track.proofs.steps.is_counted.Tie as tie
 

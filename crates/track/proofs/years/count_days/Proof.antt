@@ -3,8 +3,8 @@ use Rattle.track.proofs.AheadLaws.{Tally, tally-starts, tally-yes, tall
 use Rattle.track.proofs.LastLaws.{falls-between}
 use Rattle.track.proofs.StepLaws.{cursor-at-day, at-number, at-again, held-here}
 use Rattle.track.proofs.SkipLaws.{between-all}
-use Rattle.track.specs.Steps.{cursorAt}
-use Rattle.matcher.specs.Member.{fallsOnBy}
+use Rattle.track.specs.Inner.Steps.{cursorAt}
+use Rattle.matcher.specs.Inner.Member.{fallsOnBy}
 use Rattle.rule.specs.Gives.{endDay}
 use Prim.Native.Nat.{_+_, _/_, _≤_}
 use native.Mathlib.Omega.{arith}

@@ -1,7 +1,7 @@
 -- `track::years::count_span` meets its contract. The invariant: what was found, and what the days left hold, make the whole.
 use Rattle.track.proofs.AheadLaws.{Tally, tally-starts, tally-leaps, tally-adds, tally-nowhere, tally-over, falls-without}
 use Rattle.track.proofs.YearLaws.{counted-few}
-use Rattle.matcher.specs.Member.{fallsOnBy}
+use Rattle.matcher.specs.Inner.Member.{fallsOnBy}
 use Rattle.matcher.proofs.WalkLaws.{number-is, day-again}
 use Rattle.rule.specs.Day.{dayAt}
 use Rattle.rule.specs.Gives.{endDay}

@@ -1,5 +1,5 @@
 -- `track::years::idle_in` meets its contract: the tests of the definition in their order.
-use Rattle.track.specs.Years.{idleIn}
+use Rattle.track.specs.Inner.Years.{idleIn}
 use borrow.Author.Tests.{eq-eqb, ne-eqb}
 use borrow.Author.Needs.{needs}
 use Rattle.track.proofs.years.idle_in.Statement.{statement}

@@ -1,4 +1,4 @@
-use Rattle.track.specs.Years.{isAlike}
+use Rattle.track.specs.Inner.Years.{isAlike}
 use borrow.Author.Tests.{eq-eqb, le-ltb, lt-ltb, ne-eqb}
 use borrow.Author.Needs.{needs}
 use Rattle.track.proofs.years.is_alike.Statement.{statement}

@@ -1,4 +1,4 @@
-use Rattle.track.specs.Years.{isFar}
+use Rattle.track.specs.Inner.Years.{isFar}
 use Rattle.track.proofs.years.is_far.Statement.{statement}
 use Rattle.track.proofs.years.is_far.Tie as tie
 use Rattle.track.proofs.years.is_far.Reads as reads

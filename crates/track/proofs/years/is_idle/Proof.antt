@@ -1,5 +1,5 @@
 -- `track::years::is_idle` meets its contract.
-use Rattle.track.specs.Years.{phaseOf, isIdle}
+use Rattle.track.specs.Inner.Years.{phaseOf, isIdle}
 use Rattle.matcher.proofs.WalkLaws.{in-calendar}
 use native.Mathlib.Nat.{mod-lt}
 use native.Mathlib.Omega.{arith}

@@ -1,4 +1,4 @@
-use Rattle.track.specs.Years.{ownsPlaces}
+use Rattle.track.specs.Inner.Years.{ownsPlaces}
 use borrow.Author.Needs.{needs}
 use Rattle.track.proofs.years.owns_places.Statement.{statement}
 use Rattle.track.proofs.years.owns_places.Tie as tie

@@ -2,7 +2,7 @@
 use Rattle.track.proofs.AheadLaws.{end-passes, end-begins, ahead-begins, ahead-joins}
 use Rattle.track.proofs.YearLaws.{far-enough}
 use Rattle.track.proofs.NeighbourLaws.{new-after}
-use Rattle.track.specs.Years.{NewYear}
+use Rattle.track.specs.Inner.Years.{NewYear}
 use Rattle.matcher.proofs.WalkLaws.{number-is, day-again, in-calendar}
 use native.Mathlib.Omega.{arith}
 use mathlib.Core.Path.{_≡_, sym, _∙_, subst}

@@ -3,9 +3,9 @@
 use Rattle.track.proofs.AheadLaws.{end-passes, end-begins}
 use Rattle.track.proofs.YearLaws.{year-asked, year-long, year-short, kept-none}
 use Rattle.track.proofs.NeighbourLaws.{next-new}
-use Rattle.track.specs.Ahead.{EndAt}
-use Rattle.track.specs.Years.{NewYear, Kept}
-use Rattle.matcher.specs.Member.{fallsOnBy}
+use Rattle.track.specs.Inner.Ahead.{EndAt}
+use Rattle.track.specs.Inner.Years.{NewYear, Kept}
+use Rattle.matcher.specs.Inner.Member.{fallsOnBy}
 use Rattle.matcher.proofs.WalkLaws.{number-is}
 use Prim.Native.Nat.{_+_, _/_, _<_}
 use native.Mathlib.Omega.{arith}

@@ -1,6 +1,6 @@
 -- `track::years::slot_of` meets its contract.
 use Rattle.track.proofs.YearLaws.{year-long, year-short, slot-below}
-use Rattle.track.specs.Years.{phaseOf, slotOf}
+use Rattle.track.specs.Inner.Years.{phaseOf, slotOf}
 use Rattle.matcher.proofs.WalkLaws.{in-calendar}
 use native.Mathlib.Omega.{arith}
 use borrow.Author.Needs.{needs}

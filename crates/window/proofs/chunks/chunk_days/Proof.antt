@@ -1,6 +1,6 @@
 -- `window::chunks::chunk_days` meets its contract.
-use Rattle.window.specs.Chunks.{chunkDays}
-use Rattle.window.specs.Next.{lower}
+use Rattle.window.specs.Inner.Chunks.{chunkDays}
+use Rattle.window.specs.Inner.Next.{lower}
 use borrow.Author.Tests.{le-ltb, lt-ltb}
 use borrow.Author.Needs.{needs}
 use Rattle.window.proofs.chunks.chunk_days.Statement.{statement}

@@ -1,6 +1,6 @@
 -- `window::chunks::chunk_end` meets its contract.
-use Rattle.window.specs.Chunks.{chunkEnd}
-use Rattle.window.specs.Next.{lower}
+use Rattle.window.specs.Inner.Chunks.{chunkEnd}
+use Rattle.window.specs.Inner.Next.{lower}
 use borrow.Author.Tests.{le-ltb, lt-ltb}
 use borrow.Author.Needs.{needs}
 use Rattle.window.proofs.chunks.chunk_end.Statement.{statement}

@@ -1,7 +1,7 @@
 -- `window::hits::count_few` meets its contract.
 use Prim.Native.Nat.{_-_}
 use native.Mathlib.Omega.{arith}
-use Rattle.window.specs.Next.{atHit}
+use Rattle.window.specs.Inner.Next.{atHit}
 use Rattle.window.proofs.ChunkLaws.{CountedAt, counted-starts, counted-ends}
 use Rattle.window.proofs.CountLaws.{counted-one, counted-few}
 use borrow.Author.Needs.{needs}

@@ -1,7 +1,7 @@
 -- `window::hits::count_true` meets its contract.
 use Prim.Native.Nat.{_-_}
 use native.Mathlib.Omega.{arith}
-use Rattle.window.specs.Next.{atHit}
+use Rattle.window.specs.Inner.Next.{atHit}
 use Rattle.window.proofs.ChunkLaws.{CountedAt, counted-starts, counted-goes-on, counted-ends}
 use borrow.Author.Needs.{needs}
 use Rattle.window.proofs.hits.count_true.Statement.{statement}

@@ -1,5 +1,5 @@
 -- `window::next::day_from` meets its contract.
-use Rattle.window.specs.Next.{dayFrom}
+use Rattle.window.specs.Inner.Next.{dayFrom}
 use borrow.Author.Tests.{le-leb, lt-leb}
 use borrow.Author.Needs.{needs}
 use Rattle.window.proofs.next.day_from.Statement.{statement}

@@ -1,5 +1,5 @@
 -- `window::next::nearer_of` meets its contract.
-use Rattle.window.specs.Next.{nearer}
+use Rattle.window.specs.Inner.Next.{nearer}
 use borrow.Author.Tests.{le-ltb, lt-ltb}
 use Rattle.window.proofs.next.nearer_of.Statement.{statement}
 use Rattle.window.proofs.next.nearer_of.Tie as tie

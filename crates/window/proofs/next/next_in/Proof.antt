@@ -1,5 +1,5 @@
 -- `window::next::next_in` meets its contract.
-use Rattle.window.specs.Next.{isHit, lower, nextOf}
+use Rattle.window.specs.Inner.Next.{isHit, lower, nextOf}
 use borrow.Author.Tests.{le-ltb, lt-ltb}
 use borrow.Author.Needs.{needs}
 use Rattle.window.proofs.next.next_in.Statement.{statement}

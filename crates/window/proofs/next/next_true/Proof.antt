@@ -1,5 +1,5 @@
 -- `window::next::next_true` meets its contract.
-use Rattle.window.specs.Next.{TrueAt}
+use Rattle.window.specs.Inner.Next.{TrueAt}
 use Rattle.window.proofs.HitLaws.{true-starts, true-here, true-goes-on, true-then, true-none}
 use lib.ListN.{length}
 use Prim.Native.Nat.{_-_}

@@ -1,6 +1,6 @@
 -- `window::next::none_in` meets its contract.
 use Prim.Native.Nat.{_-_}
-use Rattle.window.specs.Next.{atHit}
+use Rattle.window.specs.Inner.Next.{atHit}
 use Rattle.window.proofs.FirstLaws.{NoneAt, none-starts, none-goes-on, none-ends}
 use borrow.Author.Needs.{needs}
 use Rattle.window.proofs.next.none_in.Statement.{statement}

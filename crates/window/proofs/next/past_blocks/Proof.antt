@@ -2,7 +2,7 @@
 use Prim.Native.Nat.{_-_}
 use native.Mathlib.Omega.{arith}
 use lib.ListN.{length}
-use Rattle.window.specs.Next.{TrueAt}
+use Rattle.window.specs.Inner.Next.{TrueAt}
 use Rattle.window.proofs.HitLaws.{true-starts, true-then, true-passed}
 use borrow.Author.Needs.{needs}
 use Rattle.window.proofs.next.past_blocks.Statement.{statement}

@@ -1,5 +1,5 @@
 -- `window::next::renew` meets its contract.
-use Rattle.window.specs.Next.{renewed}
+use Rattle.window.specs.Inner.Next.{renewed}
 use borrow.Author.Tests.{le-ltb, lt-ltb}
 use borrow.Author.Needs.{needs}
 use Rattle.window.proofs.next.renew.Statement.{statement}

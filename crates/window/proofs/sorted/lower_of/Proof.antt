@@ -1,6 +1,6 @@
 -- `window::sorted::lower_of` meets its contract.
 use borrow.Author.Tests.{le-ltb, lt-ltb}
-use Rattle.window.specs.Next.{lower}
+use Rattle.window.specs.Inner.Next.{lower}
 use Rattle.window.proofs.sorted.lower_of.Statement.{statement}
 use Rattle.window.proofs.sorted.lower_of.Tie as tie
 

@@ -1,7 +1,7 @@
 -- `window::whole::count_ids` meets its contract.
 use lib.Seq.{length-take-le, length-front}
 use Rattle.window.proofs.ChunkLaws.{CountedAt, chunk-lent, chunk-some, chunk-within, chunk-later, chunk-ends, chunk-stretch, chunk-window, counted-starts, counted-goes-on, counted-ends}
-use Rattle.dates.specs.Loaded.{loaded, isIn}
+use Rattle.dates.specs.Inner.Loaded.{loaded, isIn}
 use lib.ListN.{length}
 use native.Mathlib.Omega.{arith}
 use mathlib.Core.Path.{_≡_, refl, sym, _∙_, ap}

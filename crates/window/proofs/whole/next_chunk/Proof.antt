@@ -1,6 +1,6 @@
 -- `window::whole::next_chunk` meets its contract.
 use Rattle.window.proofs.RunLaws.{run-counted, run-next}
-use Rattle.dates.specs.Loaded.{loaded}
+use Rattle.dates.specs.Inner.Loaded.{loaded}
 use mathlib.Core.Path.{_≡_, refl, sym, _∙_, ap}
 use borrow.Author.Needs.{needs}
 use Rattle.window.proofs.whole.next_chunk.Statement.{statement}

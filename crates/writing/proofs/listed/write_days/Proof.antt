@@ -6,7 +6,7 @@ use mir.Syntax.{w64}
 use mir.Val.{toZ}
 use mir.Facts.{toZ-ofZ}
 use Rattle.rule.specs.Gives.{onDay}
-use Rattle.writing.specs.Details.{ownRow}
+use Rattle.writing.specs.Inner.Details.{ownRow}
 use Rattle.writing.proofs.DetailsLaws.{own-length, own-is-small, put-own}
 use Rattle.writing.proofs.ListedLaws.{ListAt, list-starts, list-room, list-one, list-ends}
 use borrow.Author.Needs.{needs}

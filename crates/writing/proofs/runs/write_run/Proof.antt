@@ -5,11 +5,11 @@ use native.Mathlib.Omega.{arith}
 use mir.Syntax.{w64}
 use mir.Val.{toZ}
 use mir.Facts.{toZ-ofZ}
-use Rattle.override_text.specs.Meaning.{detailsIn}
-use Rattle.dates.specs.Overrides.{isKept}
-use Rattle.window.specs.Next.{nextOf, isThere}
+use Rattle.override_text.specs.Inner.Meaning.{detailsIn}
+use Rattle.dates.specs.Inner.Overrides.{isKept}
+use Rattle.window.specs.Inner.Next.{nextOf, isThere}
 use Rattle.window.proofs.RunLaws.{renewed-is}
-use Rattle.writing.specs.Details.{detailsBy, rowBy}
+use Rattle.writing.specs.Inner.Details.{detailsBy, rowBy}
 use Rattle.writing.proofs.WriteLaws.{WriteAt, by-length, there-is, write-starts, write-none, write-one, write-room, write-ends}
 use borrow.Author.Needs.{needs}
 use Rattle.writing.proofs.runs.write_run.Statement.{statement}

@@ -1,9 +1,9 @@
 -- `writing::times::put_at` meets its contract.
 use mathlib.Core.Path.{sym, subst}
 use mir.Facts.{toZ-ofZ}
-use Rattle.record.specs.Occurrences.{Small}
-use Rattle.override_text.specs.Meaning.{detailsIn}
-use Rattle.writing.specs.Details.{detailsBy, rowBy}
+use Rattle.record.specs.Inner.Occurrences.{Small}
+use Rattle.override_text.specs.Inner.Meaning.{detailsIn}
+use Rattle.writing.specs.Inner.Details.{detailsBy, rowBy}
 use Rattle.writing.proofs.DetailsLaws.{put-row}
 use borrow.Author.Needs.{needs}
 use Rattle.writing.proofs.times.put_at.Statement.{statement}

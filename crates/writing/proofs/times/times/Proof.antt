@@ -1,5 +1,5 @@
 -- `writing::times::times` meets its contract.
-use Rattle.writing.specs.Details.{timesFrom}
+use Rattle.writing.specs.Inner.Details.{timesFrom}
 use borrow.Author.Needs.{needs}
 use Rattle.writing.proofs.times.times.Statement.{statement}
 use Rattle.writing.proofs.times.times.Tie as tie

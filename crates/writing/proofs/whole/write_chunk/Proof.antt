@@ -2,8 +2,8 @@
 use Prim.Native.Nat.{ℕ, _/_}
 use mathlib.Core.Path.{sym, subst}
 use mir.Facts.{toZ-ofZ}
-use Rattle.dates.specs.Loaded.{loaded}
-use Rattle.window.specs.Next.{Stretch}
+use Rattle.dates.specs.Inner.Loaded.{loaded}
+use Rattle.window.specs.Inner.Next.{Stretch}
 use Rattle.writing.proofs.ChunkLaws.{chunk-room, chunk-written}
 use borrow.Author.Needs.{needs}
 use Rattle.writing.proofs.whole.write_chunk.Statement.{statement}

@@ -7,10 +7,10 @@ use lib.Seq.{length-take-le, length-front}
 use mir.Syntax.{w64}
 use mir.Val.{toZ}
 use mir.Facts.{toZ-ofZ}
-use Rattle.override_text.specs.Meaning.{detailsIn}
-use Rattle.dates.specs.Loaded.{loaded, isIn}
+use Rattle.override_text.specs.Inner.Meaning.{detailsIn}
+use Rattle.dates.specs.Inner.Loaded.{loaded, isIn}
 use Rattle.window.proofs.ChunkLaws.{chunk-lent, chunk-some, chunk-within, chunk-later, chunk-ends, chunk-stretch, chunk-window}
-use Rattle.writing.specs.Details.{detailsBy, rowBy}
+use Rattle.writing.specs.Inner.Details.{detailsBy, rowBy}
 use Rattle.writing.proofs.WriteLaws.{WriteAt, by-length, write-starts, some-left, none-left}
 use Rattle.writing.proofs.ChunkLaws.{next-room, next-chunk}
 use borrow.Author.Needs.{needs}

@@ -1,0 +1,5 @@
+pub mod Load
+pub mod Loaded
+pub mod Overrides
+pub mod Stands
+pub mod Tracked

@@ -1,0 +1,5 @@
+pub mod Flags
+pub mod Marks
+pub mod Member
+pub mod Rows
+pub mod Walk

@@ -1,0 +1,5 @@
+pub mod Entries
+pub mod Lists
+pub mod Meaning
+pub mod Names
+pub mod Patched

@@ -1,0 +1,4 @@
+pub mod From
+pub mod Rows
+pub mod Vocabulary
+pub mod Words

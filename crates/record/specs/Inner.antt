@@ -1,0 +1,2 @@
+pub mod Occurrences
+pub mod Rows

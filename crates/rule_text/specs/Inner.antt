@@ -1,0 +1,6 @@
+pub mod Bounds
+pub mod Lists
+pub mod Members
+pub mod Parts
+pub mod Places
+pub mod Reads

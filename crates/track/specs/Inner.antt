@@ -1,0 +1,10 @@
+pub mod Ahead
+pub mod Alike
+pub mod Last
+pub mod Places
+pub mod Plain
+pub mod Runs
+pub mod Settle
+pub mod Skips
+pub mod Steps
+pub mod Years

@@ -1,0 +1,4 @@
+pub mod Chunks
+pub mod Lists
+pub mod Next
+pub mod Sorted

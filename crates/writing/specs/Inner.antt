@@ -1,0 +1,3 @@
+pub mod Details
+pub mod Rows
+pub mod Runs
