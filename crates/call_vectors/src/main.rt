@@ -1,6 +1,6 @@
 // Reads the cases of its input and writes what the whole call gives for each: the answer, the length, the table in hexadecimal digits, and how
-// many bytes of the buffer changed that are none of the table's. A case is three numbers, each with a space behind it (the window's ends as
-// seconds from 1600, the buffer's length), and an event's text with byte 0x1E behind it. The zone table is New York's in 2020 and 2021.
+// many bytes of the buffer changed that are none of the table's. A case is three numbers, each with a space after it (the window's ends as
+// seconds from 1600, the buffer's length), and an event's text with byte 0x1E after it. The zone table is New York's in 2020 and 2021.
 ghost use Prim.Native.Nat.{_≤_, _<_, _^_};
 ghost use lib.ListN.{length};
 

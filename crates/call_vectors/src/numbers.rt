@@ -17,7 +17,7 @@ fn append(n: u64, digit: u8) -> u64
     0
 }
 
-// The number at a place, and the place behind the space that ends it.
+// The number at a place, and the place after the space that ends it.
 pub(crate) fn number_at(all: &[u8], from: usize) -> Number
     requires { ⌜ from ≤ length (now all) ⌝ }
     ensures { λ r. ⌜ (from ≤ r .next) × ((r .next ≤ length (now (all .entry))) × (r .value < 2 ^ 60)) ⌝ }

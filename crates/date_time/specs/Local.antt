@@ -25,7 +25,7 @@ isLocal last s =
     else false)
     else false
 
--- "A fraction that is non-zero with no trailing zero answers 8, any other fraction 6." What stands behind the seconds, where anything does.
+-- "A fraction that is non-zero with no trailing zero answers 8, any other fraction 6." What stands after the seconds, where anything does.
 unfoldable pub fractionFault : List ℕ → ℕ
 fractionFault s =
     if eqb (byte s 19) 0x2E then

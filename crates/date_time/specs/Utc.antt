@@ -11,7 +11,7 @@ use Rattle.digits.specs.Fraction.{legalFraction}
 use Rattle.date_time.specs.Picture.{follows, picture}
 use Rattle.date_time.specs.Parts.{dateAt, isTime, isReal}
 
--- What stands behind the seconds. 004: "the time offset MUST be the character `Z`", in upper case; before it a fraction may stand, "." and
+-- What stands after the seconds. 004: "the time offset MUST be the character `Z`", in upper case; before it a fraction may stand, "." and
 -- what lies between it and the last byte.
 unfoldable pub endsInZ : List ℕ → Bool
 endsInZ s =

@@ -35,7 +35,7 @@ fn is_local(raw: &[u8], last: u32) -> bool
     year <= last
 }
 
-// The fault of what stands behind the seconds.
+// The fault of what stands after the seconds.
 fn fraction_fault(raw: &[u8]) -> u32
     ensures { λ r. ⌜ r ≡ fractionFault (now (raw .entry)) ⌝ }
 {

@@ -8,7 +8,7 @@ use crate::picture::follows;
 use digits::legal_fraction;
 use json_text::bytes::byte;
 
-// Is what stands behind the seconds right?
+// Is what stands after the seconds right?
 fn ends_in_z(raw: &[u8]) -> bool
     ensures { λ r. ⌜ r ≡ endsInZ (now (raw .entry)) ⌝ }
 {

@@ -103,7 +103,7 @@ module _ (excluded : Bool) (r : Rule) (start limit : ℕ) (ts : Tracks) (before 
       ap tracksOf (a .list)
       ∙ (ap (λ (n : ℕ). take n (set (ts .list) (ts .count) (a .track))) (add-one (ts .count)) ∙ take-suc-set (ts .list) (ts .count) (a .track) (room .room))
 
-  -- the rules loaded before, and this one behind them
+  -- the rules loaded before, and this one after them
   pub loaded-settles : (rs : List RecurrenceRule) → Settles excluded start limit rs (tracksOf ts) before
       → Settles excluded start limit (rs ++ (written r ∷ [])) (tracksOf next) after
   loaded-settles rs s =

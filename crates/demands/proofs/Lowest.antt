@@ -29,7 +29,7 @@ below m (c ∷ l) r n h =
     let low : n < c .number = omega (arith, r .0) in
     rw (ne-eqb (c .number) n (λ e. omega arith)) (below (c .number) l (r .1) n (omega arith))
 
--- what holds or not at the head, and what is behind it
+-- what holds or not at the head, and what is after it
 head-none : (c : Numbered) (l : List Numbered) (n : ℕ) → c .holds ≡ false → applies n (c ∷ l) ≡ applies n l
 unfolding applies any
 head-none c l n e = by (eqb (c .number) n)

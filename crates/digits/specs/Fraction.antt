@@ -15,7 +15,7 @@ unfoldable pub nonZero : List ℕ → Bool
 nonZero [] = false
 nonZero (b ∷ bs) = if eqb b 0x30 then nonZero bs else true
 
--- The last of b and the bytes behind it
+-- The last of b and the bytes after it
 unfoldable pub lastOf : ℕ → List ℕ → ℕ
 lastOf b [] = b
 lastOf b (d ∷ ds) = lastOf d ds
@@ -24,7 +24,7 @@ unfoldable pub endsInZero : List ℕ → Bool
 endsInZero [] = false
 endsInZero (b ∷ bs) = eqb (lastOf b bs) 0x30
 
--- The bytes behind the "." are a legal fraction. 004: "Fractional second values MUST NOT be included unless non-zero and MUST NOT have
+-- The bytes after the "." are a legal fraction. 004: "Fractional second values MUST NOT be included unless non-zero and MUST NOT have
 -- trailing zeros".
 unfoldable pub legalFraction : List ℕ → Bool
 legalFraction l =

@@ -37,7 +37,7 @@ pub fn four(raw: &[u8], at: usize) -> u32
     100 * a + b
 }
 
-// Are the bytes behind a point a legal fraction: digits, non-zero, with no trailing zero? A last digit that is not 0 says both.
+// Are the bytes after a point a legal fraction: digits, non-zero, with no trailing zero? A last digit that is not 0 says both.
 pub fn legal_fraction(part: &[u8]) -> bool
     ensures { λ r. ⌜ r ≡ legalFraction (now (part .entry)) ⌝ }
 {

@@ -127,7 +127,7 @@ zero-is-none : isD 0 ≡ false
 unfolding isD
 zero-is-none = refl
 
--- Behind a backslash and a u there is no D; past the end of the text each byte is 0.
+-- After a backslash and a u there is no D; past the end of the text each byte is 0.
 behind : (s : List ℕ) → NoFront s (length s) → (i : ℕ) → eqb (byte s i) 0x5C ≡ true → eqb (byte s (i + 1)) 0x75 ≡ true → isD (byte s (i + 2)) ≡ false
 unfolding NoFront front
 behind s h i a b = go (decLt (i + 2) (length s))

@@ -40,7 +40,7 @@ pub fn first_element(text: &[u8], ends: &[u32], at: usize) -> ElementStep
     }
 }
 
-// The element behind one that ends at a place.
+// The element after one that ends at a place.
 pub fn next_element(text: &[u8], ends: &[u32], at: usize) -> ElementStep
     requires { ⌜ Ends (now text) (now ends) ⌝ }
     ensures { λ r. ⌜ r ≡ nextElementAt (now (text .entry)) at ⌝ }

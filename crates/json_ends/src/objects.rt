@@ -52,7 +52,7 @@ pub fn first_member(text: &[u8], ends: &[u32], at: usize) -> MemberStep
     }
 }
 
-// The member behind one whose value ends at a place.
+// The member after one whose value ends at a place.
 pub fn next_member(text: &[u8], ends: &[u32], at: usize) -> MemberStep
     requires { ⌜ Ends (now text) (now ends) ⌝ }
     ensures { λ r. ⌜ r ≡ nextMemberAt (now (text .entry)) at ⌝ }

@@ -11,7 +11,7 @@ use json_ends::objects::next_member;
 use json_walk::MemberStep;
 use json_walk::strings::same_raw;
 
-// Has one of the next n members, behind a place, the name that stands from `name` to `stop`?
+// Has one of the next n members, after a place, the name that stands from `name` to `stop`?
 pub(crate) fn among(
     text: &[u8],
     ends: &[u32],
@@ -40,7 +40,7 @@ pub(crate) fn among(
     false
 }
 
-// Have two members equal names? Each name is compared with those behind it.
+// Have two members equal names? Each name is compared with those after it.
 pub(crate) fn repeated(text: &[u8], ends: &[u32], at: usize) -> bool
     requires { ⌜ (at < length (now text)) × Ends (now text) (now ends) ⌝ }
     ensures { λ r. ⌜ r ≡ repeats (now (text .entry)) (membersOf (now (text .entry)) at) ⌝ }

@@ -1,4 +1,4 @@
-// Small steps of the walk over members: which values hold others, and the names put down one behind the other.
+// Small steps of the walk over members: which values hold others, and the names put down one after the other.
 ghost use mathlib.Core.Path.{_≡_};
 ghost use Prim.Native.Nat.{_≤_};
 ghost use lib.ListN.{length};
@@ -17,7 +17,7 @@ pub(crate) fn opens(text: &[u8], at: usize) -> bool
     b == 0x5B
 }
 
-// Puts an entry behind the first k, if there is room, and says how many there are then.
+// Puts an entry after the first k, if there is room, and says how many there are then.
 pub(crate) fn append(order: &mut [u64], k: usize, entry: u64) -> usize
     requires { ⌜ k ≤ length (now order) ⌝ }
     ensures { λ r. ⌜ (length (now (order .exit)) ≡ length (now (order .entry))) × (k ≤ r) × (r ≤ length (now (order .entry))) ⌝ }

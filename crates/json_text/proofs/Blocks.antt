@@ -1,4 +1,4 @@
--- Blocks of plain bytes: one byte more, and the run that goes on behind them.
+-- Blocks of plain bytes: one byte more, and the run that goes on after them.
 use Prim.Native.Nat.{ℕ, zero, suc, _+_, _≤_, _<_}
 use mathlib.Core.Bool.{Bool, true, false}
 use mathlib.Core.List.{List}
@@ -26,7 +26,7 @@ pub run-all : (s : List ℕ) (i n m : ℕ) → m ≤ n → PlainRun s i n → Pl
 unfolding PlainRun
 run-all s i n m p h k q = h k (omega arith)
 
--- Behind so many plain bytes the run ends where it ends.
+-- After so many plain bytes the run ends where it ends.
 pub run-on : (n : ℕ) (s : List ℕ) (i : ℕ) → PlainRun s i n → i + n ≤ length s → plainAt s (i + n) ≡ plainAt s i
 unfolding PlainRun
 run-on zero s i h p = let e : i + 0 ≡ i = omega arith in ap (plainAt s) e
@@ -34,7 +34,7 @@ run-on (suc n) s i h p =
     let e : i + suc n ≡ i + n + 1 = omega arith in
     ap (plainAt s) e ∙ plain-more s (i + n) (omega arith) (h n (omega arith)) ∙ run-on n s i (λ k q. h k (omega arith)) (omega arith)
 
--- A run that begins with a plain byte is the run behind it.
+-- A run that begins with a plain byte is the run after it.
 pub plain-front : (s : List ℕ) (i e : ℕ) → e ≡ plainAt s (i + 1) → i < length s → isPlain (getD s i 0) ≡ true → e ≡ plainAt s i
 plain-front s i e q h t = q ∙ plain-more s i h t
 

@@ -23,7 +23,7 @@ some p z zero h = let w : false ≡ true = sym z ∙ h in absurd (absurd-flag w)
     absurd-flag e = let q : _≡_ {A = ℕ} 0 1 = cc in omega arith
 some p z (suc b) h = omega arith
 
--- A byte that passes: the run goes on behind it.
+-- A byte that passes: the run goes on after it.
 pub past-more : (p : ℕ → Bool) (s : List ℕ) (i : ℕ) → i < length s → p (getD s i 0) ≡ true → past p s (i + 1) ≡ past p s i
 unfolding past run
 past-more p s i h e = rw (drop-cons s i 0 h, e, add-one) (omega arith)

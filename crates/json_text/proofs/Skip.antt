@@ -40,12 +40,12 @@ plain-some s i e q h t = omega (arith, q, plain-more s i h t, plain-on s (i + 1)
 no-flag : false ≡ true → ⊥
 no-flag e = let q : _≡_ {A = ℕ} 0 1 = cc in omega arith
 
--- A test that must fail, and the tests behind it.
+-- A test that must fail, and the tests after it.
 unless : (c r : Bool) → (if c then false else r) ≡ true → (c ≡ false) × (r ≡ true)
 unless true r h = absurd (no-flag h)
 unless false r h = (refl, h)
 
--- A run of some bytes: the first one passes, and the others are the run behind it.
+-- A run of some bytes: the first one passes, and the others are the run after it.
 one-more : (p : ℕ → Bool) (b : ℕ) (s : List ℕ) (k : ℕ) (c : Bool) → p b ≡ c
     → (if c then suc (run p s) else 0) ≡ suc k → (p b ≡ true) × (run p s ≡ k)
 one-more p b s k true e h = (e, omega arith)
@@ -99,7 +99,7 @@ unfolding plainAt past
 chars-skip s i e n q h =
     skip-by (run isPlain (drop i s)) n (n - (e - i)) s i e refl (omega arith) (omega arith)
 
--- The quote stands behind the run.
+-- The quote stands after the run.
 pub chars-quote : (s : List ℕ) (i e n : ℕ) → e ≡ plainAt s i → e - i < n → eqb (getD s e 0) 0x22 ≡ true → charsAt n s i ≡ To (e + 1)
 chars-quote s i e n q h c = rw (chars-skip s i e n q h, chars-step (n - (e - i)) (omega arith) s e, c)
 

@@ -37,7 +37,7 @@ pub fn is_digit(b: u8) -> bool
     b <= 0x39
 }
 
-// The place behind white space.
+// The place after white space.
 pub fn space(text: &[u8], at: usize) -> usize
     ensures { λ r. ⌜ r ≡ spaceAt (now (text .entry)) at ⌝ }
 {
@@ -48,7 +48,7 @@ pub fn space(text: &[u8], at: usize) -> usize
     i
 }
 
-// The place behind digits.
+// The place after digits.
 pub fn digits(text: &[u8], at: usize) -> usize
     ensures { λ r. ⌜ r ≡ digitsAt (now (text .entry)) at ⌝ }
 {

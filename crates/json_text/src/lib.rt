@@ -7,7 +7,7 @@ pub mod strings;
 mod utf8;
 pub mod words;
 
-// What a reader answers: the place behind what it read; or that the text is not JSON there; or that it opens a level
+// What a reader answers: the place after what it read; or that the text is not JSON there; or that it opens a level
 // too many, which only values can.
 pub enum Read {
     To(usize),

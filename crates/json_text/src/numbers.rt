@@ -34,7 +34,7 @@ pub fn frac(text: &[u8], at: usize) -> Read
     Read::To(at)
 }
 
-// The exponent behind its e.
+// The exponent after its e.
 fn power(text: &[u8], at: usize) -> Read
     ensures { λ r. ⌜ r ≡ powerAt (now (text .entry)) at ⌝ }
 {

@@ -71,7 +71,7 @@ fn block(text: &[u8], at: usize) -> bool
     false
 }
 
-// The place behind the plain blocks at a place.
+// The place after the plain blocks at a place.
 fn blocks(text: &[u8], at: usize) -> usize
     requires { ⌜ at ≤ length (now text) ⌝ }
     ensures { λ r. ⌜ plainAt (now (text .entry)) r ≡ plainAt (now (text .entry)) at ⌝ }
@@ -88,7 +88,7 @@ fn blocks(text: &[u8], at: usize) -> usize
     i
 }
 
-// The place behind plain bytes, one by one.
+// The place after plain bytes, one by one.
 fn single(text: &[u8], at: usize) -> usize
     ensures { λ r. ⌜ r ≡ plainAt (now (text .entry)) at ⌝ }
 {
@@ -99,7 +99,7 @@ fn single(text: &[u8], at: usize) -> usize
     i
 }
 
-// The place behind plain bytes. Most runs are short: only one that goes on behind 32 bytes is worth blocks.
+// The place after plain bytes. Most runs are short: only one that goes on after 32 bytes is worth blocks.
 pub(crate) fn plain(text: &[u8], at: usize) -> usize
     ensures { λ r. ⌜ r ≡ plainAt (now (text .entry)) at ⌝ }
 {

@@ -20,7 +20,7 @@ use Rattle.json_walk.specs.declared.ElementStep.{ElementStep}
 use Rattle.json_walk.specs.declared.ElementStep.the-variants.{Next, Stop}
 use Rattle.json_value.proofs.Levels.{keeps, levels-stay, object-stays, array-stays}
 
--- Behind an item: the closing bracket, which ends at j, or another item from which it goes on well.
+-- After an item: the closing bracket, which ends at j, or another item from which it goes on well.
 abbrev pub EndsItem : (ℕ → Type 0) → ℕ → Item → Type 0
 EndsItem more j (More k) = more k
 EndsItem more j (Done e) = e ≡ j

@@ -29,7 +29,7 @@ goesOn b =
 unfoldable pub signed : Bool → ℕ → Integer
 signed below size = if eqb size 0 then Is false 0 else Is below size
 
--- The digits at i, with nothing behind them that belongs to the number.
+-- The digits at i, with nothing after them that belongs to the number.
 unfoldable pub sizeAt : Bool → List ℕ → ℕ → Integer
 sizeAt below s i =
     if goesOn (byte s (digitsAt s i)) then No else

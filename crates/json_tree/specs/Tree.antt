@@ -35,7 +35,7 @@ mutual
     noField : Fields
     field : ℕ → List ℕ → Json → Fields → Fields
 
--- The place behind what was read.
+-- The place after what was read.
 abbrev pub endOf : Read → ℕ
 endOf (To j) = j
 endOf Bad = 0

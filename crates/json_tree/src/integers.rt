@@ -60,7 +60,7 @@ fn sign(below: bool, size: u64) -> Integer
     Integer::Is(below, size)
 }
 
-// The digits at a place, behind a minus or not.
+// The digits at a place, after a minus or not.
 fn sized(text: &[u8], at: usize, below: bool) -> Integer
     ensures { λ r. ⌜ r ≡ sizeAt below (now (text .entry)) at ⌝ }
 {

@@ -13,14 +13,14 @@ use Rattle.json_value.specs.declared.Item.{Item}
 use Rattle.json_value.specs.declared.Item.the-variants.{More, Done, Wrong}
 
 -- value-separator = ws %x2C ws, or the closing bracket: end-array = ws %x5D ws, end-object = ws %x7D ws.
--- The ws behind a bracket is read by what follows it.
+-- The ws after a bracket is read by what follows it.
 unfoldable pub afterAt : ℕ → List ℕ → ℕ → Item
 afterAt close s i =
     if eqb (byte s (spaceAt s i)) 0x2C then More (spaceAt s (spaceAt s i + 1)) else
     if eqb (byte s (spaceAt s i)) close then Done (spaceAt s i + 1) else
     Wrong
 
--- Behind an opening bracket, which has ws of its own: the closing bracket, or the first item.
+-- After an opening bracket, which has ws of its own: the closing bracket, or the first item.
 unfoldable pub firstAt : ℕ → List ℕ → ℕ → Item
 firstAt close s i =
     if eqb (byte s (spaceAt s i)) close then Done (spaceAt s i + 1) else

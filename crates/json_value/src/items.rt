@@ -8,7 +8,7 @@ use json_text::bytes::byte;
 use json_text::bytes::space;
 use json_text::strings::string;
 
-// Behind an item: a comma and the next item, or the closing bracket.
+// After an item: a comma and the next item, or the closing bracket.
 pub fn after(text: &[u8], at: usize, close: u8) -> Item
     requires { ⌜ 0 < close ⌝ }
     ensures { λ r. ⌜ r ≡ afterAt close (now (text .entry)) at ⌝ }
@@ -24,7 +24,7 @@ pub fn after(text: &[u8], at: usize, close: u8) -> Item
     Item::Wrong
 }
 
-// Behind an opening bracket: the closing one, or the first item.
+// After an opening bracket: the closing one, or the first item.
 pub fn first(text: &[u8], at: usize, close: u8) -> Item
     requires { ⌜ 0 < close ⌝ }
     ensures { λ r. ⌜ r ≡ firstAt close (now (text .entry)) at ⌝ }
@@ -36,7 +36,7 @@ pub fn first(text: &[u8], at: usize, close: u8) -> Item
     Item::More(k)
 }
 
-// The colon behind a name, and the place of the value.
+// The colon after a name, and the place of the value.
 pub fn colon(text: &[u8], at: usize) -> Read
     ensures { λ r. ⌜ r ≡ colonAt (now (text .entry)) at ⌝ }
 {

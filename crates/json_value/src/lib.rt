@@ -6,8 +6,8 @@ pub mod values;
 // How many levels of arrays and objects a text may open.
 pub const LEVELS: usize = 16;
 
-// What stands behind an opening bracket, or behind an item: another item at a place, the closing bracket with the
-// place behind it, or neither.
+// What stands after an opening bracket, or after an item: another item at a place, the closing bracket with the
+// place after it, or neither.
 pub enum Item {
     More(usize),
     Done(usize),

@@ -2,8 +2,8 @@
 // of a string. The walks themselves go with a table of ends (`json_ends`).
 pub mod strings;
 
-// A member of an object: the place of its name, that is of the opening quote; the place behind the closing quote; the
-// place of the value; and the place behind the value.
+// A member of an object: the place of its name, that is of the opening quote; the place after the closing quote; the
+// place of the value; and the place after the value.
 pub struct Member {
     pub name: usize,
     pub stop: usize,
@@ -17,7 +17,7 @@ pub enum MemberStep {
     End,
 }
 
-// An element of an array: the place of the value, and the place behind it.
+// An element of an array: the place of the value, and the place after it.
 pub struct Element {
     pub value: usize,
     pub after: usize,

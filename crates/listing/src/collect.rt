@@ -1,4 +1,4 @@
-// Days that are written one behind the other into a list.
+// Days that are written one after the other into a list.
 ghost use mathlib.Core.List.{map, _++_};
 ghost use mathlib.Core.Path.{_≡_};
 ghost use Prim.Native.Nat.{ℕ, _+_, _<_, _≤_};
@@ -17,7 +17,7 @@ fn one_more(n: usize, yes: bool) -> usize
     n
 }
 
-// Each day is written, and the place goes on only behind one that is hit: no branch for the machine to guess.
+// Each day is written, and the place goes on only after one that is hit: no branch for the machine to guess.
 pub(crate) fn collect(hits: &[bool], first: u32, days: &mut [u32], at: usize) -> usize
     requires { ⌜ (first + length (now hits) ≤ endDay) × ((at + length (now hits) ≤ length (now days)) × (length (now days) < 4294967296)) ⌝ }
     ensures { λ r. ⌜ Collected (now (hits .entry)) first (now (days .entry)) at (now (days .exit)) r ⌝ }

@@ -9,7 +9,7 @@ ghost use Rattle.listing.specs.Inner.Parts.{ByMonths};
 use crate::parts::list_part;
 use matcher::Terms;
 
-// The n days from `first` on, behind the first entries of the list: the place behind the last of them, or one beyond the list where a month might
+// The n days from `first` on, after the first entries of the list: the place after the last of them, or one beyond the list where a month might
 // not have room.
 pub(crate) fn list_days(
     terms: Terms,

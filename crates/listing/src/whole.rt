@@ -1,4 +1,4 @@
-// The days of an event with one rule: the start's, and those of the rule behind it.
+// The days of an event with one rule: the start's, and those of the rule after it.
 ghost use mathlib.Core.Bool.{true};
 ghost use mathlib.Core.Path.{_≡_};
 ghost use Prim.Native.Nat.{_-_, _≤_};
@@ -45,7 +45,7 @@ pub fn is_by_months(terms: Terms, flags: &[bool]) -> bool
     track::alike::is_alike(terms, flags)
 }
 
-// The rule's days from `from` on and before `end`; the event begins not behind them.
+// The rule's days from `from` on and before `end`; the event begins not after them.
 fn list_rule(
     track: Track,
     flags: &[bool],

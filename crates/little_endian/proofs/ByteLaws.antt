@@ -16,7 +16,7 @@ use Rattle.signed.specs.Choose.{if_then_else_}
 use Rattle.signed.specs.Parts.{posPart, negPart}
 use Rattle.little_endian.specs.Bytes.{bytesOf, twos, valueOf, numberAt, signedOf}
 
--- one byte stored, with those behind it still to be
+-- one byte stored, with those after it still to be
 pub sets-more : (l : List ℕ) (i n v : ℕ) → 0 < n → sets l i (bytesOf n v) ≡ sets (set l i (v % 256)) (i + 1) (bytesOf (n - 1) (v / 256))
 unfolding bytesOf
 sets-more l i zero v h = absurd (omega arith)

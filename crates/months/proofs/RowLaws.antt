@@ -104,7 +104,7 @@ kept-none placed fl =
       row = λ w days kind e. absurd (false≢true (sym (getD-replicate 960 (rowOf w days + 31) false false (omega (arith, kind .week, kind .low, kind .high))) ∙ e));
     }
 
--- the week is written behind the rows
+-- the week is written after the rows
 pub kept-prepared : (placed : Bool) (fl rows after : List Bool) → Kept placed fl rows → Prepared fl rows after → Kept placed fl after
 kept-prepared placed fl rows after kept p =
     record {

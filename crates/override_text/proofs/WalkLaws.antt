@@ -12,7 +12,7 @@ use Rattle.json_walk.specs.declared.MemberStep.the-variants.{One, End}
 use Rattle.json_walk.proofs.Walks.{members-one, members-end, members-none}
 use Rattle.override_text.specs.Inner.Names.{lowest}
 
--- one member of a walk, and those behind it
+-- one member of a walk, and those after it
 pub members-next : (s : List ℕ) (n : ℕ) → 0 < n → (step : MemberStep) (m : Member) → step ≡ One m → (next : MemberStep) → next ≡ nextMemberAt s (m .after)
     → membersFrom n s step ≡ m ∷ membersFrom (n - 1) s next
 members-next s n h step m e next p =

@@ -67,7 +67,7 @@ fn fill(
     k
 }
 
-// The first 256 overrides at a place: more are not accepted. What is behind them in the slices keeps its value. The override at k is
+// The first 256 overrides at a place: more are not accepted. What is after them in the slices keeps its value. The override at k is
 // `patch` of the place and the id at k.
 pub fn overrides(
     text: &[u8],

@@ -1,4 +1,4 @@
--- Where a string ends: behind both its quotes, and within the text.
+-- Where a string ends: after both its quotes, and within the text.
 use Prim.Native.Nat.{ℕ, zero, suc, _+_, _≤_, _<_}
 use mathlib.Core.Bool.{Bool, true, false}
 use mathlib.Core.List.{List}
@@ -26,7 +26,7 @@ byte-in s i h = go (decLt i (length s))
         let z : getD s i 0 ≡ 0 = List·getD-eq-default s 0 r in
         absurd (omega arith)
 
--- A reader that began at k or behind it does not end before k.
+-- A reader that began at k or after it does not end before k.
 abbrev reach : ℕ → Read → ℕ
 reach k (To j) = j
 reach k Bad = k

@@ -55,7 +55,7 @@ time-below s e =
     let second : secondAt s ≤ 59 = leb-true (secondAt s) 59 q in
     omega arith
 
--- January 1st of 1601, and of the years behind the last ones.
+-- January 1st of 1601, and of the years after the last ones.
 first-1601 : firstOfYear 1 ≡ 366
 unfolding firstOfYear leapYears isLeap
 first-1601 = refl

@@ -35,7 +35,7 @@ use Rattle.property.specs.Inner.Vocabulary.{wordOf, numberAt}
 use Rattle.property.specs.declared.Place.{Place}
 use Rattle.property.specs.declared.Place.the-variants as place
 
--- A value stands behind its name and its colon, so never at 0.
+-- A value stands after its name and its colon, so never at 0.
 abbrev pub Later : MemberStep → Type 0
 Later (One m) = 0 < m .value
 Later End = Unit {0}

@@ -1,4 +1,4 @@
--- A record and a trailer as bytes stored one part behind the other, and the records of `table` by their numbers.
+-- A record and a trailer as bytes stored one part after the other, and the records of `table` by their numbers.
 use Prim.Native.Nat.{ℕ, suc, _+_, _*_, _/_, _%_, _<_}
 use mathlib.Core.List.{List, [], _∷_, _++_}
 use mathlib.Core.Option.{Option}
@@ -30,7 +30,7 @@ pub record-of : (table : ZoneTable) (zone : Option (List ℕ)) (id : ℕ) (d : D
 unfolding recordOf rowOf
 record-of table zone id d = refl
 
--- ---- stores one behind the other
+-- ---- stores one after the other
 
 pub sets-append : (a b l : List ℕ) (i : ℕ) → sets l i (a ++ b) ≡ sets (sets l i a) (i + length a) b
 sets-append [] b l i = ap (λ (k : ℕ). sets l k b) (omega arith)
@@ -50,7 +50,7 @@ byte-bytes m h =
     let b : m / 256 ≡ 0 = omega arith in
     rw (a, b)
 
--- one byte, and those behind it
+-- one byte, and those after it
 next-byte : (n k v : ℕ) → v % (256 * k) % 256 ≡ v % 256 → v % (256 * k) / 256 ≡ v / 256 % k → bytesOf n (v / 256 % k) ≡ bytesOf n (v / 256)
     → bytesOf (suc n) (v % (256 * k)) ≡ bytesOf (suc n) v
 unfolding bytesOf

@@ -26,7 +26,7 @@ pub(crate) fn marks(busy: bool, allday: bool, floating: bool) -> u8
     mark(busy, 1) + mark(allday, 2) + mark(floating, 4)
 }
 
-// The marks and the three zeros behind them are one number of four bytes.
+// The marks and the three zeros after them are one number of four bytes.
 pub(crate) fn put_record(buf: &mut [u8], at: usize, id: i64, start: i64, end: i64, marks: u8)
     requires { ⌜ at + 28 ≤ length (now buf) ⌝ }
     ensures { λ _. ⌜ now (buf .exit) ≡ sets (now (buf .entry)) at (rowOf id start end marks) ⌝ }

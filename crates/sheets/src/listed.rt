@@ -13,7 +13,7 @@ use override_text::Own;
 use record::rows::put_trailer;
 use writing::listed::write_days;
 
-// The records of the days, and the trailer behind them.
+// The records of the days, and the trailer after them.
 fn put_days(
     buffer: &mut [u8],
     own: Own,

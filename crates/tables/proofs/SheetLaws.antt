@@ -1,4 +1,4 @@
--- The table of a window: its length, its bytes as they are written one part behind the other, and what a call leaves of it.
+-- The table of a window: its length, its bytes as they are written one part after the other, and what a call leaves of it.
 use Prim.Native.Nat.{ℕ, _+_, _-_, _*_, _<_, _≤_, _^_}
 use mathlib.Core.Bool.{Bool}
 use mathlib.Core.List.{List, _++_}

@@ -33,7 +33,7 @@ pub(crate) fn is_one_chunk(from: u64, to: u64, n: usize) -> bool
     to <= 86400 * (day + n as u64)
 }
 
-// The records of a run that is filled, and the trailer behind them, with their number.
+// The records of a run that is filled, and the trailer after them, with their number.
 fn put_run(
     buffer: &mut [u8],
     text: &[u8],

@@ -16,7 +16,7 @@ use dates::Tracks;
 use override_text::Own;
 
 // As many days are marked at once as the window has, at least one and at most 32,768: the table of 89 years is marked once.
-// They hold every second before `to`, and no day behind: a window that ends in the profile asks for no day beyond it.
+// They hold every second before `to`, and no day after: a window that ends in the profile asks for no day beyond it.
 fn days_at_once(from: u64, to: u64) -> usize
     ensures { λ r. ⌜ (0 < r) × (r ≤ 32768) ⌝ }
 {

@@ -20,7 +20,7 @@ use record::rows::put_trailer;
 use window::whole::count_ids;
 use writing::whole::write_ids;
 
-// The records and the trailer behind them, with their number.
+// The records and the trailer after them, with their number.
 fn put_all(
     buffer: &mut [u8],
     text: &[u8],

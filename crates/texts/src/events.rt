@@ -25,10 +25,10 @@ use record::window::since_1600;
 // The first second of 1601, from 1600-01-01T00:00:00.
 const FIRST: u64 = 31622400;
 
-// The second behind 9998.
+// The second after 9998.
 const END: u64 = 265046860800;
 
-// Days behind that of the date are not asked for.
+// Days after that of the date are not asked for.
 fn look_up_event(text: &[u8], ends: &[u32], title: bool, public: bool, head: Head, x: u64) -> Lookup
     requires { ⌜ Ends (now text) (now ends) × (((fromHead inner (now text) head ≡ frontOf (now text)) × (eventFault (now text) ≡ 0)) × ((366 * 86400 ≤ x) × (x < 86400 * endDay))) ⌝ }
     ensures { λ r. ⌜ Placed (length (now (text .entry))) (shownBy public (isOccurrence (eventOf (now (text .entry))) x) (placeOf (chosen title (detailsAt (eventOf (now (text .entry))) x)))) (lookupShown r) ⌝ }

@@ -180,7 +180,7 @@ pub end-moves : (p : ℕ → Bool) (first limit count d left more e : ℕ) → E
 end-moves p first limit count d left more e w same =
     record { low = omega (arith, w .low); ends = omega (arith, w .ends); same = rw same (w .same) }
 
--- the days behind the start's own that the rule does not pick are not its own
+-- the days after the start's own that the rule does not pick are not its own
 pub falls-without : (excluded : Bool) (end : End) (t : Terms) (row : List Bool) (start d n : ℕ) → OutAfter t row (start / 86400) d n
     → (j : ℕ) → d ≤ j → j < d + n → fallsOnBy excluded end t row start j ≡ false
 unfolding isFirst

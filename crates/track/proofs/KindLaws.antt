@@ -84,7 +84,7 @@ placed-alike t row a b p =
 
 -- ---- two years
 
--- the k-th days lie as many periods behind the first
+-- the k-th days lie as many periods after the first
 record Shifted (f : Frequency) (w : ℕ) (x y a b : Day) : Type 0 where
   by-periods : ℕ
   mine : periodOf f w a ≡ periodOf f w x + by-periods

@@ -213,7 +213,7 @@ pub falls-by : (excluded : Bool) (end : End) (t : Terms) (row : List Bool) (star
 unfolding fallsOnBy fallsBy picksOnBy
 falls-by excluded end t row start n = rw (day-number n)
 
--- the days behind a day of the event that the rule does not pick are not its own
+-- the days after a day of the event that the rule does not pick are not its own
 pub falls-between : (excluded : Bool) (end : End) (t : Terms) (row : List Bool) (start d n : ℕ) → start / 86400 ≤ d
     → Between (picksOnBy t row) d n → Between (fallsOnBy excluded end t row start) d n
 unfolding isFirst

@@ -1,4 +1,4 @@
--- Days of a day's year: the first of the next, the first of its month, and those behind its month.
+-- Days of a day's year: the first of the next, the first of its month, and those after its month.
 use Prim.Native.Nat.{ℕ, suc, _+_, _-_, _%_, _<_, _≤_}
 use mathlib.Core.Path.{_≡_, refl, sym, ap, _∙_, subst}
 use native.Mathlib.Omega.{arith}

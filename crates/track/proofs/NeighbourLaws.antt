@@ -1,4 +1,4 @@
--- The days just before a year and just behind it, which its first and its last week may hold: from year to year they agree in all but
+-- The days just before a year and just after it, which its first and its last week may hold: from year to year they agree in all but
 -- their number, their year and their place in it.
 use Prim.Native.Nat.{ℕ, zero, suc, _+_, _-_, _*_, _/_, _%_, _<_, _≤_}
 use mathlib.Core.Bool.{Bool, true, false}
@@ -134,7 +134,7 @@ module _ (x : Day) (new : NewYear x) (low : 366 ≤ x .number) (high : x .number
       let on = ap (λ (d : Day). d .monthday) (step-next-year z is (omega arith) (ltb-false (z .monthday) (z .monthdays) e) (ltb-false (z .month) 12 f) ∙ next) in
       absurd (omega (arith, after .monthday))))
 
-  -- ---- the days behind
+  -- ---- the days after
 
   pub year-ends : x .number + x .yeardays ≤ endDay
   year-ends =
@@ -191,7 +191,7 @@ module _ (x y : Day) (new-x : NewYear x) (new-y : NewYear y) (low-x : 366 ≤ x 
       place-alike (dayAt (x .number + x .yeardays + j)) (dayAt (y .number + y .yeardays + j)) (weekday-of (x .number + x .yeardays + j) ∙ (days ∙ sym (weekday-of (y .number + y .yeardays + j)))) (p .month ∙ sym (q .month))
       (p .monthday ∙ sym (q .monthday)) (p .monthdays ∙ sym (q .monthdays))
 
-  -- six days before, those of the year, and six behind
+  -- six days before, those of the year, and six after
   pub around-alike : (j : ℕ) → j < x .yeardays + 12 → anyPlace (dayAt (x .number - 6 + j)) ≡ anyPlace (dayAt (y .number - 6 + j))
   around-alike j h =
       by (ltb j 6)

@@ -60,7 +60,7 @@ alike-terms t e =
     by (ltb 512 (t .interval)) (λ g. absurd (false≢true (rw (f, g) at e)))
     (λ g. record { some-periods = omega (arith, eqb-false (t .interval) 0 f); few = ltb-false 512 (t .interval) g; own = rw (f, g) at e }))
 
--- ---- a new year behind a day lies in a later year, and so in no earlier period
+-- ---- a new year after a day lies in a later year, and so in no earlier period
 
 module _ (n : ℕ) (x : Day) (new : NewYear x) (after : n < x .number) (high : x .number < dayCount) where
   facts : InCalendar x
@@ -145,7 +145,7 @@ module _ (t : Terms) (alike : Alike t) where
     same-phase = omega (arith, same, same-yeardays, same-weekday)
 
     module _ (excluded : Bool) (end : End) (row : List Bool) (start : ℕ) (endless : untilFrom end ≡ none) (after-x : start / 86400 < x .number) (after-y : start / 86400 < y .number) where
-      -- behind the start a rule that only its count ends has the days that it picks
+      -- after the start a rule that only its count ends has the days that it picks
       falls-picks : (n : ℕ) → start / 86400 < n → fallsOnBy excluded end t row start n ≡ picksOnBy t row n
       unfolding isFirst notAfter
       falls-picks n after =

@@ -83,7 +83,7 @@ fn in_year(x: Day, k: u32) -> Day
     }
 }
 
-// Most leaps end in their year or behind it: then no year is looked up.
+// Most leaps end in their year or after it: then no year is looked up.
 pub fn days_later(x: Day, k: u32) -> Day
     requires { ⌜ (x ≡ dayAt (x .number)) × ((1 ≤ k) × (x .number + k < dayCount)) ⌝ }
     ensures { λ r. ⌜ r ≡ dayAt (x .number + k) ⌝ }

@@ -58,7 +58,7 @@ fn is_far(placed: bool, left: u32) -> bool
     100000 <= left
 }
 
-// The place of a year's kind: its length, the weekday of its first day, and how far the period of that day lies behind one in step.
+// The place of a year's kind: its length, the weekday of its first day, and how far the period of that day lies after one in step.
 fn slot_of(terms: Terms, x: Day) -> u32
     requires { ⌜ Alike terms × YearBegins terms x ⌝ }
     ensures { λ r. ⌜ r ≡ slotOf terms x ⌝ }

@@ -80,7 +80,7 @@ first-passed p (suc k) n d h e =
     ∙ (ap (firstFrom p (n - 1)) (add-one d)
     ∙ (first-passed p k (n - 1) (suc d) (omega arith) (rw is at e) ∙ rw (less, there))))
 
--- ---- what it is, in one record: at d or later, at most the day behind the n days, passing if it is not that, and none before it passes
+-- ---- what it is, in one record: at d or later, at most the day after the n days, passing if it is not that, and none before it passes
 
 pub record First (p : ℕ → Bool) (n d r : ℕ) : Type 0 where
   pub low : d ≤ r

@@ -1,4 +1,4 @@
--- Ids that increase: an id stands at one place, and what stands behind it is greater.
+-- Ids that increase: an id stands at one place, and what stands after it is greater.
 use Prim.Native.Nat.{ℕ, zero, suc, _+_, _-_, _/_, _<_, _≤_}
 use mathlib.Core.Bool.{Bool, true, false, false≢true, _&&_, _||_}
 use mathlib.Core.List.{List, [], _∷_}
@@ -49,7 +49,7 @@ rises-not ids i a r within less =
     let more : getD ids (i - 1) 0 < getD ids i 0 = subst (λ (j : ℕ). getD ids (i - 1) 0 < getD ids j 0) back (r .each (i - 1) (omega arith)) in
     omega arith
 
--- ---- what stands behind is greater
+-- ---- what stands after is greater
 
 module _ (ids : List ℕ) (r : Rising ids) where
   behind : (n i : ℕ) → i + suc n < length ids → getD ids i 0 < getD ids (i + suc n) 0
@@ -165,7 +165,7 @@ module _ (ids : List ℕ) (gone : List Bool) (at : ℕ) (r : Rising ids) (sizes 
     x : ℕ
     x = getD ids i 0
 
-    -- none behind names it, nor what is less
+    -- none after names it, nor what is less
     later : (only : Bool) (j : ℕ) → j ≤ getD ids i 0 → isNamed only (drop (suc i) ids) (drop (suc i) gone) j ≡ false
     later only j most =
         named-nowhere only (drop (suc i) ids) (drop (suc i) gone) j

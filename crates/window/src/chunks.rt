@@ -22,7 +22,7 @@ pub fn chunk_days(at: u64, n: usize) -> usize
     n
 }
 
-// The second behind a chunk of k days.
+// The second after a chunk of k days.
 pub fn chunk_end(at: u64, to: u64, k: usize) -> u64
     requires { ⌜ at / 86400 + k ≤ endDay ⌝ }
     ensures { λ r. ⌜ r ≡ chunkEnd at to k ⌝ }

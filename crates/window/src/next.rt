@@ -138,7 +138,7 @@ fn past_blocks(hits: &[bool], from: usize) -> usize
     i
 }
 
-// Sixteen days without a hit are passed at once, and behind them more.
+// Sixteen days without a hit are passed at once, and after them more.
 fn past_quiet(hits: &[bool], i: usize) -> usize
     requires { ⌜ i ≤ length (now hits) ⌝ }
     ensures { λ r. ⌜ TrueAt (now (hits .entry)) i r ⌝ }

@@ -7,7 +7,7 @@ ghost use Rattle.dates.specs.Inner.Overrides.{isKept};
 ghost use Rattle.window.specs.Inner.Next.{nextOf, lower};
 ghost use Rattle.window.specs.Inner.Sorted.{Rising, Ordered, Below};
 
-// Is each id less than the one behind it?
+// Is each id less than the one after it?
 pub fn rises(ids: &[u64]) -> bool
     ensures { λ r. ⌜ Ordered (now (ids .entry)) r × (Rising (now (ids .entry)) → r ≡ true) ⌝ }
 {

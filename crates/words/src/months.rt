@@ -34,7 +34,7 @@ fn written(raw: &[u8]) -> u32
     10 + digit(b)
 }
 
-// A leap month, which is not supported, has an L behind its number.
+// A leap month, which is not supported, has an L after its number.
 pub fn month(raw: &[u8]) -> Named
     ensures { λ r. ⌜ r ≡ monthOf (now (raw .entry)) ⌝ }
 {

@@ -100,7 +100,7 @@ module _ (row : ℕ → List ℕ) (size : (x : ℕ) → length (row x) ≡ 28) (
       let n = next-is p second to (w .order) in
       write-none second place buf w (nextOf p second to) n (omega (arith, n .low))
 
--- ---- the place behind the last one is known
+-- ---- the place after the last one is known
 
 nothing-left : (p : ℕ → Bool) (a n : ℕ) → countIn p a n ≡ 0 → listIn p a n ≡ []
 nothing-left p a n none = empty (listIn p a n) (list-length p a n ∙ none)

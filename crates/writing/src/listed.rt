@@ -13,7 +13,7 @@ use crate::times::times;
 use override_text::Own;
 use record::occurrences::put_occurrence;
 
-// One behind the other, from the buffer's first byte on.
+// One after the other, from the buffer's first byte on.
 pub fn write_days(
     buf: &mut [u8],
     own: Own,

@@ -15,7 +15,7 @@ use window::next::next_kept;
 use window::next::renew;
 use window::sorted::rises;
 
-// The records from the second `from` on and before `to`, the first of them at a place of the buffer; the place behind the last one.
+// The records from the second `from` on and before `to`, the first of them at a place of the buffer; the place after the last one.
 pub fn write_run(
     buf: &mut [u8],
     at: usize,

@@ -78,7 +78,7 @@ fn write_chunk(
     )
 }
 
-// The records of the whole window, the first of them at a place of the buffer; the place behind the last one. That place is known from their
+// The records of the whole window, the first of them at a place of the buffer; the place after the last one. That place is known from their
 // number: once it is reached no later chunk has any.
 pub fn write_ids(
     buf: &mut [u8],

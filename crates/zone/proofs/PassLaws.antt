@@ -20,7 +20,7 @@ pub and-false : (t : Bool) → t && false ≡ false
 and-false true = refl
 and-false false = refl
 
--- both answers, of a table and of what is left of one behind a mark
+-- both answers, of a table and of what is left of one after a mark
 abbrev pub both : ℤ → List ℤ → List ℤ → Bool
 both b ts ns = allWithin 86399 ns && increasing (marks b ts ns)
 

@@ -15,13 +15,13 @@ use Rattle.window.specs.Inner.Lists.{listIn}
 unfoldable pub hitOn : List Bool → ℕ → ℕ → Bool
 hitOn hits first d = getD hits (d - first) false
 
--- Behind the first `at` entries of a list stand those of n days from `first` on that pass; `end` is the place behind the last.
+-- After the first `at` entries of a list stand those of n days from `first` on that pass; `end` is the place after the last.
 pub record Listed (p : ℕ → Bool) (first n : ℕ) (before : List ℕ) (at : ℕ) (after : List ℕ) (end : ℕ) : Type 0 where
   pub size : length after ≡ length before
   pub most : end ≤ at + n
   pub days : take end after ≡ take at before ++ listIn p first n
 
--- The same of hits, and no entry before or behind them has changed.
+-- The same of hits, and no entry before or after them has changed.
 pub record Collected (hits : List Bool) (first : ℕ) (before : List ℕ) (at : ℕ) (after : List ℕ) (end : ℕ) : Type 0 where
   pub listed : Listed (hitOn hits first) first (length hits) before at after end
   pub more : at ≤ end

@@ -40,7 +40,7 @@ pub record Kinds (t : Terms) (row rows : List Bool) (lists : List ℕ) : Type 0 
   pub rows-kept : Kept (t .placed) row rows
   pub lists-kept : KeptLists (t .placed) row lists
 
--- A list with room for a month behind a place.
+-- A list with room for a month after a place.
 pub record Room (days at : ℕ) : Type 0 where
   pub month : at + 31 ≤ days
   pub small : days < 4294967296

@@ -12,7 +12,7 @@ weekAt fl k = getD fl (77 + k % 7) false
 pub record NoPlaces (fl : List Bool) : Type 0 where
   pub none : (j : ℕ) → j < 756 → getD fl (84 + j) false ≡ false
 
--- They stand behind the rows of the kinds, and behind them whether no weekday is asked for by its place.
+-- They stand after the rows of the kinds, and after them whether no weekday is asked for by its place.
 pub record Week (fl rows : List Bool) : Type 0 where
   pub days : (k : ℕ) → k < 38 → getD rows (896 + k) false ≡ weekAt fl k
   pub plain : getD rows 959 false ≡ true → NoPlaces fl

@@ -19,7 +19,7 @@ placesOf ms = map (λ (m : Member). m .value) ms
 unfoldable pub placesAt : List ℕ → ℕ → List ℕ
 placesAt s at = if eqb (byte s at) 0x7B then placesOf (membersOf s at) else []
 
--- The first 256 overrides stand at the front of the three slices, and all behind them is as it was.
+-- The first 256 overrides stand at the front of the three slices, and all after them is as it was.
 pub record Filled (overrides : List Override) (patches : List ℕ) (ids₀ ids₁ : List ℕ) (gone₀ gone₁ : List Bool) (places₀ places₁ : List ℕ) (r : ℕ) : Type 0 where
   pub count : r ≡ length (take 256 overrides)
   pub ids : ids₁ ≡ sets ids₀ 0 (take 256 (map (λ (o : Override). o .id) overrides))

@@ -37,7 +37,7 @@ pub record Resting (t : Terms) (row start : ℕ) (a : Rest) : Type 0 where
   pub starts : start / 86400 < endDay
   pub begun : t .period ≤ periodOf (t .frequency) (t .first) (dayAt (start / 86400))
 
--- None of the n days from d on is picked, and where there are some, they lie behind the first.
+-- None of the n days from d on is picked, and where there are some, they lie after the first.
 pub record OutAfter (t : Terms) (row : List Bool) (first d n : ℕ) : Type 0 where
   pub out : Without (picksOnBy t row) d n
   pub after : 0 < n → first < d

@@ -13,14 +13,14 @@ use Rattle.rule.specs.Gives.{endDay}
 use Rattle.matcher.specs.declared.Terms.{Terms}
 use Rattle.matcher.specs.Inner.Member.{fallsOnBy}
 
--- 01, 5: "`until` is inclusive": the day behind the last that has the start's time of day not after it.
+-- 01, 5: "`until` is inclusive": the day after the last that has the start's time of day not after it.
 unfoldable pub untilDay : ℕ → ℕ → ℕ
 untilDay start until =
     let day = (until - start % 86400) / 86400 in
     let later = if leb endDay day then endDay else day + 1 in
     if ltb until (start % 86400) then 0 else later
 
--- The first of k days from d on that has n days before it that pass, from d on; the day behind them where there is none.
+-- The first of k days from d on that has n days before it that pass, from d on; the day after them where there is none.
 unfoldable pub endOf : (ℕ → Bool) → ℕ → ℕ → ℕ → ℕ
 endOf p zero d n = d
 endOf p (suc k) d n =

@@ -18,7 +18,7 @@ pub record Without (p : ℕ → Bool) (d n : ℕ) : Type 0 where
   pub none : (j : ℕ) → d ≤ j → j < d + n → p j ≡ false
   pub few : n < 2 ^ 31
 
--- The next number to look at is n behind d: none of those between passes.
+-- The next number to look at is n after d: none of those between passes.
 pub record Between (p : ℕ → Bool) (d n : ℕ) : Type 0 where
   pub none : (j : ℕ) → d < j → j < d + n → p j ≡ false
   pub more : 1 ≤ n

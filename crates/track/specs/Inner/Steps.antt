@@ -34,7 +34,7 @@ cursorOn t row x = record { day = x; seen = seenOn t row x; total = totalOn t ro
 unfoldable pub cursorAt : Terms → List Bool → ℕ → Cursor
 cursorAt t row n = cursorOn t row (dayAt n)
 
--- A day of the profile, or the one behind it.
+-- A day of the profile, or the one after it.
 pub record Reached (t : Terms) (row n : ℕ) : Type 0 where
   pub row-length : row ≡ 1574
   pub week : t .first < 7

@@ -44,14 +44,14 @@ pub record NewYear (x : Day) : Type 0 where
   pub monthday : x .monthday ≡ 1
   pub monthdays : x .monthdays ≡ 31
 
--- How far the period of a day lies behind one in step.
+-- How far the period of a day lies after one in step.
 unfoldable pub phaseOf : Terms → Day → ℕ
 phaseOf t x = (periodOf (t .frequency) (t .first) x - t .period) % t .interval
 
 unfoldable pub slotOf : Terms → Day → ℕ
 slotOf t x = 512 * (7 * (x .yeardays - 365) + x .weekday) + phaseOf t x
 
--- No month of a year is in step, by how far the period of its first day lies behind one in step.
+-- No month of a year is in step, by how far the period of its first day lies after one in step.
 unfoldable pub idleIn : Frequency → ℕ → ℕ → Bool
 idleIn Daily interval phase = false
 idleIn Weekly interval phase = false
@@ -90,14 +90,14 @@ pub record Spanning (t : Terms) (row start : ℕ) (x : Day) (n : ℕ) : Type 0 w
   pub after : start / 86400 ≤ x .number
   pub starts : start / 86400 < endDay
 
--- A year behind the start of a rule that only its count ends.
+-- A year after the start of a rule that only its count ends.
 pub record YearAsked (end : End) (t : Terms) (row start : ℕ) (x : Day) : Type 0 where
   pub row-length : row ≡ 1574
   pub begins : YearBegins t x
   pub after : start / 86400 < x .number
   pub endless : untilFrom end ≡ none
 
--- What is kept of each kind of years behind the first day: 0, or one more than the days of such a year that pass.
+-- What is kept of each kind of years after the first day: 0, or one more than the days of such a year that pass.
 pub record Kept (p : ℕ → Bool) (t : Terms) (first : ℕ) (known : List ℕ) : Type 0 where
   pub size : length known ≡ 7168
   pub days : (x : Day) → YearBegins t x → first < x .number → 0 < getD known (slotOf t x) 0

@@ -1,4 +1,4 @@
--- `values_vectors::lines` is safe and ends: each line ends behind its start.
+-- `values_vectors::lines` is safe and ends: each line ends after its start.
 use Prim.Native.Nat.{_+_, _-_, _≤_}
 use lib.ListN.{length}
 use borrow.Author.Needs.{needs}

@@ -10,7 +10,7 @@ use Rattle.window.specs.Inner.Next.{lower}
 unfoldable pub chunkDays : ℕ → ℕ → ℕ
 chunkDays at n = lower n (endDay - at / 86400)
 
--- The second behind a chunk of k days, in a window to `to`.
+-- The second after a chunk of k days, in a window to `to`.
 unfoldable pub chunkEnd : ℕ → ℕ → ℕ → ℕ
 chunkEnd at to k = lower to (86400 * (at / 86400 + k))
 

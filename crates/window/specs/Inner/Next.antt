@@ -9,7 +9,7 @@ use Rattle.signed.specs.Choose.{if_then_else_}
 use Rattle.rule.specs.Gives.{endDay}
 use Rattle.dates.specs.Inner.Overrides.{isKept}
 
--- The first of n days from d on that passes; the day behind them where none does.
+-- The first of n days from d on that passes; the day after them where none does.
 unfoldable pub firstFrom : (ℕ → Bool) → ℕ → ℕ → ℕ
 firstFrom p zero d = d
 firstFrom p (suc n) d =

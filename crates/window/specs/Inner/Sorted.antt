@@ -7,7 +7,7 @@ use lib.Dec.{ltb}
 use lib.ListN.{length, getD}
 use Rattle.signed.specs.Choose.{if_then_else_}
 
--- Each id is less than the one behind it.
+-- Each id is less than the one after it.
 pub record Rising (ids : List ℕ) : Type 0 where
   pub each : (i : ℕ) → i + 1 < length ids → getD ids i 0 < getD ids (i + 1) 0
 

@@ -1,4 +1,4 @@
--- The bytes that are written for each of a list of seconds, one behind the other.
+-- The bytes that are written for each of a list of seconds, one after the other.
 use Prim.Native.Nat.{ℕ}
 use mathlib.Core.List.{List, [], _∷_, _++_}
 

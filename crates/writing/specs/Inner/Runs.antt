@@ -18,12 +18,12 @@ pub record Overridden (ids gone places : ℕ) : Type 0 where
   pub marks : ids ≡ gone
   pub patches : ids ≡ places
 
--- The zone table is valid, and the times of every occurrence are listIn of the profile.
+-- The zone table is valid, and the times of every occurrence are those of the profile.
 pub record Timed (initial : ℤ) (instants offsets : List ℤ) (details : ℕ → Details) : Type 0 where
   pub valid : validTable initial instants offsets ≡ true
   pub small : (x : ℕ) → x < 2 ^ 60 → Small x (timesIn (details x))
 
--- The rows of the seconds of a stretch that pass, one behind the other, and the place behind them.
+-- The rows of the seconds of a stretch that pass, one after the other, and the place after them.
 pub record Written (row : ℕ → List ℕ) (p : ℕ → Bool) (from to at : ℕ) (before after : List ℕ) (behind : ℕ) : Type 0 where
   pub bytes : after ≡ sets before at (rowsOf row (listIn p from (to - from)))
   pub place : behind ≡ at + 28 * countIn p from (to - from)

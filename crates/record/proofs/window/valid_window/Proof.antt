@@ -1,4 +1,4 @@
--- `record::window::valid_window` meets its contract: each test decides, or leaves it to those behind it.
+-- `record::window::valid_window` meets its contract: each test decides, or leaves it to those after it.
 use native.Mathlib.Omega.{arith}
 use mathlib.Core.Bool.{true, false}
 use borrow.Author.Needs.{needs}

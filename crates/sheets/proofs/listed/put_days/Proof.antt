@@ -1,4 +1,4 @@
--- `sheets::listed::put_days` meets its contract: the trailer stands behind the records.
+-- `sheets::listed::put_days` meets its contract: the trailer stands after the records.
 use native.Mathlib.Omega.{arith}
 use mir.Facts.{toZ-ofZ}
 use Rattle.writing.specs.Inner.Details.{ownRow}

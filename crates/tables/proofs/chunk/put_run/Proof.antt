@@ -1,4 +1,4 @@
--- `tables::chunk::put_run` meets its contract: the trailer stands behind the records.
+-- `tables::chunk::put_run` meets its contract: the trailer stands after the records.
 use native.Mathlib.Omega.{arith}
 use mir.Facts.{toZ-ofZ}
 use Rattle.override_text.specs.Inner.Meaning.{detailsIn}

@@ -1,4 +1,4 @@
--- `tables::whole::put_all` meets its contract: the trailer stands behind the records.
+-- `tables::whole::put_all` meets its contract: the trailer stands after the records.
 use native.Mathlib.Omega.{arith}
 use mir.Facts.{toZ-ofZ}
 use Rattle.override_text.specs.Inner.Meaning.{detailsIn}

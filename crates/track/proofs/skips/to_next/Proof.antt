@@ -1,4 +1,4 @@
--- `track::skips::to_next` meets its contract. The invariant: no day between this one and the k-th behind it is picked.
+-- `track::skips::to_next` meets its contract. The invariant: no day between this one and the k-th after it is picked.
 use Rattle.track.proofs.SkipLaws.{between-one, between-more, not-staying, month-few, month-reaches}
 use Rattle.track.specs.Inner.Skips.{Between}
 use Rattle.matcher.specs.Inner.Walk.{picksOnBy}

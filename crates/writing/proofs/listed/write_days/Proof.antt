@@ -1,4 +1,4 @@
--- `writing::listed::write_days` meets its contract: each turn writes the record of one day and goes on behind it.
+-- `writing::listed::write_days` meets its contract: each turn writes the record of one day and goes on after it.
 use Prim.Native.Nat.{_-_}
 use native.Mathlib.Omega.{arith}
 use lib.ListN.{length}

@@ -1,4 +1,4 @@
--- `writing::runs::write_run` meets its contract: each turn writes one record and goes on behind it.
+-- `writing::runs::write_run` meets its contract: each turn writes one record and goes on after it.
 use Prim.Native.Nat.{_-_, _≤_}
 use mathlib.Core.Path.{_≡_, refl, _∙_}
 use native.Mathlib.Omega.{arith}

@@ -1,4 +1,4 @@
--- `writing::whole::write_ids` meets its contract: each turn writes one chunk and goes on behind it.
+-- `writing::whole::write_ids` meets its contract: each turn writes one chunk and goes on after it.
 use Prim.Native.Nat.{ℕ, _-_}
 use mathlib.Core.Path.{_≡_, refl, sym, _∙_, subst}
 use native.Mathlib.Omega.{arith}
