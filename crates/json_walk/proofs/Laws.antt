@@ -9,8 +9,9 @@ use native.Mathlib.Decide.{decLt}
 use lib.Dec.{eqb, ltb}
 use lib.ListN.{length, getD, length-append, List·getD-eq-default}
 use lib.Seq.{append-snoc, getD-append-seam}
-use borrow.Author.Tests.{lt-ltb, le-ltb, ne-eqb}
+use borrow.Author.Tests.{lt-ltb, le-ltb, ne-eqb, eqb-true}
 use Rattle.signed.specs.Choose.{if_then_else_}
+use Rattle.signed.proofs.Parts.{false-true}
 use Rattle.json_walk.specs.Strings.{bytesAt, rawAt, same, slashed}
 use Rattle.json_walk.specs.Inner.Within.{ahead, within}
 
@@ -84,3 +85,15 @@ bytes-all w = bytes-from [] w
 
 pub same-all : (x : List ℕ) (n : ℕ) (w : List ℕ) → n ≡ length w → same x (bytesAt n w 0) ≡ same x w
 same-all x n w e = rw (e, bytes-all w)
+
+-- Strings that compare as the same are equal.
+pub same-eq : (x y : List ℕ) → same x y ≡ true → x ≡ y
+unfolding same
+same-eq [] [] p = refl
+same-eq [] (b ∷ y) p = false-true p
+same-eq (a ∷ x) [] p = false-true p
+same-eq (a ∷ x) (b ∷ y) p = go (eqb a b) refl p (same-eq x y)
+  where
+    go : (t : Bool) → eqb a b ≡ t → (if t then same x y else false) ≡ true → (same x y ≡ true → x ≡ y) → a ∷ x ≡ b ∷ y
+    go true e q f = rw (eqb-true a b e, f q)
+    go false e q f = false-true q

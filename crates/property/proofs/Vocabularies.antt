@@ -10,10 +10,9 @@ use borrow.Author.Tests.{eq-eqb, eqb-true}
 use Rattle.gregorian.proofs.Computed.{all-below}
 use Rattle.signed.specs.Choose.{if_then_else_}
 use Rattle.json_text.specs.Bytes.{byte}
-use Rattle.json_walk.proofs.Laws.{bytes-ahead, length-bytes}
+use Rattle.json_walk.proofs.Laws.{bytes-ahead, length-bytes, same-eq}
 use Rattle.json_walk.specs.Strings.{bytesAt, rawAt, same}
 use Rattle.json_walk.specs.Inner.Within.{ahead, within}
-use Rattle.json_names.proofs.Orders.{same-eq}
 use Rattle.property.specs.Inner.Vocabulary.{vocabulary, wordOf, numbered, ofShort, ofFive, ofSeven, ofEight, ofTwelve, ofLong, numberBy, numberAt}
 
 -- A number that was found for the name x: none, or one whose word x is.
