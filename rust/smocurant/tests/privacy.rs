@@ -37,3 +37,40 @@ fn a_secret_event_has_no_zone() {
         assert!(own.0.iter().all(|outcome| outcome.answer != 12), "seed {seed}");
     }
 }
+
+/// A private event with a patched date, its lengths spelled as given.
+fn closure(own: &str, patched: &str) -> Vec<u8> {
+    format!(
+        r#"{{"@type":"Event","uid":"{own}","updated":"2026-01-01T00:00:00Z","privacy":"private","title":"{patched}","start":"2026-12-21T00:00:00",
+        "duration":"{own}","recurrenceRules":[{{"@type":"RecurrenceRule","frequency":"daily","count":7}}],
+        "recurrenceOverrides":{{"2026-12-24T00:00:00":{{"duration":"{patched}"}}}}}}"#
+    )
+    .into_bytes()
+}
+
+/// A length is one value, however it is spelled: a day is 24 hours.
+#[test]
+fn a_day_and_24_hours_look_the_same() {
+    let mut case = Case::new(0);
+    case.zone.initial_offset = 0;
+    case.zone.instants.clear();
+    case.zone.offsets.clear();
+    case.window = (1_700_000_000, 1_900_000_000);
+    let texts = [closure("P1D", "P1W"), closure("PT24H", "PT168H"), closure("PT1440M", "P7D")];
+    let [one, other, third] = texts.each_ref().map(|text| learned(&case, text, 0));
+    assert!(one == other && other == third);
+    assert_eq!((one.0[4].answer, one.0[4].length), (0, 28 * 7 + 12));
+}
+
+/// Every request for words about a secret event is answered 14, also of a date that is an occurrence; its table has no records.
+#[test]
+fn a_secret_event_gives_nothing() {
+    for seed in 0..500 {
+        let (model, [text, _]) = pairs::secret(&mut Random::new(seed));
+        let mut case = Case::new(seed);
+        case.dates.push(model.start);
+        let (tables, texts) = learned(&case, &text, seed);
+        assert!(texts.iter().all(|told| *told == (14, 0, 0)), "seed {seed}");
+        assert!(tables.iter().all(|table| table.answer != 0 || table.length == 12), "seed {seed}");
+    }
+}
