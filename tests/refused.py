@@ -21,7 +21,7 @@ LOST = re.compile(r"has no field|has no `|expected type `tie\.|tie\.Need|is in a
 # The names of the prover's own needs: first those of a promise, then those of safety.
 PROMISED = re.compile(r"returns(-\d+)?$|.*-(requires|holds|again|less)(-\d+)?$")
 SAFETY = re.compile(
-    r"(add|sub|mul|div|rem|neg|shl|shr|cast|index|part|slice|shared-slice|array|element|way|val|int-to-float|float)-|same-(length|references)"
+    r"(add|sub|mul|div|rem|neg|shl|shr|cast|index|part|slice|shared-slice|array|element|enum|way|val|int-to-float|float)-|same-(length|references)"
 )
 
 
