@@ -13,7 +13,7 @@ use lib.Signed.{ltZ}
 use borrow.Author.Tests.{ltb-false}
 use Rattle.rule.specs.Lists.{any}
 use Rattle.recurrence.specs.Inner.Order.{StrictlyIncreases, among}
-use Rattle.recurrence.specs.Occurs.{OccursWithin}
+use Rattle.recurrence.specs.Inner.Within.{OccursWithin}
 use Rattle.zone.specs.Table.{validTable}
 use Rattle.event.specs.Types.{Event}
 use Rattle.event.specs.Event.{eventOf}

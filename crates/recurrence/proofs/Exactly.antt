@@ -10,7 +10,8 @@ use borrow.Author.Tests.{ltb-true, leb-true, lt-ltb, le-ltb, le-leb, eqb-true, e
 use Rattle.rule.specs.Lists.{any}
 use Rattle.rule.proofs.Bools.{by, or-left, or-right, or-either, both, left, right, same-tests}
 use Rattle.recurrence.specs.Event.{Event, overrideExcludes, overrideNames, isStart, ruleGives, excludedRuleGives, inSet}
-use Rattle.recurrence.specs.Occurs.{Occurs, OccursWithin}
+use Rattle.recurrence.specs.Occurs.{Occurs}
+use Rattle.recurrence.specs.Inner.Within.{OccursWithin}
 use Rattle.recurrence.specs.Inner.Order.{IncreasesFrom, StrictlyIncreases, among}
 use Rattle.recurrence.specs.Ids.{secondsFrom, ids}
 use Rattle.recurrence.specs.Inner.Candidates.{inWindow}

@@ -16,7 +16,7 @@ use Rattle.signed.proofs.Parts.{true-false}
 use Rattle.little_endian.specs.Bytes.{bytesOf, twos}
 use Rattle.little_endian.proofs.ByteLaws.{bytes-length}
 use Rattle.recurrence.specs.Inner.Order.{StrictlyIncreases, among}
-use Rattle.recurrence.specs.Occurs.{OccursWithin}
+use Rattle.recurrence.specs.Inner.Within.{OccursWithin}
 use Rattle.recurrence.proofs.Exactly as recurrence
 use Rattle.words.specs.declared.Privacy.{Privacy}
 use Rattle.words.specs.declared.Privacy.the-variants.{Public, Private, Secret}
