@@ -62,7 +62,8 @@ def verdict(crate, target, fact, log):
     names = [name for name, _ in errors]
     if fact and fact not in names:
         return f"{fact} is not refused"
-    if not any(is_fact(name) for name in ([fact] if fact else names)):
+    # A law is a fact whatever its name.
+    if not any(target.startswith("proofs/") or is_fact(name) for name in ([fact] if fact else names)):
         return f"refused by safety alone: {', '.join(names)}" if names else "not refused by a fact of its own"
     return None
 
