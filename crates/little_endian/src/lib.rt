@@ -1,11 +1,13 @@
 // Writes a number's bytes, the lowest first, into a lent buffer. The contracts give the whole buffer: the bytes stand at `at`, and every
-// other byte keeps its value.
+// other byte keeps its value. `reading` has the way back.
 ghost use mathlib.Core.Path.{_≡_};
 ghost use Prim.Native.Nat.{_+_, _≤_};
 ghost use lib.ListN.{length};
 ghost use lib.Seq.{sets};
 ghost use Rattle.little_endian.specs.Bytes.{bytesOf};
 ghost use Rattle.little_endian.specs.Bytes.{twos as Bytes·twos};
+
+pub mod reading;
 
 pub fn put_u16(buf: &mut [u8], at: usize, v: u16)
     requires { ⌜ at + 2 ≤ length (now buf) ⌝ }
