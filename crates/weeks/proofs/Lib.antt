@@ -1,0 +1,5 @@
+pub mod Instants
+pub mod TouchLaws
+pub mod SweepLaws
+pub mod UploadLaws
+pub mod PlaceLaws

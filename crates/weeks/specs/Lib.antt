@@ -1,0 +1,3 @@
+pub mod Weeks
+pub mod Replay
+pub mod Inner

@@ -1,0 +1,1 @@
+// Definitions and theorems only: which weeks were reported, shut or missing. The crate `replay` has the functions.
