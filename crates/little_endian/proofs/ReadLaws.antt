@@ -57,9 +57,9 @@ module _ (v : ℕ) (h : 2 ^ 63 ≤ v) (g : v < 2 ^ 64) where
   unfolding signedOf
   signed-high = toZ-ofZ high-fits ∙ rw (le-ltb v (2 ^ 63) h) high
 
-pub signed-fits : (v : ℕ) → v < 2 ^ 64 → SFits w64 (signedOf v)
+pub signed-fits : (v : ℕ) → SFits w64 (signedOf v)
 unfolding signedOf
-signed-fits v h = by (ltb v (2 ^ 63)) refl
+signed-fits v = by (ltb v (2 ^ 63)) refl
   where
     by : (t : Bool) → ltb v (2 ^ 63) ≡ t → SFits w64 (if t then pos v else negsuc (2 ^ 64 - 1 - v))
     by true e = record { sfits = ltb-true v (2 ^ 63) e }

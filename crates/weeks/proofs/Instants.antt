@@ -51,6 +51,12 @@ up-start from i f =
     let e : posPart (from +ℤ pos (604800 * i)) + negPart from + 0 ≡ negPart (from +ℤ pos (604800 * i)) + posPart from + 604800 * i = sum-parts from (pos (604800 * i)) in
     omega arith
 
+-- ---- a number has one part that is not 0
+
+one-part : (z : ℤ) → (posPart z ≡ 0) ⊎ (negPart z ≡ 0)
+one-part (pos n) = inr refl
+one-part (negsuc n) = inl refl
+
 -- ---- the week of an instant
 
 past : (b x i : ℕ) → b + 604800 * i ≤ x → ((x - b) / 604800 ≡ i → ⊥) → b + 604800 * suc i ≤ x
@@ -66,18 +72,36 @@ natural i b x =
     (λ u. let v = leb-true (b + 604800 * i) x u in rw (u, le-ltb x (b + 604800 * suc i) (past b x i v k)))
     (λ u. rw u)))))
 
-module _ (from : ℤ) (t : ℤ) (f : SFits w64 from) (g : SFits w64 t) (i : ℕ) where
-  pub in-week : inWeek from i t ≡ (if ltb (up t) (up from) then false else eqb (firstOf (up from) (up t)) i)
+-- An instant of which nothing is known may lie before all that an i64 can say; so does no range that has seconds before it.
+module _ (from t : ℤ) (f : SFits w64 from) (positive : 0 < up from) (i : ℕ) where
+  late : Low t → inWeek from i t ≡ (if ltb (up t) (up from) then false else eqb (firstOf (up from) (up t)) i)
   unfolding inWeek
-  in-week =
+  late b =
       let a = fit-neg from f in
-      let b = fit-neg t g in
       rw (
         le-up (weekStart from i) t (start-low from i a) b,
         lt-up t (weekStart from (suc i)) b (start-low from (suc i) a),
         up-start from i a,
         up-start from (suc i) a,
       ) (natural i (up from) (up t))
+
+  none : 2 ^ 63 < negPart t → leZ (weekStart from i) t ≡ false
+  none b =
+      by (leZ (weekStart from i) t)
+      (λ e.
+        let a = start-low from i (fit-neg from f) in
+        ⊎-elim (λ z. absurd (omega (arith, le-parts (weekStart from i) t e))) (λ z. absurd (omega arith)) (one-part t))
+      (λ e. e)
+
+  early : 2 ^ 63 < negPart t → inWeek from i t ≡ (if ltb (up t) (up from) then false else eqb (firstOf (up from) (up t)) i)
+  unfolding inWeek
+  early b =
+      let before : ltb (up t) (up from) ≡ true = lt-ltb (up t) (up from) (⊎-elim (λ z. omega arith) (λ z. absurd (omega arith)) (one-part t)) in
+      rw (none b, before)
+
+  pub in-week : inWeek from i t ≡ (if ltb (up t) (up from) then false else eqb (firstOf (up from) (up t)) i)
+  in-week =
+      by (leb (negPart t) (2 ^ 63)) (λ e. late (leb-true (negPart t) (2 ^ 63) e)) (λ e. early (leb-false (negPart t) (2 ^ 63) e))
 
 -- ---- a Monday; 55,808 is 345,600 + 2^63 modulo 604,800
 
@@ -94,10 +118,6 @@ monday-up (negsuc n) f =
 
 -- ---- the weeks of a range
 
-one-part : (z : ℤ) → (posPart z ≡ 0) ⊎ (negPart z ≡ 0)
-one-part (pos n) = inr refl
-one-part (negsuc n) = inl refl
-
 module _ (from to : ℤ) (f : Low from) (g : Low to) where
   pub seconds-up : posPart (to -ℤ from) ≡ up to - up from
   seconds-up =
@@ -107,3 +127,7 @@ module _ (from to : ℤ) (f : Low from) (g : Low to) where
   pub weeks-up : weeksIn from to ≡ (up to - up from) / 604800
   unfolding weeksIn
   weeks-up = ap (λ (n : ℕ). n / 604800) seconds-up
+
+-- a Monday has seconds before it
+pub monday-positive : (from : ℤ) → SFits w64 from → isMonday from ≡ true → 0 < up from
+monday-positive from f e = omega (arith, eqb-true (up from % 604800) 55808 (sym (monday-up from f) ∙ e))

@@ -12,10 +12,11 @@ use mir.Syntax.{w64}
 use mir.Val.{SFits}
 use borrow.Author.Tests.{le-ltb, lt-ltb}
 use Rattle.signed.specs.Choose.{if_then_else_}
+use Rattle.little_endian.proofs.ReadLaws.{signed-fits}
 use Rattle.rule.specs.Lists.{any, countIn}
 use Rattle.rule.proofs.Counting.{count-same}
 use Rattle.sheet.specs.Runs.{tabulate}
-use Rattle.sheet.specs.Records.{Row, rowAt}
+use Rattle.sheet.specs.Records.{Row, startAt, endAt, rowAt}
 use Rattle.sheet.specs.Reading.{rowsOf, countOf}
 use Rattle.sheet.proofs.RunLaws.{tab-same, tab-map}
 use Rattle.weeks.specs.Weeks.{inWeek, touches, isReported, isShut, isMissing, count, uploadsIn, placeOf}
@@ -23,7 +24,7 @@ use Rattle.weeks.specs.Inner.Marks.{up, spanOf, spanAt, larger, raiseAll
 use Rattle.weeks.specs.Inner.Places.{uploadAll, classOf}
 use Rattle.weeks.proofs.TouchLaws.{covers, touches-span}
 use Rattle.weeks.proofs.SweepLaws.{larger-max, raise-all, reach-zero, sweep-tab}
-use Rattle.weeks.proofs.UploadLaws.{AllFit, orUploads, uploaded, any-counts}
+use Rattle.weeks.proofs.UploadLaws.{orUploads, uploaded, any-counts}
 
 -- the numbers of every record fit an i64
 pub record Fits (r : Row) : Type 0 where
@@ -33,6 +34,15 @@ pub record Fits (r : Row) : Type 0 where
 abbrev pub RowsFit : List Row → Type 0
 RowsFit [] = Unit {0}
 RowsFit (r ∷ rs) = Fits r × RowsFit rs
+
+rows-fit-from : (s : List ℕ) (k n : ℕ) → RowsFit (tabulate (rowAt s) k n)
+unfolding tabulate rowAt startAt endAt
+rows-fit-from s k zero = Prim.tt
+rows-fit-from s k (suc n) = (record { start = signed-fits _; end = signed-fits _ }, rows-fit-from s (suc k) n)
+
+pub rows-fit : (s : List ℕ) → RowsFit (rowsOf s)
+unfolding rowsOf
+rows-fit s = rows-fit-from s 0 (countOf s)
 
 -- ---- shut or missing
 
@@ -72,7 +82,7 @@ unfolding placeOf isReported isShut uploadsIn
 place-by log rows from i = rw (any-counts (inWeek from i) log) (by-uploads (count (inWeek from i) log) (any (touches from i) rows))
 
 -- the whole way: zeros, spans, sweep, uploads
-pub places-are : (log : List ℤ) (rows : List Row) (from : ℤ) (n : ℕ) → SFits w64 from → AllFit log → RowsFit rows
+pub places-are : (log : List ℤ) (rows : List Row) (from : ℤ) (n : ℕ) → SFits w64 from → 0 < up from → RowsFit rows
     → uploadAll (up from) log (sweep 0 0 (raiseAll (map (spanOf (up from)) rows) (tabulate (λ i. pos 0) 0 n))) ≡ tabulate (placeOf log rows from) 0 n
 unfolding orUploads
 places-are log rows from n f a b =

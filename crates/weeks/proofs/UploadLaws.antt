@@ -23,11 +23,6 @@ use Rattle.weeks.specs.Inner.Marks.{up, firstOf}
 use Rattle.weeks.specs.Inner.Places.{bump, upload, uploadAll}
 use Rattle.weeks.proofs.Instants.{lt-up, le-up, start-low, up-start, in-week}
 
--- every instant of a log fits an i64
-abbrev pub AllFit : List ℤ → Type 0
-AllFit [] = Unit {0}
-AllFit (t ∷ ts) = SFits w64 t × AllFit ts
-
 -- the uploads of a week, or what the place holds where there are none
 unfoldable pub orUploads : ℕ → ℤ → ℤ
 orUploads zero z = z
@@ -35,7 +30,7 @@ orUploads (suc n) z = pos (suc n)
 
 -- ---- one upload
 
-upload-tab : (from t : ℤ) (n : ℕ) → SFits w64 from → SFits w64 t → (f : ℕ → ℤ)
+upload-tab : (from t : ℤ) (n : ℕ) → SFits w64 from → 0 < up from → (f : ℕ → ℤ)
     → upload (up from) (tabulate f 0 n) t ≡ tabulate (λ i. if inWeek from i t then bump (f i) else f i) 0 n
 unfolding upload
 upload-tab from t n a b f =
@@ -62,17 +57,17 @@ counted from ts c m i false = ap (λ (x : ℕ). orUploads x (negsuc m)) (omega a
 
 -- ---- all uploads, into places that hold counts or negative numbers
 
-pub uploaded : (from : ℤ) (log : List ℤ) (n : ℕ) → SFits w64 from → AllFit log → (c m : ℕ → ℕ)
+pub uploaded : (from : ℤ) (log : List ℤ) (n : ℕ) → SFits w64 from → 0 < up from → (c m : ℕ → ℕ)
     → uploadAll (up from) log (tabulate (λ i. orUploads (c i) (negsuc (m i))) 0 n)
     ≡ tabulate (λ i. orUploads (count (inWeek from i) log + c i) (negsuc (m i))) 0 n
 unfolding uploadAll count
 uploaded from [] n f a c m =
     tab-same (λ i. orUploads (c i) (negsuc (m i))) (λ i. orUploads (0 + c i) (negsuc (m i))) 0 n (λ j p q. ap (λ (x : ℕ). orUploads x (negsuc (m j))) (omega arith))
 uploaded from (t ∷ ts) n f a c m =
-    ap (uploadAll (up from) ts) (upload-tab from t n f (a .0) (λ i. orUploads (c i) (negsuc (m i)))
+    ap (uploadAll (up from) ts) (upload-tab from t n f a (λ i. orUploads (c i) (negsuc (m i)))
     ∙ tab-same (λ i. if inWeek from i t then bump (orUploads (c i) (negsuc (m i))) else orUploads (c i) (negsuc (m i)))
     (λ i. orUploads (if inWeek from i t then c i + 1 else c i) (negsuc (m i))) 0 n (λ j p q. bumped (c j) (m j) (inWeek from j t)))
-    ∙ (uploaded from ts n f (a .1) (λ i. if inWeek from i t then c i + 1 else c i) m
+    ∙ (uploaded from ts n f a (λ i. if inWeek from i t then c i + 1 else c i) m
     ∙ tab-same _ (λ i. orUploads ((if inWeek from i t then 1 else 0) + count (inWeek from i) ts + c i) (negsuc (m i))) 0 n
     (λ j p q. counted from ts (c j) (m j) j (inWeek from j t)))
 

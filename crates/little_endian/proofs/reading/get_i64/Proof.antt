@@ -21,7 +21,7 @@ returns c =
     let e = c .signed-of .ensures in
     let g = c .before .get-u64 .ensures in
     let r = e ∙ ap signedOf (g .is) in
-    let f : SFits w64 (c .signed-of .result) = rw e (signed-fits _ (omega (arith, g .within))) in
+    let f : SFits w64 (c .signed-of .result) = rw e (signed-fits _) in
     toZ-ofZ f ∙ r
 
 pub get-i64-spec : {M : Type 1} → statement M
