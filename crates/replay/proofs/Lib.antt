@@ -1,1 +1,3 @@
 pub mod LoopLaws
+pub mod RangeLaws
+pub mod CallLaws

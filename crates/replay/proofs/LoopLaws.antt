@@ -1,25 +1,27 @@
 -- One turn of each loop.
 use Prim.Native.Nat.{_/_, _^_, ℕ, zero, suc, _+_, _-_, _<_, _≤_}
 use mathlib.Core.List.{List, [], _∷_, _++_, append-nil}
-use mathlib.Core.Bool.{true, false}
+use mathlib.Core.Bool.{Bool, true, false, _&&_}
 use mathlib.Core.Path.{_≡_, refl, sym, ap, _∙_}
 use native.Mathlib.Omega.{arith}
 use native.Mathlib.Numerals.{add-one, sub-one}
 use lib.Dec.{ltb}
 use lib.IntN.{ℤ, pos, negsuc, _+ℤ_}
-use lib.Signed.{ltZ}
+use lib.Signed.{ltZ, leZ}
 use mir.Syntax.{w64}
 use mir.Val.{SFits, toZ, ofZ}
 use mir.Facts.{toZ-ofZ}
-use borrow.Author.Tests.{ltb-true, lt-ltb, le-ltb}
-use Rattle.signed.proofs.Parts.{parts-fit, subℕ-pos, subℕ-neg, fit-neg, true-false}
-use lib.ListN.{length, getD, set, take, drop, drop-of-length-le}
+use borrow.Author.Tests.{ltb-true, ltb-false, lt-ltb, le-ltb}
+use Rattle.signed.proofs.Parts.{parts-fit, subℕ-pos, subℕ-neg, fit-neg, true-false, false-true}
+use lib.ListN.{length, getD, set, take, drop, drop-of-length-le, length-drop}
 use lib.Seq.{set-out, take-suc-set, drop-set-lt, drop-cons, append-snoc, take-all}
 use Rattle.signed.specs.Choose.{if_then_else_}
 use Rattle.signed.specs.Parts.{posPart, negPart}
 use Rattle.sheet.specs.Runs.{tabulate}
 use Rattle.weeks.specs.Inner.Marks.{Span, up, firstOf, raise, raiseAll, larger, sweep}
-use Rattle.weeks.specs.Inner.Places.{bump, upload, uploadAll, Below}
+use Rattle.weeks.specs.Inner.Places.{bump, upload, uploadAll, Below, classOf}
+use Rattle.weeks.specs.Weeks.{count}
+use Rattle.weeks.specs.Replay.{ordered}
 use Rattle.rule.proofs.Bools.{by}
 use native.Mathlib.Nat.{le-trans}
 
@@ -57,6 +59,17 @@ uploads-turn b log j p h = rw (add-one j, drop-cons log j (pos 0) h)
 pub uploads-done : (b : ℕ) (log : List ℤ) (j : ℕ) (p : List ℤ) → length log ≤ j → uploadAll b (drop j log) p ≡ p
 unfolding uploadAll
 uploads-done b log j p h = rw (drop-of-length-le log {i = j} h)
+
+-- the sweep leaves negative numbers
+sign : (b : Bool) → posPart (if b then negsuc 0 else negsuc 1) ≤ 0
+sign true = omega arith
+sign false = omega arith
+
+pub sweep-below : (r i : ℕ) (p : List ℤ) → Below 0 (sweep r i p)
+unfolding sweep
+sweep-below r i [] k = omega arith
+sweep-below r i (z ∷ zs) zero = sign (ltb i (larger r (posPart z)))
+sweep-below r i (z ∷ zs) (suc k) = sweep-below (larger r (posPart z)) (suc i) zs k
 
 bump-below : (z : ℤ) (m : ℕ) → posPart z ≤ m → posPart (bump z) ≤ m + 1
 unfolding bump
@@ -129,3 +142,88 @@ module _ (b : ℕ) (p : List ℤ) (t : ℤ) (x : ℕ) (e : x ≡ up t) where
     pub upload-past : length p ≤ w → p ≡ upload b p t
     unfolding upload
     upload-past g = rw (le-ltb (up t) b (omega arith)) (sym (set-out p (firstOf b (up t)) _ (omega (arith, week))))
+
+-- ---- the log's order
+
+order-more : (log : List ℤ) (j : ℕ) → j + 1 < length log
+    → ordered (drop j log) ≡ (leZ (getD log j (pos 0)) (getD log (j + 1) (pos 0)) && ordered (drop (j + 1) log))
+unfolding ordered
+order-more log j h = rw (add-one j, drop-cons log j (pos 0) (omega arith), drop-cons log (suc j) (pos 0) (omega arith))
+
+pub order-turn : (log : List ℤ) (j : ℕ) → j + 1 < length log → leZ (getD log j (pos 0)) (getD log (j + 1) (pos 0)) ≡ true
+    → ordered (drop (j + 1) log) ≡ ordered (drop j log)
+order-turn log j h e = sym (order-more log j h ∙ rw e)
+
+pub order-fails : (log : List ℤ) (j : ℕ) → j + 1 < length log → leZ (getD log j (pos 0)) (getD log (j + 1) (pos 0)) ≡ false
+    → false ≡ ordered (drop j log)
+order-fails log j h e = sym (order-more log j h ∙ rw e)
+
+short : (l : List ℤ) → length l ≤ 1 → true ≡ ordered l
+unfolding ordered
+short [] h = refl
+short (x ∷ []) h = refl
+short (x ∷ y ∷ l) h = absurd (omega arith)
+
+pub order-done : (log : List ℤ) (j : ℕ) → length log ≤ j + 1 → true ≡ ordered (drop j log)
+order-done log j h = short (drop j log) (simp length-drop (omega arith))
+
+-- ---- zeros
+
+abbrev pub zeros : ℕ → ℤ
+zeros i = pos 0
+
+pub clear-turn : (p : List ℤ) (n i : ℕ) → length p ≡ n → i < n
+    → take (i + 1) (set p i (pos 0)) ++ tabulate zeros (i + 1) (n - (i + 1)) ≡ take i p ++ tabulate zeros i (n - i)
+unfolding tabulate
+clear-turn p n i e h =
+    let m : n - i ≡ suc (n - suc i) = omega arith in
+    rw (add-one i, take-suc-set p i (pos 0) (omega arith), m) (append-snoc (take i p) (pos 0) (tabulate zeros (suc i) (n - suc i)))
+
+pub clear-done : (p : List ℤ) (n i : ℕ) → length p ≡ n → n ≤ i → take i p ++ tabulate zeros i (n - i) ≡ p
+unfolding tabulate
+clear-done p n i e h =
+    let m : n - i ≡ 0 = omega arith in
+    rw (m, take-all i p (omega arith)) (append-nil p)
+
+-- ---- tallies
+
+pub count-turn : (f : ℤ → Bool) (p : List ℤ) (i : ℕ) → i < length p → (if f (getD p i (pos 0)) then 1 else 0) + count f (drop (i + 1) p) ≡ count f (drop i p)
+unfolding count
+count-turn f p i h = rw (add-one i, drop-cons p i (pos 0) h)
+
+pub count-done : (f : ℤ → Bool) (p : List ℤ) (i : ℕ) → length p ≤ i → count f (drop i p) ≡ 0
+unfolding count
+count-done f p i h = rw (drop-of-length-le p {i = i} h)
+
+pub one-most : (b : Bool) → (if b then 1 else 0) ≤ 1
+one-most true = omega arith
+one-most false = omega arith
+
+-- ---- the class of a place
+
+missing : (z : ℤ) → ltZ z (negsuc 0) ≡ true → 2 ≡ classOf z
+unfolding classOf
+missing (pos n) e = false-true e
+missing (negsuc zero) e = absurd (omega (arith, ltb-true 0 0 e))
+missing (negsuc (suc n)) e = refl
+
+shut : (z : ℤ) → ltZ z (negsuc 0) ≡ false → ltZ z (pos 0) ≡ true → 1 ≡ classOf z
+unfolding classOf
+shut (pos n) e d = absurd (omega (arith, ltb-true n 0 d))
+shut (negsuc zero) e d = refl
+shut (negsuc (suc n)) e d = absurd (omega (arith, ltb-false 0 (suc n) e))
+
+reported : (z : ℤ) → ltZ z (pos 0) ≡ false → 0 ≡ classOf z
+unfolding classOf
+reported (pos n) e = refl
+reported (negsuc n) e = true-false e
+
+module _ (z : ℤ) (f : SFits w64 z) where
+  pub class-missing : ltZ (toZ w64 (ofZ w64 z)) (negsuc 0) ≡ true → 2 ≡ classOf z
+  class-missing e = missing z (rw (toZ-ofZ f) at e)
+
+  pub class-shut : ltZ (toZ w64 (ofZ w64 z)) (negsuc 0) ≡ false → ltZ (toZ w64 (ofZ w64 z)) (pos 0) ≡ true → 1 ≡ classOf z
+  class-shut e d = shut z (rw (toZ-ofZ f) at e) (rw (toZ-ofZ f) at d)
+
+  pub class-reported : ltZ (toZ w64 (ofZ w64 z)) (pos 0) ≡ false → 0 ≡ classOf z
+  class-reported e = reported z (rw (toZ-ofZ f) at e)

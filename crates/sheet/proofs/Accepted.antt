@@ -2,13 +2,13 @@
 use Prim.Native.Nat.{ℕ, _+_, _*_, _-_, _<_, _≤_}
 use mathlib.Core.Bool.{Bool, true, false, not, _&&_}
 use mathlib.Core.List.{List}
-use mathlib.Core.Path.{_≡_, refl, sym, _∙_}
+use mathlib.Core.Path.{_≡_, refl}
 use native.Mathlib.Omega.{arith}
 use lib.Dec.{ltb, eqb}
 use lib.ListN.{length}
 use borrow.Author.Tests.{ltb-false, le-ltb, eqb-true, eq-eqb}
 use Rattle.signed.specs.Choose.{if_then_else_}
-use Rattle.rule.proofs.Bools.{left, right, both}
+use Rattle.rule.proofs.Bools.{left, right}
 use Rattle.sheet.specs.Runs.{every}
 use Rattle.sheet.specs.Reading.{before, sizeOf, versionOf, countOf, distanceOf, known, mostMarks, risesAt, markedAt, clearAt, faultInRows, faultOf}
 
@@ -22,10 +22,10 @@ pub record Accepted (s : List ℕ) : Type 0 where
   pub marked : every (markedAt (mostMarks (versionOf s)) s) 0 (countOf s) ≡ true
   pub clear : every (clearAt s) 0 (countOf s) ≡ true
 
--- a test that would refuse has failed
-passed : (t : Bool) (x m : ℕ) → 0 < m → (if not t then m else x) ≡ 0 → (t ≡ true) × (x ≡ 0)
-passed true x m h e = (refl, e)
-passed false x m h e = absurd (omega arith)
+-- where the answer is 0, a test that refuses has not done so
+pub goes-on : (t : Bool) (x m : ℕ) → 0 < m → (if not t then m else x) ≡ 0 → (t ≡ true) × (x ≡ 0)
+goes-on true x m h e = (refl, e)
+goes-on false x m h e = absurd (omega arith)
 
 long-enough : (t : Bool) (x m : ℕ) → 0 < m → (if t then m else x) ≡ 0 → (t ≡ false) × (x ≡ 0)
 long-enough false x m h e = (refl, e)
@@ -35,12 +35,12 @@ pub accepted-is : (s : List ℕ) → faultOf s ≡ 0 → Accepted s
 unfolding faultOf faultInRows
 accepted-is s e =
     let a = long-enough (ltb (length s) 12) _ 34 (omega arith) e in
-    let b = passed (known (versionOf s)) _ 35 (omega arith) (a .1) in
-    let c = passed (eqb (sizeOf s) 28) _ 36 (omega arith) (b .1) in
-    let d = passed (eqb (distanceOf s) (28 * countOf s) && eqb (distanceOf s) (before s)) _ 37 (omega arith) (c .1) in
-    let f = passed (every (risesAt s) 0 (countOf s - 1)) _ 38 (omega arith) (d .1) in
-    let g = passed (every (markedAt (mostMarks (versionOf s)) s) 0 (countOf s)) _ 39 (omega arith) (f .1) in
-    let h = passed (every (clearAt s) 0 (countOf s)) 0 40 (omega arith) (g .1) in
+    let b = goes-on (known (versionOf s)) _ 35 (omega arith) (a .1) in
+    let c = goes-on (eqb (sizeOf s) 28) _ 36 (omega arith) (b .1) in
+    let d = goes-on (eqb (distanceOf s) (28 * countOf s) && eqb (distanceOf s) (before s)) _ 37 (omega arith) (c .1) in
+    let f = goes-on (every (risesAt s) 0 (countOf s - 1)) _ 38 (omega arith) (d .1) in
+    let g = goes-on (every (markedAt (mostMarks (versionOf s)) s) 0 (countOf s)) _ 39 (omega arith) (f .1) in
+    let h = goes-on (every (clearAt s) 0 (countOf s)) 0 40 (omega arith) (g .1) in
     record {
       long = ltb-false (length s) 12 (a .0);
       version = b .0;

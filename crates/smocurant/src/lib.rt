@@ -2,3 +2,4 @@
 pub mod by_entries;
 pub mod by_numbers;
 pub mod occurrence_texts;
+pub mod upload_weeks;

@@ -1,6 +1,6 @@
 -- Instants as natural numbers: their order, the weeks of a range, Mondays, and the week of an instant.
-use Prim.Native.Nat.{ℕ, zero, suc, _+_, _*_, _-_, _/_, _%_, _<_, _≤_, _^_}
-use mathlib.Core.Bool.{Bool, true, false, _&&_}
+use Prim.Native.Nat.{ℕ, suc, _+_, _*_, _-_, _/_, _%_, _<_, _≤_, _^_}
+use mathlib.Core.Bool.{true, false, _&&_}
 use mathlib.Core.Logic.{_⊎_, inl, inr, ⊎-elim}
 use mathlib.Core.Path.{_≡_, refl, sym, ap, _∙_}
 use native.Mathlib.Omega.{arith}
@@ -12,7 +12,7 @@ use mir.Val.{SFits}
 use borrow.Author.Tests.{ltb-true, ltb-false, leb-true, leb-false, eqb-true, eqb-false, lt-ltb, le-ltb, le-leb, lt-leb, eq-eqb, ne-eqb}
 use Rattle.signed.specs.Choose.{if_then_else_}
 use Rattle.signed.specs.Parts.{posPart, negPart}
-use Rattle.signed.proofs.Parts.{lt-parts, not-lt-parts, le-parts, not-le-parts, sum-parts, diff-parts, parts-eq, fit-neg, subℕ-neg}
+use Rattle.signed.proofs.Parts.{lt-parts, not-lt-parts, le-parts, not-le-parts, sum-parts, diff-parts, fit-neg, subℕ-neg}
 use Rattle.rule.proofs.Bools.{by}
 use Rattle.weeks.specs.Weeks.{modulo, isMonday, weeksIn, weekStart, inWeek}
 use Rattle.weeks.specs.Inner.Marks.{up, firstOf}
@@ -89,8 +89,8 @@ module _ (from t : ℤ) (f : SFits w64 from) (positive : 0 < up from) (i : ℕ) 
   none b =
       by (leZ (weekStart from i) t)
       (λ e.
-        let a = start-low from i (fit-neg from f) in
-        ⊎-elim (λ z. absurd (omega (arith, le-parts (weekStart from i) t e))) (λ z. absurd (omega arith)) (one-part t))
+      let a = start-low from i (fit-neg from f) in
+      ⊎-elim (λ z. absurd (omega (arith, le-parts (weekStart from i) t e))) (λ z. absurd (omega arith)) (one-part t))
       (λ e. e)
 
   early : 2 ^ 63 < negPart t → inWeek from i t ≡ (if ltb (up t) (up from) then false else eqb (firstOf (up from) (up t)) i)

@@ -3,3 +3,4 @@ pub mod TouchLaws
 pub mod SweepLaws
 pub mod UploadLaws
 pub mod PlaceLaws
+pub mod Allowed

@@ -1,5 +1,5 @@
 -- The code's way gives the places of request 1, and their tallies.
-use Prim.Native.Nat.{ℕ, zero, suc, _+_, _<_, _≤_}
+use Prim.Native.Nat.{ℕ, zero, suc, _<_}
 use mathlib.Core.Bool.{Bool, true, false, not, _&&_}
 use mathlib.Core.List.{List, [], _∷_, map}
 use mathlib.Core.Path.{_≡_, refl, sym, ap, _∙_}
@@ -7,10 +7,9 @@ use native.Mathlib.Omega.{arith}
 use native.Mathlib.Nat.{add-zero}
 use lib.Dec.{ltb, eqb}
 use lib.IntN.{ℤ, pos, negsuc}
-use lib.ListN.{length}
 use mir.Syntax.{w64}
 use mir.Val.{SFits}
-use borrow.Author.Tests.{le-ltb, lt-ltb}
+use borrow.Author.Tests.{lt-ltb}
 use Rattle.signed.specs.Choose.{if_then_else_}
 use Rattle.little_endian.proofs.ReadLaws.{signed-fits}
 use Rattle.rule.specs.Lists.{any, countIn}
@@ -20,8 +19,8 @@ use Rattle.sheet.specs.Records.{Row, startAt, endAt, rowAt}
 use Rattle.sheet.specs.Reading.{rowsOf, countOf}
 use Rattle.sheet.proofs.RunLaws.{tab-same, tab-map}
 use Rattle.weeks.specs.Weeks.{inWeek, touches, isReported, isShut, isMissing, count, uploadsIn, placeOf}
-use Rattle.weeks.specs.Inner.Marks.{up, spanOf, spanAt, larger, raiseAll, sweep, peak, reach}
-use Rattle.weeks.specs.Inner.Places.{uploadAll, classOf}
+use Rattle.weeks.specs.Inner.Marks.{up, spanOf, spanAt, larger, raiseAll, sweep, peak}
+use Rattle.weeks.specs.Inner.Places.{uploadAll, classOf, inClass}
 use Rattle.weeks.proofs.TouchLaws.{covers, touches-span}
 use Rattle.weeks.proofs.SweepLaws.{larger-max, raise-all, reach-zero, sweep-tab}
 use Rattle.weeks.proofs.UploadLaws.{orUploads, uploaded, any-counts}
@@ -122,10 +121,6 @@ unfolding classOf
 class-missing true t c = refl
 class-missing false true c = refl
 class-missing false false c = refl
-
--- the places of a class
-abbrev pub inClass : ℕ → ℤ → Bool
-inClass c z = eqb (classOf z) c
 
 module _ (log : List ℤ) (rows : List Row) (from : ℤ) (n : ℕ) where
   tally : (c : ℕ) (p : ℕ → Bool) → ((i : ℕ) → inClass c (placeOf log rows from i) ≡ p i) → count (inClass c) (tabulate (placeOf log rows from) 0 n) ≡ countIn p 0 n

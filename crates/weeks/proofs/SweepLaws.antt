@@ -1,12 +1,12 @@
 -- How far the spans that have begun reach says which weeks are touched.
-use Prim.Native.Nat.{max, ℕ, zero, suc, _+_, _<_, _≤_}
+use Prim.Native.Nat.{max, ℕ, zero, suc, _<_}
 use mathlib.Core.Bool.{Bool, true, false, _&&_, _||_}
 use mathlib.Core.List.{List, [], _∷_}
 use mathlib.Core.Path.{_≡_, refl, sym, ap, _∙_}
 use native.Mathlib.Omega.{arith}
 use native.Mathlib.Nat.{zero-add}
 use lib.Dec.{ltb, leb, eqb}
-use lib.IntN.{ℤ, pos, negsuc}
+use lib.IntN.{pos, negsuc}
 use borrow.Author.Tests.{ltb-true, ltb-false, leb-true, leb-false, eqb-true, eqb-false, lt-ltb, le-ltb, le-leb, lt-leb, eq-eqb, ne-eqb}
 use Rattle.signed.specs.Choose.{if_then_else_}
 use Rattle.rule.specs.Lists.{any}

@@ -13,7 +13,7 @@ use Rattle.signed.proofs.Parts.{fit-neg}
 use Rattle.rule.proofs.Bools.{by}
 use Rattle.sheet.specs.Records.{Row}
 use Rattle.weeks.specs.Weeks.{weekStart, inWeek, touches}
-use Rattle.weeks.specs.Inner.Marks.{up, Span, firstOf, afterOf, spanOf}
+use Rattle.weeks.specs.Inner.Marks.{up, Span, spanOf}
 use Rattle.weeks.proofs.Instants.{lt-up, le-up, start-low, up-start}
 
 -- the span takes in week i

@@ -1,27 +1,25 @@
 -- The uploads of each week, counted in its place.
-use Prim.Native.Nat.{ℕ, zero, suc, _+_, _*_, _-_, _/_, _<_, _≤_}
-use mathlib.Core.Bool.{Bool, true, false, _&&_, _||_}
+use Prim.Native.Nat.{ℕ, zero, suc, _+_, _-_, _<_}
+use mathlib.Core.Bool.{Bool, true, false}
 use mathlib.Core.List.{List, [], _∷_}
 use mathlib.Core.Path.{_≡_, refl, sym, ap, _∙_}
 use native.Mathlib.Omega.{arith}
 use native.Mathlib.Nat.{zero-add}
 use native.Mathlib.Numerals.{add-one}
-use lib.Dec.{ltb, leb, eqb}
+use lib.Dec.{ltb}
 use lib.IntN.{ℤ, pos, negsuc}
-use lib.Signed.{ltZ, leZ}
 use mir.Syntax.{w64}
 use mir.Val.{SFits}
-use borrow.Author.Tests.{ltb-true, ltb-false, leb-true, leb-false, eqb-true, eqb-false, lt-ltb, le-ltb, le-leb, lt-leb, eq-eqb, ne-eqb}
+use borrow.Author.Tests.{lt-ltb, le-ltb, eq-eqb, ne-eqb}
 use Rattle.signed.specs.Choose.{if_then_else_}
-use Rattle.signed.proofs.Parts.{fit-neg}
 use Rattle.rule.specs.Lists.{any}
 use Rattle.rule.proofs.Bools.{by}
 use Rattle.sheet.specs.Runs.{tabulate}
 use Rattle.sheet.proofs.RunLaws.{tab-same, tab-at, tab-set}
-use Rattle.weeks.specs.Weeks.{weekStart, inWeek, count}
+use Rattle.weeks.specs.Weeks.{inWeek, count}
 use Rattle.weeks.specs.Inner.Marks.{up, firstOf}
 use Rattle.weeks.specs.Inner.Places.{bump, upload, uploadAll}
-use Rattle.weeks.proofs.Instants.{lt-up, le-up, start-low, up-start, in-week}
+use Rattle.weeks.proofs.Instants.{in-week}
 
 -- the uploads of a week, or what the place holds where there are none
 unfoldable pub orUploads : ℕ → ℤ → ℤ

@@ -1,6 +1,6 @@
 -- 02, request 1: "Weeks that were shut and weeks that went missing." Instants are signed seconds from 1970-01-01T00:00:00 UTC. Weeks are counted
 -- from the range's start, which is `from`; week 0 is the first.
-use Prim.Native.Nat.{ℕ, zero, suc, _+_, _*_, _-_, _/_, _%_}
+use Prim.Native.Nat.{ℕ, suc, _+_, _*_, _-_, _/_, _%_}
 use mathlib.Core.Bool.{Bool, not, _&&_}
 use mathlib.Core.List.{List, [], _∷_}
 use lib.Dec.{eqb}

@@ -1,7 +1,8 @@
 -- Uploads and tallies, as the code finds them in the places; b is `up` of the range's start.
 use Prim.Native.Nat.{ℕ, zero, suc, _+_, _≤_}
+use mathlib.Core.Bool.{Bool}
 use mathlib.Core.List.{List, [], _∷_}
-use lib.Dec.{ltb}
+use lib.Dec.{ltb, eqb}
 use lib.IntN.{ℤ, pos, negsuc}
 use lib.ListN.{getD, set}
 use Rattle.signed.specs.Choose.{if_then_else_}
@@ -29,3 +30,6 @@ unfoldable pub classOf : ℤ → ℕ
 classOf (pos n) = 0
 classOf (negsuc zero) = 1
 classOf (negsuc (suc n)) = 2
+
+abbrev pub inClass : ℕ → ℤ → Bool
+inClass c z = eqb (classOf z) c

@@ -1,0 +1,12 @@
+use borrow.Author.Tests.{eq-eqb, ne-eqb}
+use Rattle.replay.proofs.tallies.one_if_same.Statement.{statement}
+use Rattle.replay.proofs.tallies.one_if_same.Tie as tie
+
+returns : tie.Need-returns
+returns c = rw (eq-eqb _ _ (c .if1 .taken))
+
+returns-2 : tie.Need-returns-2
+returns-2 c = rw (ne-eqb _ _ (c .if1 .left))
+
+pub one-if-same-spec : {M : Type 1} → statement M
+one-if-same-spec = tie.close (tie.spec returns returns-2)
