@@ -15,24 +15,25 @@ use Rattle.signed.specs.Parts.{posPart, negPart}
 use Rattle.signed.proofs.Parts.{lt-parts, not-lt-parts, le-parts, not-le-parts, sum-parts, diff-parts, fit-neg, subℕ-neg}
 use Rattle.rule.proofs.Bools.{by}
 use Rattle.weeks.specs.Weeks.{modulo, isMonday, weeksIn, weekStart, inWeek}
-use Rattle.weeks.specs.Inner.Marks.{up, firstOf}
+use Rattle.weeks.specs.Inner.Marks.{above, up, firstOf}
 
 -- ---- an order of instants as one of natural numbers
 
-abbrev pub Low : ℤ → Type 0
-Low t = negPart t ≤ 2 ^ 63
+module _ (base : ℕ) where
+  abbrev pub Low : ℤ → Type 0
+  Low t = negPart t ≤ base
 
-pub lt-up : (a b : ℤ) → Low a → Low b → ltZ a b ≡ ltb (up a) (up b)
-lt-up a b f g =
-    by (ltZ a b)
-    (λ e. e ∙ sym (lt-ltb (up a) (up b) (omega (arith, lt-parts a b e))))
-    (λ e. e ∙ sym (le-ltb (up a) (up b) (omega (arith, not-lt-parts a b e))))
+  pub lt-up : (a b : ℤ) → Low a → Low b → ltZ a b ≡ ltb (above base a) (above base b)
+  lt-up a b f g =
+      by (ltZ a b)
+      (λ e. e ∙ sym (lt-ltb (above base a) (above base b) (omega (arith, lt-parts a b e))))
+      (λ e. e ∙ sym (le-ltb (above base a) (above base b) (omega (arith, not-lt-parts a b e))))
 
-pub le-up : (a b : ℤ) → Low a → Low b → leZ a b ≡ leb (up a) (up b)
-le-up a b f g =
-    by (leZ a b)
-    (λ e. e ∙ sym (le-leb (up a) (up b) (omega (arith, le-parts a b e))))
-    (λ e. e ∙ sym (lt-leb (up a) (up b) (omega (arith, not-le-parts a b e))))
+  pub le-up : (a b : ℤ) → Low a → Low b → leZ a b ≡ leb (above base a) (above base b)
+  le-up a b f g =
+      by (leZ a b)
+      (λ e. e ∙ sym (le-leb (above base a) (above base b) (omega (arith, le-parts a b e))))
+      (λ e. e ∙ sym (lt-leb (above base a) (above base b) (omega (arith, not-le-parts a b e))))
 
 -- ---- where a week begins
 
@@ -40,20 +41,21 @@ less : (a : ℤ) (k : ℕ) → negPart (a +ℤ pos k) ≤ negPart a
 less (pos a) k = omega arith
 less (negsuc a) k = subℕ-neg k (suc a)
 
-pub start-low : (from : ℤ) (i : ℕ) → Low from → Low (weekStart from i)
-unfolding weekStart
-start-low from i f = let h = less from (604800 * i) in omega arith
+module _ (base : ℕ) (from : ℤ) (i : ℕ) (f : Low base from) where
+  pub start-low : Low base (weekStart from i)
+  unfolding weekStart
+  start-low = let h = less from (604800 * i) in omega arith
 
-pub up-start : (from : ℤ) (i : ℕ) → Low from → up (weekStart from i) ≡ up from + 604800 * i
-unfolding weekStart
-up-start from i f =
-    let h = less from (604800 * i) in
-    let e : posPart (from +ℤ pos (604800 * i)) + negPart from + 0 ≡ negPart (from +ℤ pos (604800 * i)) + posPart from + 604800 * i = sum-parts from (pos (604800 * i)) in
-    omega arith
+  pub up-start : above base (weekStart from i) ≡ above base from + 604800 * i
+  unfolding weekStart
+  up-start =
+      let h = less from (604800 * i) in
+      let e : posPart (from +ℤ pos (604800 * i)) + negPart from + 0 ≡ negPart (from +ℤ pos (604800 * i)) + posPart from + 604800 * i = sum-parts from (pos (604800 * i)) in
+      omega arith
 
 -- ---- a number has one part that is not 0
 
-one-part : (z : ℤ) → (posPart z ≡ 0) ⊎ (negPart z ≡ 0)
+pub one-part : (z : ℤ) → (posPart z ≡ 0) ⊎ (negPart z ≡ 0)
 one-part (pos n) = inr refl
 one-part (negsuc n) = inl refl
 
@@ -72,24 +74,25 @@ natural i b x =
     (λ u. let v = leb-true (b + 604800 * i) x u in rw (u, le-ltb x (b + 604800 * suc i) (past b x i v k)))
     (λ u. rw u)))))
 
+-- above any base that is low enough for both
+pub week-of : (base : ℕ) (from t : ℤ) → Low base from → Low base t → (i : ℕ)
+    → inWeek from i t ≡ (if ltb (above base t) (above base from) then false else eqb ((above base t - above base from) / 604800) i)
+unfolding inWeek
+week-of base from t a b i =
+    rw (
+      le-up base (weekStart from i) t (start-low base from i a) b,
+      lt-up base t (weekStart from (suc i)) b (start-low base from (suc i) a),
+      up-start base from i a,
+      up-start base from (suc i) a,
+    ) (natural i (above base from) (above base t))
+
 -- An instant of which nothing is known may lie before all that an i64 can say; so does no range that has seconds before it.
 module _ (from t : ℤ) (f : SFits w64 from) (positive : 0 < up from) (i : ℕ) where
-  late : Low t → inWeek from i t ≡ (if ltb (up t) (up from) then false else eqb (firstOf (up from) (up t)) i)
-  unfolding inWeek
-  late b =
-      let a = fit-neg from f in
-      rw (
-        le-up (weekStart from i) t (start-low from i a) b,
-        lt-up t (weekStart from (suc i)) b (start-low from (suc i) a),
-        up-start from i a,
-        up-start from (suc i) a,
-      ) (natural i (up from) (up t))
-
   none : 2 ^ 63 < negPart t → leZ (weekStart from i) t ≡ false
   none b =
       by (leZ (weekStart from i) t)
       (λ e.
-      let a = start-low from i (fit-neg from f) in
+      let a = start-low (2 ^ 63) from i (fit-neg from f) in
       ⊎-elim (λ z. absurd (omega (arith, le-parts (weekStart from i) t e))) (λ z. absurd (omega arith)) (one-part t))
       (λ e. e)
 
@@ -101,7 +104,7 @@ module _ (from t : ℤ) (f : SFits w64 from) (positive : 0 < up from) (i : ℕ) 
 
   pub in-week : inWeek from i t ≡ (if ltb (up t) (up from) then false else eqb (firstOf (up from) (up t)) i)
   in-week =
-      by (leb (negPart t) (2 ^ 63)) (λ e. late (leb-true (negPart t) (2 ^ 63) e)) (λ e. early (leb-false (negPart t) (2 ^ 63) e))
+      by (leb (negPart t) (2 ^ 63)) (λ e. week-of (2 ^ 63) from t (fit-neg from f) (leb-true (negPart t) (2 ^ 63) e) i) (λ e. early (leb-false (negPart t) (2 ^ 63) e))
 
 -- ---- a Monday; 55,808 is 345,600 + 2^63 modulo 604,800
 
@@ -118,13 +121,13 @@ monday-up (negsuc n) f =
 
 -- ---- the weeks of a range
 
-module _ (from to : ℤ) (f : Low from) (g : Low to) where
-  pub seconds-up : posPart (to -ℤ from) ≡ up to - up from
+module _ (base : ℕ) (from to : ℤ) (f : Low base from) (g : Low base to) where
+  pub seconds-up : posPart (to -ℤ from) ≡ above base to - above base from
   seconds-up =
       let d = diff-parts to from in
       ⊎-elim (λ h. omega arith) (λ h. omega arith) (one-part (to -ℤ from))
 
-  pub weeks-up : weeksIn from to ≡ (up to - up from) / 604800
+  pub weeks-up : weeksIn from to ≡ (above base to - above base from) / 604800
   unfolding weeksIn
   weeks-up = ap (λ (n : ℕ). n / 604800) seconds-up
 

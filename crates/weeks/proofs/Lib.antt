@@ -4,3 +4,5 @@ pub mod SweepLaws
 pub mod UploadLaws
 pub mod PlaceLaws
 pub mod Allowed
+pub mod Theorems
+pub mod FloorWeeks

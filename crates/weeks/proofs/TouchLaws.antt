@@ -1,5 +1,5 @@
 -- The weeks that a span touches are those from its first on and before the one after its last.
-use Prim.Native.Nat.{ℕ, suc, _+_, _*_, _-_, _/_, _<_, _≤_}
+use Prim.Native.Nat.{ℕ, suc, _+_, _*_, _-_, _/_, _<_, _≤_, _^_}
 use mathlib.Core.Bool.{Bool, true, false, _&&_}
 use mathlib.Core.Path.{_≡_, refl, sym, ap₂, _∙_}
 use native.Mathlib.Omega.{arith}
@@ -71,12 +71,12 @@ module _ (from : ℤ) (i : ℕ) (r : Row) (f : SFits w64 from) (g : SFits w64 (r
       let b = fit-neg (r .start) g in
       let c = fit-neg (r .end) h in
       rw (
-        lt-up (r .start) (r .end) b c,
-        lt-up (r .start) (weekStart from (suc i)) b (start-low from (suc i) a),
-        lt-up (weekStart from i) (r .end) (start-low from i a) c,
-        le-up (weekStart from i) (r .start) (start-low from i a) b,
-        up-start from i a,
-        up-start from (suc i) a,
+        lt-up (2 ^ 63) (r .start) (r .end) b c,
+        lt-up (2 ^ 63) (r .start) (weekStart from (suc i)) b (start-low (2 ^ 63) from (suc i) a),
+        lt-up (2 ^ 63) (weekStart from i) (r .end) (start-low (2 ^ 63) from i a) c,
+        le-up (2 ^ 63) (weekStart from i) (r .start) (start-low (2 ^ 63) from i a) b,
+        up-start (2 ^ 63) from i a,
+        up-start (2 ^ 63) from (suc i) a,
       )
       (by (ltb (up (r .start)) (up (r .end)))
       (λ e. rw e (span-law (up from) i (up (r .start)) (up (r .end)) (ltb-true _ _ e)))

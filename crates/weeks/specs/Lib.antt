@@ -1,3 +1,5 @@
 pub mod Weeks
 pub mod Replay
+pub mod Sums
+pub mod Calendar
 pub mod Inner

@@ -8,8 +8,12 @@ use Rattle.signed.specs.Choose.{if_then_else_}
 use Rattle.signed.specs.Parts.{posPart, negPart}
 use Rattle.sheet.specs.Records.{Row, rowAt}
 
+-- An instant that is not below -base, as the natural number t + base.
+abbrev pub above : ℕ → ℤ → ℕ
+above base t = (base + posPart t) - negPart t
+
 abbrev pub up : ℤ → ℕ
-up t = (2 ^ 63 + posPart t) - negPart t
+up t = above (2 ^ 63) t
 
 -- ---- the weeks of a span are those from `first` on and before `after`
 
