@@ -9,13 +9,13 @@ use Rattle.sheet.specs.Records.{idAt, startAt, endAt, marksAt, zerosAt, 
 use Rattle.sheet.specs.Reading.{sizeOf, versionOf, countOf, distanceOf, rowsOf, faultInRows, faultOf}
 
 -- "D0 A5 5C 5A 00 00 00 00  20 EC 5C 5A 00 00 00 00  30 FA 5C 5A 00 00 00 00  01 00 00 00  1C 00 01 00 01 00 00 00 1C 00 00 00"
-abbrev sheet : List ℕ
+abbrev pub sheet : List ℕ
 sheet =
     208 ∷ 165 ∷ 92 ∷ 90 ∷ 0 ∷ 0 ∷ 0 ∷ 0 ∷ 32 ∷ 236 ∷ 92 ∷ 90 ∷ 0 ∷ 0 ∷ 0 ∷ 0 ∷ 48 ∷ 250 ∷ 92 ∷ 90 ∷ 0 ∷ 0 ∷ 0 ∷ 0
     ∷ 1 ∷ 0 ∷ 0 ∷ 0 ∷ 28 ∷ 0 ∷ 1 ∷ 0 ∷ 1 ∷ 0 ∷ 0 ∷ 0 ∷ 28 ∷ 0 ∷ 0 ∷ 0 ∷ []
 
 -- "Window with equal ends: the trailer alone, `1C 00 01 00 00 00 00 00 00 00 00 00`"
-abbrev alone : List ℕ
+abbrev pub alone : List ℕ
 alone = 28 ∷ 0 ∷ 1 ∷ 0 ∷ 0 ∷ 0 ∷ 0 ∷ 0 ∷ 0 ∷ 0 ∷ 0 ∷ 0 ∷ []
 
 pub sheet-accepted : faultOf sheet ≡ 0

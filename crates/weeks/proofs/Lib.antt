@@ -6,3 +6,4 @@ pub mod PlaceLaws
 pub mod Allowed
 pub mod Theorems
 pub mod FloorWeeks
+pub mod Worked
