@@ -1,7 +1,7 @@
 -- Demand 2 of every call for the sheet that keeps its contract, `Gives (expandText ..)`.
 use Prim.Native.Nat.{ℕ, _+_, _*_, _<_, _≤_, _^_}
 use mathlib.Core.Bool.{Bool, true, false, false≢true, not, _||_}
-use mathlib.Core.List.{List, [], _++_}
+use mathlib.Core.List.{List, _++_}
 use mathlib.Core.Logic.{_↔_}
 use mathlib.Core.Path.{_≡_, refl, sym, ap, _∙_, subst}
 use native.Mathlib.Omega.{arith}
@@ -19,14 +19,14 @@ use Rattle.event.specs.Types.{Event}
 use Rattle.event.specs.Event.{eventOf}
 use Rattle.table.specs.Window.{since1600, since1970, validWindow}
 use Rattle.table.specs.Occurrence.{datesOf, occurrences, detailsAt}
-use Rattle.table.specs.Bytes.{ZoneTable, utcOf, secondsIn, marksOf, recordsOf, trailerOf, tableOf}
+use Rattle.table.specs.Bytes.{ZoneTable, secondsIn, recordsOf, trailerOf, tableOf}
 use Rattle.table.specs.Answer.{Outcome, isSecret, expanded}
 use Rattle.table.specs.Call.{textFault, expandText}
 use Rattle.table.specs.Results.{Gives}
 use Rattle.table.proofs.DemandTwo as definitions
 use Rattle.table.proofs.Few.{window-last, few-accepted}
-use Rattle.demands.specs.Conditions.{Numbered, applies, textConditions, callConditions, tableConditions}
-use Rattle.demands.specs.Sheet.{idAt, startAt, HasSheet}
+use Rattle.demands.specs.Conditions.{applies, textConditions, callConditions, tableConditions}
+use Rattle.sheet.specs.Records.{idAt}
 use Rattle.demands.specs.Two.{OnSheet, OccursIn, Row, Listed}
 use Rattle.demands.proofs.DemandOne.{table-answered}
 use Rattle.demands.proofs.SheetLaws.{has-sheet, id-back, start-back, end-back, marks-back, zeros-back}

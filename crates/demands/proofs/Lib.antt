@@ -10,4 +10,6 @@ pub mod DemandTwo
 pub mod OwnBytes
 pub mod DemandTwoTexts
 pub mod DemandThree
+pub mod Written
+pub mod Weeks
 pub mod Promises

@@ -2,18 +2,28 @@
 use mathlib.Core.List.{List}
 use mathlib.Core.Option.{Option}
 use Prim.Native.Nat.{ℕ}
+use lib.ListN.{take}
+use mathlib.Core.Path.{_≡_, ap₂}
 use Rattle.event.specs.Types.{Text, Details}
 use Rattle.event.specs.Event.{eventOf}
 use Rattle.table.specs.Occurrence.{detailsAt}
 use Rattle.table.specs.Call.{textOf, titleOf, descriptionOf}
-use Rattle.demands.specs.Promises.{TablePromises, TextPromises, Promises}
+use Rattle.demands.specs.Promises.{TablePromises, TextPromises, WeeksPromises, Promises}
 use Rattle.demands.proofs.Lowest.{lowest-one}
 use Rattle.demands.proofs.TextAnswers.{accepted-none}
 use Rattle.demands.proofs.DemandOne.{table-answered, text-answered, part-answered}
 use Rattle.demands.proofs.DemandTwo.{table-listed}
 use Rattle.demands.proofs.OwnBytes.{OwnIn, title-own, description-own}
 use Rattle.demands.proofs.DemandTwoTexts.{text-told, part-told}
+use Rattle.weeks.proofs.FloorWeeks.{in-week-floor}
+use Rattle.demands.specs.Weeks.{SameReplays}
+use Rattle.demands.proofs.Written.{count-is, written-accepted}
+use Rattle.demands.proofs.Weeks.{weeks-answered, weeks-sorted, same-replays, shuts-nothing}
 use Rattle.demands.proofs.DemandThree.{private-same, secret-same, silent, silent-part, private-words, private-parts, fourteen}
+
+-- two sheets of the same bytes
+same-sheets : (size size′ : ℕ) (after after′ : List ℕ) → size ≡ size′ → after ≡ after′ → SameReplays (take size after) (take size′ after′)
+same-sheets size size′ after after′ e f = same-replays (take size after) (take size′ after′) (ap₂ take e f)
 
 table-promises : TablePromises
 table-promises =
@@ -52,6 +62,25 @@ description-promises : TextPromises descriptionOf (λ d. d .description)
 unfolding descriptionOf
 description-promises = text-promises (λ d. d .description) description-own
 
+weeks-promises : WeeksPromises
+weeks-promises =
+    record {
+      answered = weeks-answered;
+      sorted = weeks-sorted;
+      floor = in-week-floor;
+      written = written-accepted;
+      private =
+          λ s t h k agree zones from to buffer answer answer′ size size′ after after′ g g′.
+          let same = private-same zones from to buffer answer answer′ size size′ after after′ s t h k agree g g′ .0 in
+          same-sheets size size′ after after′ (same .sizes) (same .bytes);
+      secret =
+          λ s t h k zones from to buffer answer answer′ size size′ after after′ g g′.
+          let same = secret-same zones from to buffer answer answer′ size size′ after after′ s t h k g g′ in (
+            same-sheets size size′ after after′ (same .0 .sizes) (same .0 .bytes),
+            λ done. shuts-nothing (take size after) (count-is 0 size buffer after (same .1 done)),
+          );
+    }
+
 pub promises : Promises
 promises =
     record {
@@ -60,4 +89,5 @@ promises =
       table = table-promises;
       title = title-promises;
       description = description-promises;
+      weeks = weeks-promises;
     }

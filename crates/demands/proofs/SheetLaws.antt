@@ -1,21 +1,22 @@
 -- A sheet in a buffer, read back: the numbers of its records and of its trailer, and the bytes after it.
 use Prim.Native.Nat.{ℕ, zero, suc, _+_, _*_, _<_, _≤_, _^_}
-use mathlib.Core.List.{List, [], _∷_, _++_, append-assoc, append-nil}
-use mathlib.Core.Path.{_≡_, refl, sym, ap, _∙_}
+use mathlib.Core.List.{List, [], _∷_, _++_, append-assoc}
+use mathlib.Core.Path.{_≡_, sym, ap, _∙_}
 use native.Mathlib.Omega.{arith}
 use lib.IntN.{ℤ, pos, _+ℤ_}
 use lib.ListN.{length, length-append, take, drop, getD}
 use lib.Seq.{sets, sets-eq, length-sets, drop-at, drop-drop, length-take-le}
 use mir.Syntax.{w64}
 use mir.Val.{SFits}
-use Rattle.little_endian.specs.Bytes.{bytesOf, twos, valueOf, numberAt, signedOf}
+use Rattle.little_endian.specs.Bytes.{bytesOf, twos, valueOf, numberAt}
 use Rattle.little_endian.proofs.ByteLaws.{bytes-length, signed-twos, twos-small, field-at}
 use Rattle.event.specs.Types.{Event}
 use Rattle.table.specs.Window.{since1970}
 use Rattle.table.specs.Occurrence.{detailsAt}
 use Rattle.table.specs.Bytes.{ZoneTable, utcOf, secondsIn, marksOf, recordOf, recordsOf, trailerOf}
 use Rattle.table.proofs.DemandTwo.{records-length, trailer-length}
-use Rattle.demands.specs.Sheet.{idAt, startAt, endAt, marksAt, zerosAt, HasSheet}
+use Rattle.sheet.specs.Records.{idAt, startAt, endAt, marksAt, zerosAt}
+use Rattle.demands.specs.Sheet.{HasSheet}
 
 -- ---- the numbers of a record that stands after p, with q after it
 

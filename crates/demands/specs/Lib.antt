@@ -3,4 +3,5 @@ pub mod Sheet
 pub mod One
 pub mod Two
 pub mod Three
+pub mod Weeks
 pub mod Promises

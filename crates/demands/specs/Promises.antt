@@ -4,14 +4,20 @@
 --     Gives (expandText ..)     smocurant_expand, smocurant_expand_entries
 --     Shows (titleOf ..)        smocurant_title                    Shows (descriptionOf ..)   smocurant_description
 --     Tells (titleOf ..)        texts::calls::title                Tells (descriptionOf ..)   texts::calls::description
+--     Replays (replayOf ..)     smocurant_weeks
 -- One value has this type: proofs/Promises `promises`.
 use Prim.Native.Nat.{ℕ}
-use mathlib.Core.Bool.{false}
+use mathlib.Core.Bool.{true, false}
 use mathlib.Core.List.{List, []}
 use mathlib.Core.Logic.{_↔_}
 use mathlib.Core.Option.{Option}
 use mathlib.Core.Path.{_≡_}
-use lib.IntN.{ℤ}
+use lib.IntN.{ℤ, pos, _+ℤ_}
+use lib.ListN.{take}
+use Rattle.sheet.specs.Reading.{rowsOf, faultOf}
+use Rattle.weeks.specs.Weeks.{isMonday, inWeek}
+use Rattle.weeks.specs.Calendar.{weekOf}
+use Rattle.weeks.specs.Replay.{replayOf, Replays}
 use Rattle.words.specs.declared.Privacy.the-variants.{Public, Private, Secret}
 use Rattle.event.specs.Types.{Text, Details}
 use Rattle.event.specs.Event.{eventOf}
@@ -25,6 +31,7 @@ use Rattle.demands.specs.Sheet.{HasSheet}
 use Rattle.demands.specs.One.{TableAnswered, TextAnswered, PartAnswered}
 use Rattle.demands.specs.Two.{Listed, Told, PartTold}
 use Rattle.demands.specs.Three.{SameTable, PrivateTable, SameText, SamePart}
+use Rattle.demands.specs.Weeks.{WeeksAnswered, WeeksSorted, SameReplays, ShutsNothing}
 
 -- The calls for the sheet.
 pub record TablePromises : Type 0 where
@@ -78,6 +85,32 @@ pub record TextPromises (call : List ℕ → ℤ → Shown) (which : Details →
   pub secret : (s : List ℕ) → Accepted Secret s → (date : ℤ) (answer start size : ℕ) → Shows (call s date) answer start size → answer ≡ 14
   pub secretPart : (s : List ℕ) → Accepted Secret s → (date : ℤ) (answer : ℕ) (part : List ℕ) → Tells (call s date) s answer part → answer ≡ 14
 
+-- The call for the weeks of an upload log, given a sheet: that of an event is the first `size` bytes of the buffer, `take size after`.
+pub record WeeksPromises : Type 0 where
+  -- 1. ".. a call ends with one answer: the lowest number of the table whose condition holds." Request 1: "a refusal changes nothing".
+  pub answered : (log : List ℤ) (sheet : List ℕ) (from to : ℤ) (before : List ℤ) (answer reported shut missing : ℕ) (after : List ℤ)
+      → Replays (replayOf log sheet from to before) answer reported shut missing after
+      → WeeksAnswered log sheet from to before answer reported shut missing after
+  -- Request 1: each week, its place and the tallies, where the call is answered 0.
+  pub sorted : (log : List ℤ) (sheet : List ℕ) (from to : ℤ) (before : List ℤ) (answer reported shut missing : ℕ) (after : List ℤ)
+      → Replays (replayOf log sheet from to before) answer reported shut missing after → answer ≡ 0
+      → WeeksSorted log (rowsOf sheet) from to before reported shut missing after
+  -- A week of a range is the one that floor division gives, before 1970 too.
+  pub floor : (from t : ℤ) (i : ℕ) → isMonday from ≡ true → (inWeek from i t ≡ true) ↔ (weekOf t ≡ weekOf from +ℤ pos i)
+  -- Every sheet that the library writes is accepted: 32 is not given for it.
+  pub written : (zones : ZoneTable) (s : List ℕ) (from to : ℤ) (buffer : List ℕ) (answer size : ℕ) (after : List ℕ)
+      → Gives (expandText zones s from to buffer) answer size after → answer ≡ 0 → faultOf (take size after) ≡ 0
+  -- 3. ".. the planner gets the same answer": the weeks, too, are the same for two accepted private events that agree, whatever log, range and places.
+  pub private : (s t : List ℕ) → Accepted Private s → Accepted Private t → Agree (eventOf s) (eventOf t)
+      → (zones : ZoneTable) (from to : ℤ) (buffer : List ℕ) (answer answer′ size size′ : ℕ) (after after′ : List ℕ)
+      → Gives (expandText zones s from to buffer) answer size after → Gives (expandText zones t from to buffer) answer′ size′ after′
+      → SameReplays (take size after) (take size′ after′)
+  -- 3. ".. Whatever else they hold": the same for two accepted secret events, and no week is shut by one.
+  pub secret : (s t : List ℕ) → Accepted Secret s → Accepted Secret t
+      → (zones : ZoneTable) (from to : ℤ) (buffer : List ℕ) (answer answer′ size size′ : ℕ) (after after′ : List ℕ)
+      → Gives (expandText zones s from to buffer) answer size after → Gives (expandText zones t from to buffer) answer′ size′ after′
+      → SameReplays (take size after) (take size′ after′) × (answer ≡ 0 → ShutsNothing (take size after))
+
 -- All that is promised.
 pub record Promises : Type 0 where
   -- 1. "one answer": two numbers that both are the lowest are equal.
@@ -87,3 +120,4 @@ pub record Promises : Type 0 where
   pub table : TablePromises
   pub title : TextPromises titleOf (λ d. d .title)
   pub description : TextPromises descriptionOf (λ d. d .description)
+  pub weeks : WeeksPromises

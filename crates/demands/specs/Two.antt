@@ -1,7 +1,7 @@
 -- Demand 2, of one call: "When an accepted event that is not secret is answered 0, the recurrence ids on the sheet strictly increase, and a date-time
 -- of the window is there exactly when no override excludes it and either an override names it, or it is the start or a rule gives it, and no
 -- excluded rule does. RFC 8984 decides, in the written profile. UTC times, marks and words are those of the same document."
-use Prim.Native.Nat.{ℕ, _+_, _*_, _<_}
+use Prim.Native.Nat.{ℕ, _+_, _<_}
 use mathlib.Core.Bool.{true}
 use mathlib.Core.List.{List, []}
 use mathlib.Core.Logic.{_↔_}
@@ -16,7 +16,8 @@ use Rattle.table.specs.Window.{since1600, since1970}
 use Rattle.table.specs.Occurrence.{datesOf, isOccurrence, detailsAt}
 use Rattle.table.specs.Bytes.{ZoneTable, utcOf, secondsIn, marksOf}
 use Rattle.table.specs.Answer.{dateTimeOf}
-use Rattle.demands.specs.Sheet.{idAt, startAt, endAt, marksAt, zerosAt, HasSheet}
+use Rattle.sheet.specs.Records.{idAt, startAt, endAt, marksAt, zerosAt}
+use Rattle.demands.specs.Sheet.{HasSheet}
 
 -- The id is that of one of the n records on the sheet.
 pub record OnSheet (n : ℕ) (sheet : List ℕ) (id : ℤ) : Type 0 where

@@ -1,15 +1,15 @@
 -- Bytes that are read: a number by its lower and its higher bytes, and what the machine makes of a two's complement.
-use Prim.Native.Nat.{ℕ, suc, _+_, _-_, _*_, _<_, _≤_, _^_}
+use Prim.Native.Nat.{ℕ, zero, suc, _+_, _-_, _*_, _<_, _≤_, _^_}
 use mathlib.Core.Bool.{Bool, true, false}
 use mathlib.Core.List.{List, [], _∷_, _++_}
-use mathlib.Core.Path.{_≡_, refl, _∙_}
+use mathlib.Core.Path.{_≡_, refl, ap, _∙_}
 use native.Mathlib.Nat.{pow-succ', mul-assoc}
 use native.Mathlib.Omega.{arith}
 use borrow.Author.Tests.{lt-ltb, le-ltb, ltb-true, ltb-false}
 use lib.Dec.{ltb}
 use lib.IntN.{pos, negsuc, _-ℤ_}
 use lib.ListN.{length, getD, take, drop, length-drop}
-use lib.Seq.{take-add, drop-drop, drop-cons, length-take-le}
+use lib.Seq.{take-add, take-take, drop-drop, drop-cons, length-take-le}
 use mir.Syntax.{w64}
 use mir.Val.{SFits, toZ, ofZ}
 use mir.Facts.{toZ-ofZ, toZ-pos}
@@ -64,3 +64,15 @@ signed-fits v = by (ltb v (2 ^ 63)) refl
     by : (t : Bool) → ltb v (2 ^ 63) ≡ t → SFits w64 (if t then pos v else negsuc (2 ^ 64 - 1 - v))
     by true e = record { sfits = ltb-true v (2 ^ 63) e }
     by false e = record { sfits = omega (arith, ltb-false v (2 ^ 63) e) }
+
+-- ---- a number in the beginning of a list
+
+part-take : (n i m : ℕ) (s : List ℕ) → i + n ≤ m → take n (drop i (take m s)) ≡ take n (drop i s)
+part-take n zero m s h = take-take n m s (omega arith)
+part-take n (suc i) zero s h = absurd (omega arith)
+part-take n (suc i) (suc m) [] h = refl
+part-take n (suc i) (suc m) (x ∷ s) h = part-take n i m s (omega arith)
+
+pub number-take : (n i m : ℕ) (s : List ℕ) → i + n ≤ m → numberAt n i (take m s) ≡ numberAt n i s
+unfolding numberAt
+number-take n i m s h = ap valueOf (part-take n i m s h)
