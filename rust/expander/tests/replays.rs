@@ -35,14 +35,14 @@ fn every_refusal_of_the_reader_comes_up() {
     assert!(counts.values().all(|count| *count > CASES / 400), "{counts:?}");
 }
 
-/// Reported, shut and missing weeks all come up in ranges of some weeks.
+/// Reported, shut and missing weeks all come up, each in many replays.
 #[test]
 fn every_kind_of_week_comes_up() {
-    let mut sums = [0; 3];
+    let mut replays = [0; 3];
     for replay in (0..CASES).map(Replay::new) {
         let mut places = vec![0; replay.weeks().min(500) as usize];
         let (_, tallies) = expander::weeks(&replay.log, &replay.sheet, replay.range.0, replay.range.1, &mut places);
-        sums = [0, 1, 2].map(|kind| sums[kind] + tallies[kind]);
+        replays = [0, 1, 2].map(|kind| replays[kind] + u64::from(tallies[kind] > 0));
     }
-    assert!(sums.iter().all(|sum| sum * 10 > sums.iter().sum::<u64>()), "{sums:?}");
+    assert!(replays.iter().all(|count| *count > CASES / 8), "{replays:?}");
 }

@@ -26,7 +26,7 @@ pub fn weeks((start, end): (i64, i64)) -> u64 {
 /// An instant in a range of weeks or near it, often beside a Monday; seldom any other.
 pub fn near(range: (i64, i64), random: &mut Random) -> i64 {
     let (start, end) = range;
-    let weeks = weeks(range).min(100) as i64;
+    let weeks = weeks(range).min(500) as i64;
     let beside = random.within(-1..=1);
     match random.below(48) {
         0 => random.pick(&[i64::MIN, i64::MIN + 1, -1, 0, i64::MAX - 1, i64::MAX]),

@@ -38,12 +38,12 @@ impl Replay {
     }
 }
 
-/// A range of up to 60 weeks in most cases.
+/// A range of up to 60 weeks in most cases; some are longer, much longer, or no ranges of weeks.
 fn range(random: &mut Random) -> (i64, i64) {
     let any = random.next() as i64;
     let near = random.pick(&[0, 1_767_225_600, -1_000_000_000, i64::MIN, i64::MAX, any]);
     let start = instants::monday(near.saturating_add(random.within(-20..=20) * WEEK));
-    let weeks = random.pick(&[0, 1, 2, 3, 60]);
+    let weeks = random.pick(&[0, 1, 1, 2, 3, 3, 60, 60, 60, 450]);
     // An end after the last Monday of all becomes that Monday.
     let end = start.saturating_add(random.within(weeks / 2..=weeks) * WEEK).min(LAST_MONDAY);
     let beside = random.pick(&[1, -1, 86_400, -259_200, 345_600, 604_799, any]);
@@ -53,14 +53,16 @@ fn range(random: &mut Random) -> (i64, i64) {
         2 => (start.saturating_add(beside), end.saturating_add(beside)),
         3 => (end, start),
         4 => random.pick(&[(FIRST_MONDAY, LAST_MONDAY), (start, LAST_MONDAY), (FIRST_MONDAY, end), (LAST_MONDAY, FIRST_MONDAY)]),
-        5 => random.pick(&[(i64::MIN, i64::MAX), (i64::MAX, i64::MIN), (i64::MIN, i64::MIN), (start, i64::MAX), (i64::MIN, end)]),
+        // The number of weeks is that of the range before, modulo 2^32.
+        5 => (start, end.saturating_add((WEEK << 32) * random.within(1..=3)).min(LAST_MONDAY)),
+        6 => random.pick(&[(i64::MIN, i64::MAX), (i64::MAX, i64::MIN), (i64::MIN, i64::MIN), (start, i64::MAX), (i64::MIN, end)]),
         _ => (start, end),
     }
 }
 
 /// An ordered log. Some of its uploads are at the same second.
 fn log(range: (i64, i64), random: &mut Random) -> Vec<i64> {
-    let count = random.pick(&[0, 1, 2, 10, 10, 100]);
+    let count = if random.once_in(40) { 3_000 } else { random.pick(&[0, 1, 2, 10, 10, 100]) };
     let mut log: Vec<i64> = (0..random.within(0..=count)).map(|_| instants::near(range, random)).collect();
     if random.once_in(3) {
         let again: Vec<i64> = log.iter().copied().filter(|_| random.once_in(2)).collect();

@@ -37,7 +37,7 @@ fn record(row: &Row) -> [u8; RECORD_LENGTH] {
 
 /// Rows by id, with spans near a range of weeks in any order.
 pub fn rows(range: (i64, i64), random: &mut Random) -> Vec<Row> {
-    let count = random.pick(&[0, 1, 1, 2, 5, 30]);
+    let count = if random.once_in(40) { 600 } else { random.pick(&[0, 1, 1, 2, 5, 30]) };
     let mut ids: Vec<i64> = (0..count).map(|_| instants::near(range, random)).collect();
     ids.sort_unstable();
     ids.dedup();
