@@ -88,11 +88,12 @@ fn part(text: &[u8], (answer, start, length): (u32, u64, u64)) -> Result<Text<'_
     Ok(Text::new(text, place(start)..place(start) + place(length)))
 }
 
-fn done(answer: u32) -> Result<(), Status> {
+/// Nothing after the answer 0, or what the call was refused with.
+pub(crate) fn done(answer: u32) -> Result<(), Status> {
     match Status::of_number(answer) {
         Some(Status::Done) => Ok(()),
         Some(status) => Err(status),
-        None => unreachable!("the library answers 0 to 14, and not {answer}"),
+        None => unreachable!("the library answers 0 to 14 or 30 to 33, and not {answer}"),
     }
 }
 

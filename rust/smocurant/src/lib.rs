@@ -2,7 +2,8 @@
 //! nothing of a secret one.
 //!
 //! The work is done by a library that is proved to meet its contract. This crate links its archive and gives it safe types: a [`Window`], a
-//! [`ZoneTable`], a [`Table`] of [`Record`]s, [`Text`]s that are parts of the caller's own, and a [`Status`] for each refusal.
+//! [`ZoneTable`], a [`Table`] of [`Record`]s, [`Text`]s that are parts of the caller's own, and a [`Status`] for each refusal. [`weeks`] holds
+//! a log of uploads beside such tables and says which weeks were reported, shut or missing.
 //!
 //! ```
 //! use smocurant::{expand_to_vec, title, Status, Window, ZoneTable};
@@ -32,6 +33,7 @@ mod table;
 mod text;
 pub mod time;
 pub mod tzif;
+mod weeks;
 mod window;
 mod zone;
 
@@ -40,5 +42,6 @@ pub use calls::{description, expand, expand_entries, expand_to_vec, title};
 pub use status::Status;
 pub use table::{Record, Records, Table};
 pub use text::Text;
+pub use weeks::{weeks, weeks_into, Tallies, Week, WeekRange, Weeks, WeeksError};
 pub use window::Window;
 pub use zone::{Transition, ZoneTable};

@@ -46,6 +46,20 @@ mod exported {
         pub fn smocurant_title(text: *const u8, text_length: usize, date: i64, start: *mut u64, length: *mut u64) -> u32;
 
         pub fn smocurant_description(text: *const u8, text_length: usize, date: i64, start: *mut u64, length: *mut u64) -> u32;
+
+        pub fn smocurant_weeks(
+            log: *const i64,
+            log_length: usize,
+            sheet: *const u8,
+            sheet_length: usize,
+            range_start: i64,
+            range_end: i64,
+            places: *mut i64,
+            places_length: usize,
+            reported: *mut u64,
+            shut: *mut u64,
+            missing: *mut u64,
+        ) -> u32;
     }
 }
 
@@ -131,4 +145,28 @@ pub fn description(text: &[u8], date: i64) -> (u32, u64, u64) {
     // SAFETY: as in `title`.
     let answer = unsafe { exported::smocurant_description(text.as_ptr(), text.len(), date, &mut start, &mut length) };
     (answer, start, length)
+}
+
+/// Writes each week's number of uploads, or -1 for shut, or -2 for missing, into its place: the answer number, and how many weeks were
+/// reported, shut and missing.
+pub fn weeks(log: &[i64], sheet: &[u8], range_start: i64, range_end: i64, places: &mut [i64]) -> (u32, [u64; 3]) {
+    let [mut reported, mut shut, mut missing] = [0; 3];
+    // SAFETY: each pointer and length come from one slice, which lives through the call. The places and the three numbers are borrowed alone,
+    // so the function may write there. It keeps no pointer, and is proved to touch nothing outside of the slices.
+    let answer = unsafe {
+        exported::smocurant_weeks(
+            log.as_ptr(),
+            log.len(),
+            sheet.as_ptr(),
+            sheet.len(),
+            range_start,
+            range_end,
+            places.as_mut_ptr(),
+            places.len(),
+            &mut reported,
+            &mut shut,
+            &mut missing,
+        )
+    };
+    (answer, [reported, shut, missing])
 }

@@ -36,10 +36,18 @@ pub enum Status {
     Buffer = 13,
     /// 14: the date is no occurrence, or the event is secret.
     NoOccurrence = 14,
+    /// 30: the log of uploads is out of order.
+    LogOrder = 30,
+    /// 31: the range is not one of whole weeks.
+    WeekRange = 31,
+    /// 32: the sheet is damaged.
+    Sheet = 32,
+    /// 33: there are fewer places than weeks.
+    Places = 33,
 }
 
-/// All answers, by their numbers.
-const ALL: [Status; 15] = [
+/// All answers, in the order of their numbers.
+const ALL: [Status; 19] = [
     Status::Done,
     Status::TextTooLong,
     Status::TooDeep,
@@ -55,6 +63,10 @@ const ALL: [Status; 15] = [
     Status::OtherZone,
     Status::Buffer,
     Status::NoOccurrence,
+    Status::LogOrder,
+    Status::WeekRange,
+    Status::Sheet,
+    Status::Places,
 ];
 
 impl Status {
@@ -65,7 +77,7 @@ impl Status {
 
     /// The answer of a number.
     pub fn of_number(number: u32) -> Option<Status> {
-        ALL.get(usize::try_from(number).ok()?).copied()
+        ALL.into_iter().find(|status| status.number() == number)
     }
 
     /// What it means, as a sentence.
@@ -88,6 +100,10 @@ impl Status {
             Status::OtherZone => "The event is in another time zone than the zone table.",
             Status::Buffer => "The table is longer than the buffer.",
             Status::NoOccurrence => "The date is no occurrence, or the event is secret.",
+            Status::LogOrder => "The log is out of order: an upload is earlier than the one before it.",
+            Status::WeekRange => "The range is not from a Monday 00:00:00 UTC to the same or a later one.",
+            Status::Sheet => "The sheet is damaged: its layout, its ids or its marks are wrong.",
+            Status::Places => "The range has more weeks than there are places for them.",
         }
     }
 }
@@ -106,11 +122,14 @@ mod tests {
 
     #[test]
     fn numbers_go_round() {
-        for (number, status) in (0..).zip(ALL) {
+        for (number, status) in (0..15).chain(30..34).zip(ALL) {
             assert_eq!(status.number(), number);
             assert_eq!(Status::of_number(number), Some(status));
             assert!(status.sentence().ends_with('.'));
         }
-        assert_eq!(Status::of_number(15), None);
+        for number in [15, 29, 34, u32::MAX] {
+            assert_eq!(Status::of_number(number), None);
+        }
+        assert!(ALL.is_sorted());
     }
 }

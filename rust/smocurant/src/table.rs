@@ -89,6 +89,12 @@ impl<'b> Table<'b> {
     }
 }
 
+impl AsRef<[u8]> for Table<'_> {
+    fn as_ref(&self) -> &[u8] {
+        &self.bytes
+    }
+}
+
 impl<'t> IntoIterator for &'t Table<'_> {
     type Item = Record;
     type IntoIter = Records<'t>;
