@@ -7,6 +7,7 @@ mod inputs;
 mod list;
 mod options;
 mod progress;
+mod weeks;
 
 use failure::Failure;
 use options::Command;
@@ -27,6 +28,7 @@ fn main() -> ExitCode {
         Ok(Command::Help(text)) => return say(text),
         Ok(Command::Version) => return say(concat!("smocurant ", env!("CARGO_PKG_VERSION"), "\n")),
         Ok(Command::List(options)) => list::run(&options),
+        Ok(Command::Weeks(options)) => weeks::run(&options),
         Err(reason) => return fail(WRONG_OPTIONS, &format!("{reason}\nsmocurant --help lists the options.")),
     };
     match refused {

@@ -10,6 +10,10 @@ const HELP: &str = "\
 Lists every occurrence of JSCalendar events (RFC 8984) in a window.
 
 Usage: smocurant [OPTIONS] EVENT...
+       smocurant weeks [OPTIONS] --log FILE CLOSURE...
+
+The second sorts the weeks of an upload log into reported, shut and missing
+ones; smocurant weeks --help has its options.
 
   EVENT            a file with one event, a folder of such files (*.json),
                    or - for standard input

@@ -2,6 +2,7 @@
 
 mod common;
 pub mod list;
+pub mod weeks;
 mod words;
 
 pub use common::Common;
@@ -14,9 +15,14 @@ pub enum Command {
     Version,
     /// List occurrences.
     List(list::Options),
+    /// Sort the weeks of a log.
+    Weeks(weeks::Options),
 }
 
-/// Reads the words of the command line.
+/// Reads the words of the command line. The first of them may name a command; without one, occurrences are listed.
 pub fn read(words: Vec<String>) -> Result<Command, String> {
-    list::read(words.into_iter())
+    match words.split_first() {
+        Some((first, rest)) if first == "weeks" => weeks::read(rest.iter().cloned()),
+        _ => list::read(words.into_iter()),
+    }
 }
