@@ -32,6 +32,28 @@ pub enum Refusal {
     Buffer = 13,
     /// The date is no occurrence, or the event is secret.
     NoOccurrence = 14,
+    /// The log of uploads is out of order.
+    LogOrder = 30,
+    /// The range is not from one Monday to the same or a later one.
+    WeekRange = 31,
+    /// The reader of sheets refuses the sheet.
+    Sheet = 32,
+    /// There are fewer places than weeks.
+    Places = 33,
+    /// The sheet is too short for a trailer.
+    SheetTooShort = 34,
+    /// The sheet has an unknown version.
+    SheetVersion = 35,
+    /// The sheet has a wrong record size.
+    SheetRecordSize = 36,
+    /// The distance isn't 28 times the count or isn't the bytes before the trailer.
+    SheetDistance = 37,
+    /// The ids are not strictly increasing.
+    SheetIds = 38,
+    /// Marks outside 0 to 7.
+    SheetMarks = 39,
+    /// Zeros that are not zero.
+    SheetZeros = 40,
 }
 
 impl Refusal {

@@ -2,23 +2,29 @@
 //!
 //! [`Case::new`] is one call of the library: a text, a zone table, a window, and dates to ask texts for. Its texts are events of every
 //! kind, damaged ones, and bytes that are hardly JSON. [`pairs`] has events that a planner must not be able to tell apart,
-//! and [`examples`] those whose dates the documents give.
+//! and [`examples`] those whose dates the documents give. [`Replay::new`] is a log of uploads, the [`sheets`] of a closure calendar and a range
+//! of weeks.
 
 mod damage;
 pub mod dates;
 pub mod examples;
+pub mod instants;
 mod model;
 mod node;
 mod overrides;
 pub mod pairs;
 mod random;
+mod replay;
 mod rules;
+mod sheet_damage;
+pub mod sheets;
 mod spelling;
 mod strange;
 mod tables;
 
 pub use model::Model;
 pub use random::Random;
+pub use replay::Replay;
 pub use tables::ZoneNumbers;
 
 /// One call of the library.
