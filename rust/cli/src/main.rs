@@ -29,7 +29,7 @@ fn main() -> ExitCode {
         Ok(Command::Version) => return say(concat!("smocurant ", env!("CARGO_PKG_VERSION"), "\n")),
         Ok(Command::List(options)) => list::run(&options),
         Ok(Command::Weeks(options)) => weeks::run(&options),
-        Err(reason) => return fail(WRONG_OPTIONS, &format!("{reason}\nsmocurant --help lists the options.")),
+        Err(reason) => return fail(WRONG_OPTIONS, &reason),
     };
     match refused {
         Ok(0) => ExitCode::SUCCESS,

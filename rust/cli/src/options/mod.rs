@@ -22,7 +22,9 @@ pub enum Command {
 /// Reads the words of the command line. The first of them may name a command; without one, occurrences are listed.
 pub fn read(words: Vec<String>) -> Result<Command, String> {
     match words.split_first() {
-        Some((first, rest)) if first == "weeks" => weeks::read(rest.iter().cloned()),
-        _ => list::read(words.into_iter()),
+        Some((first, rest)) if first == "weeks" => {
+            weeks::read(rest.iter().cloned()).map_err(|reason| format!("{reason}\nsmocurant weeks --help lists the options."))
+        }
+        _ => list::read(words.into_iter()).map_err(|reason| format!("{reason}\nsmocurant --help lists the options.")),
     }
 }
