@@ -98,6 +98,7 @@ fn json() {
     let expected = r#"{
   "range": {"from": "2025-12-22", "to": "2026-01-12"},
   "tallies": {"reported": 1, "shut": 2, "missing": 0, "uploads": 2},
+  "complete": true,
   "weeks": [
     {"monday": "2025-12-22", "isoWeek": "2025-W52", "class": "shut", "uploads": 0},
     {"monday": "2025-12-29", "isoWeek": "2026-W01", "class": "shut", "uploads": 0},
@@ -312,6 +313,7 @@ fn refused_closures() {
         }
         assert!(out.contains("shut") && out.contains("missing"), "{format}");
         assert!(if format == "csv" { errors.contains(note) } else { out.contains(note) }, "{format}: {out}");
+        assert_eq!(out.contains("\"complete\": false"), format == "json");
     }
 }
 

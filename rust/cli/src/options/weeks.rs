@@ -45,7 +45,8 @@ Time zone of the closures:
 Output:
   --format FORMAT  screen  the year at a glance, in the terminal (default)
                    csv     a line for each week
-                   json    one object: range, tallies, weeks and notes
+                   json    one object: range, tallies, complete (were all
+                           closures used?), weeks and notes
                    svg     a picture to print
                    html    a page to print: the picture and the weeks' dates
   --output FILE    where to write, instead of standard output

@@ -44,6 +44,8 @@ pub struct Report {
     pub tallies: Tallies,
     /// The uploads in the range.
     pub uploads: u64,
+    /// Were all closures used?
+    pub complete: bool,
     /// Sentences about what was counted, and how.
     pub notes: Vec<String>,
 }
@@ -53,8 +55,14 @@ impl Report {
     pub fn new(weeks: &Weeks, log_length: usize, closures: &Closures) -> Report {
         let dated = |(monday, week)| DatedWeek { monday, number: IsoWeek::of_monday(monday), week };
         let uploads = weeks.iter().map(|(_, week)| week.uploads()).sum();
-        let notes = notes(closures, log_length as u64 - uploads);
-        Report { range: weeks.range(), weeks: weeks.iter().map(dated).collect(), tallies: weeks.tallies(), uploads, notes }
+        Report {
+            range: weeks.range(),
+            weeks: weeks.iter().map(dated).collect(),
+            tallies: weeks.tallies(),
+            uploads,
+            complete: closures.refused == 0,
+            notes: notes(closures, log_length as u64 - uploads),
+        }
     }
 
     /// The range in a sentence's part.

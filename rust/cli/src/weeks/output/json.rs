@@ -4,7 +4,7 @@ use crate::weeks::dates;
 use crate::weeks::report::{DatedWeek, Report};
 use std::io::{self, Write};
 
-/// The range, the tallies, the weeks and the notes.
+/// The range, the tallies, whether all closures were used, the weeks and the notes.
 pub fn write(report: &Report, out: &mut dyn Write) -> io::Result<()> {
     let (from, to) = (dates::day(report.range.start()), dates::day(report.range.end()));
     let (tallies, uploads) = (report.tallies, report.uploads);
@@ -15,6 +15,7 @@ pub fn write(report: &Report, out: &mut dyn Write) -> io::Result<()> {
         r#"  "tallies": {{"reported": {}, "shut": {}, "missing": {}, "uploads": {uploads}}},"#,
         tallies.reported, tallies.shut, tallies.missing
     )?;
+    writeln!(out, r#"  "complete": {},"#, report.complete)?;
     list("weeks", &report.weeks.iter().map(week).collect::<Vec<String>>(), ",", out)?;
     list("notes", &report.notes.iter().map(|note| format!("\"{note}\"")).collect::<Vec<String>>(), "", out)?;
     writeln!(out, "}}")

@@ -125,6 +125,35 @@ fn wrapped(parts: &[String], width: usize) -> Vec<String> {
 #[cfg(test)]
 mod tests {
     use super::*;
+    use crate::weeks::iso_week::IsoWeek;
+    use smocurant::{Tallies, WeekRange};
+    use std::num::NonZeroU64;
+
+    /// Three weeks of 1970, one of each kind.
+    fn shown(colours: bool) -> String {
+        let kinds = [Week::Reported(NonZeroU64::MIN), Week::Shut, Week::Missing];
+        let first = 4 * dates::DAY;
+        let dated = |(place, week)| {
+            let monday = first + place * dates::WEEK;
+            DatedWeek { monday, number: IsoWeek::of_monday(monday), week }
+        };
+        let range = WeekRange::new(first, first + 3 * dates::WEEK).unwrap();
+        let tallies = Tallies { reported: 1, shut: 1, missing: 1 };
+        let weeks = (0..).zip(kinds).map(dated).collect();
+        let report = Report { range, weeks, tallies, uploads: 1, complete: true, notes: vec!["A note.".to_string()] };
+        let mut out = Vec::new();
+        write(&report, colours, &mut out).unwrap();
+        String::from_utf8(out).unwrap()
+    }
+
+    #[test]
+    fn colours_are_added_to_the_same_text() {
+        let (plain, coloured) = (shown(false), shown(true));
+        assert!(!plain.contains('\x1b') && plain.contains("\n            1   ███  [?]\n"), "{plain}");
+        // Each mark has a colour in its cell and in the legend.
+        assert_eq!((coloured.matches("\x1b[35m███\x1b[0m").count(), coloured.matches("\x1b[1;31m[?]\x1b[0m").count()), (2, 2));
+        assert_eq!(coloured.replace("\x1b[35m", "").replace("\x1b[1;31m", "").replace("\x1b[0m", ""), plain);
+    }
 
     #[test]
     fn numbers_fit_into_a_cell() {
