@@ -1,6 +1,9 @@
 //! Times of the library beside the independent expander and, where it is installed, libical, in one run. Prints Markdown.
 //!
 //!     cargo run --release -p bench
+//!     cargo run --release -p bench -- weeks
+//!
+//! The second line runs the section on weeks alone.
 //!
 //! A time is processor time, and the best of some batches, as everything else that a machine does only makes it longer. Times are of this
 //! machine alone; the ratios say more.
@@ -8,6 +11,7 @@
 mod libical;
 mod measure;
 mod texts;
+mod weeks;
 mod workloads;
 
 use measure::{in_turns, nanoseconds};
@@ -15,8 +19,16 @@ use std::hint::black_box;
 use workloads::Workload;
 
 fn main() {
-    let machine = measure::machine();
-    println!("Machine: {machine}.\n");
+    println!("Machine: {}.\n", measure::machine());
+    let only = std::env::args().nth(1);
+    if only.is_none_or(|section| section != "weeks") {
+        print_expansions();
+    }
+    weeks::print();
+}
+
+/// Events in windows.
+fn print_expansions() {
     let libical = libical::Libical::load();
     if libical.is_none() {
         println!("libical is not installed, so its column is empty.\n");

@@ -37,11 +37,10 @@ fn try_weeks(log: &[i64], sheet: &[u8], range: (i64, i64), places: &mut [i64]) -
     if range.count() > places.len() as u64 {
         return Err(Refusal::Places);
     }
-    let touched = touched_weeks(&range, &sheet);
+    let weeks = uploads_of_weeks(&range, log).into_iter().zip(touched_weeks(&range, &sheet));
     let mut tallies = [0; 3];
-    for (week, place) in places.iter_mut().enumerate().take(touched.len()) {
-        let uploads = uploads(log, range.week(week));
-        let (kind, number) = match (uploads, touched[week]) {
+    for (place, (uploads, is_touched)) in places.iter_mut().zip(weeks) {
+        let (kind, number) = match (uploads, is_touched) {
             (1.., _) => (0, uploads),
             (_, true) => (1, SHUT),
             (_, false) => (2, MISSING),
@@ -78,10 +77,9 @@ impl WholeWeeks {
         self.seconds_to(self.end) / WEEK
     }
 
-    /// The seconds of a week.
-    fn week(&self, week: usize) -> Range<i64> {
-        let monday = |week: usize| (i128::from(self.start) + week as i128 * i128::from(WEEK)) as i64;
-        monday(week)..monday(week + 1)
+    /// The Monday of a week, or of the one after the range.
+    fn monday(&self, week: usize) -> i64 {
+        (i128::from(self.start) + week as i128 * i128::from(WEEK)) as i64
     }
 
     /// The weeks of the range that a record's span touches: they end after its start and begin before its end.
@@ -90,6 +88,18 @@ impl WholeWeeks {
         let end = if record.start < record.end { record.end } else { record.start.saturating_add(1) };
         (self.seconds_to(record.start) / WEEK) as usize..self.seconds_to(end).div_ceil(WEEK) as usize
     }
+}
+
+/// The number of uploads in each week. A week is from its Monday to the next, and the log is in order.
+fn uploads_of_weeks(range: &WholeWeeks, log: &[i64]) -> Vec<i64> {
+    let mut rest = &log[log.partition_point(|upload| *upload < range.start)..];
+    let uploads_of = |week: usize| {
+        let next_monday = range.monday(week + 1);
+        let uploads = rest.iter().take_while(|upload| **upload < next_monday).count();
+        rest = &rest[uploads..];
+        uploads as i64
+    };
+    (0..range.count() as usize).map(uploads_of).collect()
 }
 
 /// Whether some record touches each week. Where a span's weeks begin one more span is open, and one less after its last week.
@@ -107,12 +117,6 @@ fn touched_weeks(range: &WholeWeeks, sheet: &Sheet) -> Vec<bool> {
         open > 0
     };
     changes.into_iter().map(step).collect()
-}
-
-/// The uploads of an ordered log in a week.
-fn uploads(log: &[i64], week: Range<i64>) -> i64 {
-    let before = |instant: i64| log.partition_point(|upload| *upload < instant);
-    (before(week.end) - before(week.start)) as i64
 }
 
 #[cfg(test)]

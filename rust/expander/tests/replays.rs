@@ -19,7 +19,7 @@ fn every_answer_comes_up() {
     let answer = |seed: u64| {
         let replay = Replay::new(seed);
         let room = replay.weeks().min(500) as usize;
-        let lent = if seed % 8 == 0 { room.saturating_sub(1) } else { room };
+        let lent = if seed.is_multiple_of(8) { room.saturating_sub(1) } else { room };
         expander::weeks(&replay.log, &replay.sheet, replay.range.0, replay.range.1, &mut vec![0; lent]).0
     };
     let counts = counted((0..CASES).map(answer));
