@@ -345,6 +345,8 @@ fn several_years() {
     assert_eq!(code, 0);
     assert!(out.lines().all(|line| line.chars().count() < 80), "{out}");
     assert_eq!(out.matches("W01  W02").count(), 10);
+    // A run ends with its year.
+    assert!(out.contains(" W52 2025-12-22, W01 2025-12-29,") && out.contains(" W52-W53 2026-12-21 to 2026-12-28,"), "{out}");
     assert_eq!(out.matches("  W53").count(), 2);
     let (_, page, _) = weeks("", &["--from", "2018-01-01", "--to", "2028-01-03", "--format", "html", "closures/christmas-closure.json"]);
     check_tags(&page, &["meta"]);

@@ -77,9 +77,9 @@ impl Report {
         self.weeks.iter().filter(move |dated| dated.week == kind)
     }
 
-    /// The weeks of a kind as runs of weeks that follow each other, each by its first and last one.
+    /// The weeks of a kind as runs of weeks of one year that follow each other, each by its first and last one.
     pub fn runs(&self, kind: Week) -> Vec<(&DatedWeek, &DatedWeek)> {
-        let runs = self.weeks.chunk_by(|one, next| one.week == next.week);
+        let runs = self.weeks.chunk_by(|one, next| one.week == next.week && one.number.year == next.number.year);
         runs.filter(|run| run[0].week == kind).map(|run| (&run[0], &run[run.len() - 1])).collect()
     }
 }
