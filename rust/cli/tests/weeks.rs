@@ -234,6 +234,7 @@ fn week_53_and_the_change_of_the_year() {
 2026                                                              Dec
                                                                   W52  W53
                                                                   ███   1
+
 2027  Jan
       W01
       [?]
@@ -348,6 +349,7 @@ fn several_years() {
     // A run ends with its year.
     assert!(out.contains(" W52 2025-12-22, W01 2025-12-29,") && out.contains(" W52-W53 2026-12-21 to 2026-12-28,"), "{out}");
     assert_eq!(out.matches("  W53").count(), 2);
+    assert_eq!(out.lines().filter(|line| line.is_empty()).count(), 10 + 1);
     let (_, page, _) = weeks("", &["--from", "2018-01-01", "--to", "2028-01-03", "--format", "html", "closures/christmas-closure.json"]);
     check_tags(&page, &["meta"]);
     assert_eq!(page.matches("<svg ").count(), 11);

@@ -89,6 +89,21 @@ pub fn counted(number: u64, what: &str) -> String {
     format!("{number} {what}{}", if number == 1 { "" } else { "s" })
 }
 
+/// A number in four letters or fewer: 9999, 10k, 999k, 1M.
+pub fn short(number: u64) -> String {
+    if number < 10_000 {
+        return number.to_string();
+    }
+    let (mut number, mut unit) = (number, "");
+    for next in ["k", "M", "G", "T", "P", "E"] {
+        if number < 1_000 {
+            break;
+        }
+        (number, unit) = (number / 1_000, next);
+    }
+    format!("{number}{unit}")
+}
+
 fn notes(closures: &Closures, outside: u64) -> Vec<String> {
     let mut notes = Vec::new();
     if closures.refused > 0 {
@@ -102,4 +117,17 @@ fn notes(closures: &Closures, outside: u64) -> Vec<String> {
         notes.push(format!("Outside of the range, and not counted: {}.", counted(outside, "upload")));
     }
     notes
+}
+
+#[cfg(test)]
+mod tests {
+    use super::*;
+
+    #[test]
+    fn numbers_fit_into_a_cell() {
+        let cases = [(1, "1"), (9_999, "9999"), (10_000, "10k"), (999_999, "999k"), (1_000_000, "1M"), (u64::MAX, "18E")];
+        for (number, expected) in cases {
+            assert_eq!(short(number), expected);
+        }
+    }
 }

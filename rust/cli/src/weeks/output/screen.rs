@@ -2,7 +2,7 @@
 
 use crate::weeks::dates;
 use crate::weeks::layout::{self, Row};
-use crate::weeks::report::{counted, DatedWeek, Report};
+use crate::weeks::report::{counted, short, DatedWeek, Report};
 use smocurant::Week;
 use std::io::{self, Write};
 
@@ -34,12 +34,15 @@ impl Mark {
 
 /// The range, its weeks by quarters, what the marks mean with the tallies and dates, and the notes.
 pub fn write(report: &Report, colours: bool, out: &mut dyn Write) -> io::Result<()> {
-    writeln!(out, "{}\n", report.span())?;
+    writeln!(out, "{}", report.span())?;
     for row in layout::rows(&report.weeks) {
+        if row.starts_year {
+            writeln!(out)?;
+        }
         quarter(&row, colours, out)?;
     }
+    writeln!(out)?;
     if !report.weeks.is_empty() {
-        writeln!(out)?;
         tallies(report, colours, out)?;
     }
     report.notes.iter().try_for_each(|note| writeln!(out, "{note}"))
@@ -61,25 +64,11 @@ fn quarter(row: &Row, colours: bool, out: &mut dyn Write) -> io::Result<()> {
 fn mark(week: &DatedWeek, colours: bool) -> String {
     let after = " ".repeat(CELL - 3);
     match week.week {
-        Week::Reported(uploads) => format!("{:CELL$}", format!("{:^3}", short(uploads.get()))),
+        Week::Reported(uploads) if uploads.get() < 10 => format!("{:CELL$}", format!(" {uploads}")),
+        Week::Reported(uploads) => format!("{:CELL$}", format!("{:>3}", short(uploads.get()))),
         Week::Shut => SHUT.shown(colours) + &after,
         Week::Missing => MISSING.shown(colours) + &after,
     }
-}
-
-/// A number in four letters or fewer: 9999, 10k, 999k, 1M.
-fn short(number: u64) -> String {
-    if number < 10_000 {
-        return number.to_string();
-    }
-    let (mut number, mut unit) = (number, "");
-    for next in ["k", "M", "G", "T", "P", "E"] {
-        if number < 1_000 {
-            break;
-        }
-        (number, unit) = (number / 1_000, next);
-    }
-    format!("{number}{unit}")
 }
 
 /// What the marks mean, how many there are of each, and the Mondays of weeks without uploads.
@@ -153,14 +142,6 @@ mod tests {
         // Each mark has a colour in its cell and in the legend.
         assert_eq!((coloured.matches("\x1b[35m███\x1b[0m").count(), coloured.matches("\x1b[1;31m[?]\x1b[0m").count()), (2, 2));
         assert_eq!(coloured.replace("\x1b[35m", "").replace("\x1b[1;31m", "").replace("\x1b[0m", ""), plain);
-    }
-
-    #[test]
-    fn numbers_fit_into_a_cell() {
-        let cases = [(1, "1"), (9_999, "9999"), (10_000, "10k"), (999_999, "999k"), (1_000_000, "1M"), (u64::MAX, "18E")];
-        for (number, expected) in cases {
-            assert_eq!(short(number), expected);
-        }
     }
 
     #[test]

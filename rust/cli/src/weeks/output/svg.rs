@@ -4,7 +4,7 @@
 use super::TITLE;
 use crate::weeks::dates;
 use crate::weeks::layout::{self, Row, COLUMNS};
-use crate::weeks::report::{counted, DatedWeek, Report};
+use crate::weeks::report::{counted, short, DatedWeek, Report};
 use smocurant::Week;
 use std::io::{self, Write};
 
@@ -97,8 +97,8 @@ fn legend(report: &Report, top: usize, out: &mut dyn Write) -> io::Result<()> {
     let reported = format!("{} reported, with n uploads; {} in all", counted(tallies.reported, "week"), report.uploads);
     let samples = [
         ("reported", "n", reported, MARGIN),
-        ("shut", "shut", counted(tallies.shut, "week") + " shut", MARGIN + 440),
-        ("missing", "?", counted(tallies.missing, "week") + " missing", MARGIN + 680),
+        ("shut", "shut", counted(tallies.shut, "week") + " shut", MARGIN + 470),
+        ("missing", "?", counted(tallies.missing, "week") + " missing", MARGIN + 690),
     ];
     for (class, mark, words, x) in samples {
         writeln!(out, r#"<g class="{class}"><rect x="{x}" y="{}" width="{CELL_WIDTH}" height="26" rx="3"/>"#, top + 2)?;
@@ -130,7 +130,7 @@ fn quarter(row: &Row, top: usize, out: &mut dyn Write) -> io::Result<()> {
 fn draw(week: &DatedWeek, x: usize, y: usize, out: &mut dyn Write) -> io::Result<()> {
     let class = week.class();
     let (mark, told) = match week.week {
-        Week::Reported(uploads) => (uploads.to_string(), counted(uploads.get(), "upload")),
+        Week::Reported(uploads) => (short(uploads.get()), counted(uploads.get(), "upload")),
         Week::Shut => ("shut".to_string(), class.to_string()),
         Week::Missing => ("?".to_string(), class.to_string()),
     };
