@@ -141,7 +141,12 @@ fn svg() {
     for (class, number) in [("reported", 44), ("shut", 5), ("missing", 3)] {
         assert_eq!(picture.matches(&format!("<g class=\"{class}\">")).count(), number + 1, "{class}");
     }
-    for words in ["<title>2026-W11, Monday 2026-03-09: missing</title>", ">Floating closures are counted as UTC.<", ">5 weeks shut<"] {
+    for words in [
+        "<title>Weeks that were shut and weeks that went missing</title>",
+        "<title>2026-W11, Monday 2026-03-09: missing</title>",
+        ">Floating closures are counted as UTC.<",
+        ">5 weeks shut<",
+    ] {
         assert!(picture.contains(words), "{words}");
     }
 }

@@ -55,10 +55,11 @@ Output:
   --help           this text
   --version        the version
 
-A closure is seen if it begins before the range and reaches into it. One whose
-occurrence is moved by an override is seen if it is moved by up to ten years
-(3,653 days). Every occurrence shuts the weeks it touches, busy or free. Only
-times are shown, never a title; a secret closure shuts nothing.
+A closure that begins before the range and reaches into it is seen. So is an
+occurrence that an override moves into it by up to ten years (3,653 days); one
+that is moved further may not be. Every occurrence shuts the weeks it touches,
+busy or free. Only times are shown, never a title; a secret closure shuts
+nothing.
 
 Exit codes: 0 done; 1 some closure was refused or could not be read, and the
 output says that it is incomplete; 2 wrong options, log, range or time zone;

@@ -49,7 +49,7 @@ pub fn write(report: &Report, out: &mut dyn Write) -> io::Result<()> {
     let height = notes_top + report.notes.len() * NOTE + MARGIN;
     writeln!(out, r#"<?xml version="1.0" encoding="UTF-8"?>"#)?;
     start(&format!("0 0 {width} {height}"), &format!("{TITLE}: {}", report.span()), out)?;
-    writeln!(out, "{STYLE}\n<rect width=\"{width}\" height=\"{height}\" fill=\"#ffffff\"/>")?;
+    writeln!(out, "<title>{TITLE}</title>\n{STYLE}\n<rect width=\"{width}\" height=\"{height}\" fill=\"#ffffff\"/>")?;
     text(MARGIN, MARGIN + 20, "title", TITLE, out)?;
     text(MARGIN, MARGIN + 44, "line", &report.span(), out)?;
     legend(report, legend_top, out)?;
