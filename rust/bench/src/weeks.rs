@@ -7,7 +7,8 @@ use generator::sheets::{self, Row};
 use generator::Random;
 use std::hint::black_box;
 
-/// A log, a sheet of records with spans of one length, and a range of weeks. Uploads and records lie evenly in three quarters of the weeks each, so that all kinds of weeks come up.
+/// A log, a sheet of records with spans of one length, and a range of weeks. No uploads lie in every fourth week, and no starts of records in
+/// every eighth, so that all kinds of weeks come up.
 struct Workload {
     log: Vec<i64>,
     sheet: Vec<u8>,

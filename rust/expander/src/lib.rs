@@ -3,8 +3,8 @@
 //! It is written from the papers alone and shares no line with the proved library, so that a comparison of the two finds what one of them
 //! read otherwise. It favours the plain form over the fast one: a text becomes a tree, the tree an event, the event a sorted list of dates.
 //!
-//! [`expand`], [`title`], [`description`] and [`weeks`] mirror the exported functions of the library, and answer with its numbers. [`Event::read`],
-//! [`Event::ids`] and [`Event::occurrence`] are the steps of the first three, [`Sheet::read`] reads a sheet back for the last.
+//! [`expand`], [`title`], [`description`] and [`weeks`] mirror the exported functions of the library, and answer with its numbers.
+//! [`Event::read`], [`Event::ids`] and [`Event::occurrence`] are the steps of the first three, [`Sheet::read`] reads a sheet back for the last.
 //!
 //! ```
 //! let text = br#"{"@type": "Event", "uid": "1", "updated": "2024-01-01T00:00:00Z", "start": "2024-01-31T09:00:00", "duration": "PT1H",

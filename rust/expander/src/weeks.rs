@@ -118,6 +118,3 @@ fn touched_weeks(range: &WholeWeeks, sheet: &Sheet) -> Vec<bool> {
     };
     changes.into_iter().map(step).collect()
 }
-
-#[cfg(test)]
-mod tests;

@@ -2,8 +2,8 @@
 //! nothing of a secret one.
 //!
 //! The work is done by a library that is proved to meet its contract. This crate links its archive and gives it safe types: a [`Window`], a
-//! [`ZoneTable`], a [`Table`] of [`Record`]s, [`Text`]s that are parts of the caller's own, and a [`Status`] for each refusal. [`weeks`] holds a log
-//! of uploads beside such tables and says which weeks were reported, shut or missing.
+//! [`ZoneTable`], a [`Table`] of [`Record`]s, [`Text`]s that are parts of the caller's own, and a [`Status`] for each refusal. [`weeks`] holds
+//! a log of uploads beside such tables and says which weeks were reported, shut or missing.
 //!
 //! ```
 //! use smocurant::{expand_to_vec, title, Status, Window, ZoneTable};

@@ -151,8 +151,8 @@ pub fn description(text: &[u8], date: i64) -> (u32, u64, u64) {
 /// reported, shut and missing.
 pub fn weeks(log: &[i64], sheet: &[u8], range_start: i64, range_end: i64, places: &mut [i64]) -> (u32, [u64; 3]) {
     let [mut reported, mut shut, mut missing] = [0; 3];
-    // SAFETY: each pointer and length come from one slice, which lives through the call. The places and the three numbers are borrowed alone, so
-    // the function may write there. It keeps no pointer, and is proved to touch nothing outside of the slices.
+    // SAFETY: each pointer and length come from one slice, which lives through the call. The places and the three numbers are borrowed alone,
+    // so the function may write there. It keeps no pointer, and is proved to touch nothing outside of the slices.
     let answer = unsafe {
         exported::smocurant_weeks(
             log.as_ptr(),

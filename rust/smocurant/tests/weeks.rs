@@ -62,6 +62,39 @@ fn compare(seed: u64, replay: &Replay) {
     }
 }
 
+/// The replays that are worked by hand, in their own room and in the others.
+#[test]
+fn worked_by_hand() {
+    for worked in generator::examples::replays::all() {
+        let replay = Replay { log: worked.log, rows: Vec::new(), sheet: worked.sheet, range: worked.range };
+        let outcome = call(raw::weeks, &replay, worked.room, 0);
+        let places = worked.expected.clone().unwrap_or_default();
+        assert_eq!(outcome.answer, worked.expected.err().unwrap_or(0), "{replay:?}");
+        let kept = filled(worked.room, 0).split_off(GUARD + places.len());
+        let expected = [&filled(worked.room, 0)[..GUARD], &places, &kept].concat();
+        assert_eq!(outcome.elements, expected, "{replay:?}");
+        compare(0, &replay);
+    }
+}
+
+/// A long replay in a small stack: nothing of it may be held there.
+#[test]
+fn a_long_replay() {
+    let random = &mut Random::new(1);
+    let range = (instants::MONDAY, instants::MONDAY + 5_000 * instants::WEEK);
+    let mut starts: Vec<i64> = (0..300_000).map(|_| random.within(range.0 - instants::WEEK..=range.1)).collect();
+    starts.sort_unstable();
+    let rows: Vec<Row> =
+        (0..).zip(starts.iter().step_by(100)).map(|(id, start)| Row { id, start: *start, end: start + 86_400, marks: 1 }).collect();
+    let log = starts.into_iter().filter(|upload| upload / instants::WEEK % 3 == 0).collect();
+    let replay = Replay { log, sheet: sheets::written(&rows), rows, range };
+    let expected = call(expander::weeks, &replay, 5_001, 1);
+    assert!(expected.answer == 0 && expected.tallies.iter().all(|tally| *tally > 100), "{:?}", expected.tallies);
+    let small = std::thread::Builder::new().stack_size(1 << 20);
+    let own = small.spawn(move || call(raw::weeks, &replay, 5_001, 1)).unwrap().join().unwrap();
+    assert!(own == expected);
+}
+
 #[test]
 fn seeded_replays() {
     in_parallel(|seed| compare(seed, &Replay::new(seed)));

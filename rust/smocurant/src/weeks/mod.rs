@@ -30,7 +30,7 @@ pub enum Week {
 }
 
 impl Week {
-    /// The week that a place of the library's stands for.
+    /// The week that a place stands for after a call that is done: the number of uploads, or -1 for shut, or -2 for missing.
     pub fn of_place(place: i64) -> Option<Week> {
         match place {
             SHUT => Some(Week::Shut),
@@ -112,10 +112,11 @@ impl Weeks {
     }
 }
 
-/// The weeks of a log of upload instants, beside the sheets of closure calendars. A week is shut if any of the sheets shuts it. The instants are
-/// seconds from 1970-01-01T00:00:00Z and do not decrease.
+/// The weeks of a log of upload instants, beside the sheets of closure calendars. A week is shut if any of the sheets shuts it. The instants
+/// are seconds from 1970-01-01T00:00:00Z and do not decrease.
 ///
-/// The sheets are [`Table`](crate::Table)s or their bytes. With none of them, as `[[0; 0]; 0]`, no week is shut.
+/// The sheets are [`Table`](crate::Table)s or their bytes. With none of them, as `[[0; 0]; 0]`, no week is shut. They are judged one after the
+/// other; the first refusal is given.
 ///
 /// ```
 /// use smocurant::{expand_to_vec, time, weeks, Tallies, Week, WeekRange, WeeksError, Window, ZoneTable};
@@ -155,8 +156,8 @@ pub fn weeks<S: AsRef<[u8]>>(log: &[i64], sheets: impl IntoIterator<Item = S>, r
     Ok(weeks)
 }
 
-/// The weeks of a log beside one sheet, written into lent places as [`Weeks::places`] has them. Places after the last week keep their values. After
-/// a refusal all of them do.
+/// The weeks of a log beside one sheet, written into lent places as [`Weeks::places`] has them. Places after the last week keep their values.
+/// After a refusal all of them do.
 ///
 /// ```
 /// use smocurant::{weeks_into, Status, Tallies, WeekRange};
