@@ -4,7 +4,7 @@ use generator::dates::{self, DAY};
 use generator::examples::{by_day, event};
 
 /// A weekly list with some changes.
-pub const THEATRE: &str = include_str!("../../../examples/theatre-lists.json");
+pub const THEATRE: &str = include_str!("../../../examples/events/theatre-lists.json");
 
 /// The longest text that is read.
 const LONGEST: usize = 65_536;

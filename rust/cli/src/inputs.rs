@@ -24,6 +24,11 @@ impl Source {
         }
     }
 
+    /// Says what is wrong with it.
+    pub fn complain(&self, complaint: &str) {
+        eprintln!("smocurant: {}: {complaint}", self.name());
+    }
+
     /// The event's text.
     pub fn read(&self) -> io::Result<Vec<u8>> {
         let mut text = Vec::new();

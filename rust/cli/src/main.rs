@@ -1,18 +1,22 @@
-//! Lists every occurrence of JSCalendar events in a window: for a planner to read, or for programs to take on.
+//! What JSCalendar events say to a planner: every occurrence in a window, or the weeks of an upload log that were shut and that went missing.
 
+mod destination;
+mod events;
+mod failure;
 mod inputs;
+mod list;
 mod options;
-mod output;
 mod progress;
-mod run;
+mod weeks;
 
-use options::{Command, HELP};
+use failure::Failure;
+use options::Command;
 use std::io::Write;
 use std::process::ExitCode;
 
 /// Some event was refused or could not be read.
 const SOME_REFUSED: u8 = 1;
-/// The options are wrong, or a time zone is not there.
+/// The options or the log are wrong, or a time zone is not there.
 const WRONG_OPTIONS: u8 = 2;
 /// The output could not be written.
 const NOT_WRITTEN: u8 = 3;
@@ -20,17 +24,18 @@ const NOT_WRITTEN: u8 = 3;
 fn main() -> ExitCode {
     let words: Result<Vec<String>, _> = std::env::args_os().skip(1).map(|word| word.into_string()).collect();
     let Ok(words) = words else { return fail(WRONG_OPTIONS, "the options are no UTF-8") };
-    let options = match options::read(words.into_iter()) {
-        Ok(Command::Help) => return say(HELP),
+    let refused = match options::read(words) {
+        Ok(Command::Help(text)) => return say(text),
         Ok(Command::Version) => return say(concat!("smocurant ", env!("CARGO_PKG_VERSION"), "\n")),
-        Ok(Command::Run(options)) => options,
-        Err(reason) => return fail(WRONG_OPTIONS, &format!("{reason}\nsmocurant --help lists the options.")),
+        Ok(Command::List(options)) => list::run(&options),
+        Ok(Command::Weeks(options)) => weeks::run(&options),
+        Err(reason) => return fail(WRONG_OPTIONS, &reason),
     };
-    match run::run(&options) {
+    match refused {
         Ok(0) => ExitCode::SUCCESS,
         Ok(_) => ExitCode::from(SOME_REFUSED),
-        Err(run::Failure::Zone(reason)) => fail(WRONG_OPTIONS, &reason),
-        Err(run::Failure::Output(reason)) => fail(NOT_WRITTEN, &reason),
+        Err(Failure::Wrong(reason)) => fail(WRONG_OPTIONS, &reason),
+        Err(Failure::Output(reason)) => fail(NOT_WRITTEN, &reason),
     }
 }
 

@@ -1,83 +1,55 @@
 //! The program as its users run it, on the shipped examples.
 
-use std::io::Write;
-use std::path::{Path, PathBuf};
-use std::process::{Command, Output, Stdio};
+mod support;
+
+use support::{folder, run, with_input};
 
 /// The shipped zones, so that the tests ask for nothing of the system.
 const LONDON: [&str; 6] = ["--zones", "zones", "--zone", "Europe/London", "--year", "2026"];
 
-fn program(arguments: &[&str]) -> Command {
-    let mut command = Command::new(env!("CARGO_BIN_EXE_smocurant"));
-    command.args(arguments).current_dir(Path::new(env!("CARGO_MANIFEST_DIR")).join("../../examples"));
-    command
-}
-
-/// Exit code, output and errors.
-fn run(arguments: &[&str]) -> (i32, String, String) {
-    shown(program(arguments).output().unwrap())
-}
-
-fn shown(output: Output) -> (i32, String, String) {
-    let text = |bytes: Vec<u8>| String::from_utf8(bytes).unwrap();
-    (output.status.code().unwrap(), text(output.stdout), text(output.stderr))
-}
-
-fn with_input(input: &[u8], arguments: &[&str]) -> (i32, String, String) {
-    let mut child = program(arguments).stdin(Stdio::piped()).stdout(Stdio::piped()).stderr(Stdio::piped()).spawn().unwrap();
-    child.stdin.take().unwrap().write_all(input).unwrap();
-    shown(child.wait_with_output().unwrap())
-}
-
-/// A folder of one test's own.
-fn folder(name: &str) -> PathBuf {
-    let folder = Path::new(env!("CARGO_TARGET_TMPDIR")).join(name);
-    let _ = std::fs::remove_dir_all(&folder);
-    std::fs::create_dir_all(&folder).unwrap();
-    folder
-}
-
 #[test]
 fn the_examples() {
-    let (code, out, errors) = run(&[&LONDON[..], &["."]].concat());
+    let (code, out, errors) = run(&[&LONDON[..], &["events", "closures"]].concat());
     assert_eq!((code, errors.as_str()), (0, ""));
-    assert!(out.contains("./theatre-lists.json: 137 occurrences"), "{out}");
+    assert!(out.contains("events/theatre-lists.json: 137 occurrences"), "{out}");
     assert!(out.contains("2026-07-01T08:00:00  2026-07-01T07:00:00Z  2026-07-01T11:30:00Z  busy"), "{out}");
     assert!(out.contains("2026-05-25T08:00:00  2026-05-26T07:00:00Z"), "{out}");
-    assert!(out.contains("./secret-audit.json: no occurrences"));
-    for hidden in ["clinic", "audit:", "Unannounced"] {
+    assert!(out.contains("events/secret-audit.json: no occurrences"));
+    for hidden in ["clinic", "audit:", "Unannounced", "Inspection"] {
         assert!(!out.contains(hidden), "{hidden}");
     }
 }
 
 #[test]
 fn csv() {
-    let (code, out, _) = run(&["christmas-closure.json", "--floating", "--from=2025-12-01", "--to=2027-01-01", "--format=csv"]);
+    let (code, out, _) = run(&["closures/christmas-closure.json", "--floating", "--from=2025-12-01", "--to=2027-01-01", "--format=csv"]);
     assert_eq!(code, 0);
     assert_eq!(
         out,
         "file,id,start,end,busy,all_day,floating,title\n\
-         christmas-closure.json,2025-12-24T00:00:00,2025-12-24T00:00:00,2026-01-02T00:00:00,true,true,true,Blood bank closed over Christmas\n\
-         christmas-closure.json,2026-12-24T00:00:00,2026-12-24T00:00:00,2027-01-02T00:00:00,true,true,true,Blood bank closed over Christmas\n"
+         closures/christmas-closure.json,2025-12-24T00:00:00,2025-12-24T00:00:00,2026-01-02T00:00:00,true,true,true,Blood bank closed over Christmas\n\
+         closures/christmas-closure.json,2026-12-24T00:00:00,2026-12-24T00:00:00,2027-01-02T00:00:00,true,true,true,Blood bank closed over Christmas\n"
     );
 }
 
 #[test]
 fn json_lines() {
-    let (code, out, _) = run(&[&LONDON[..], &["private-appointment.json", "--format", "jsonl"]].concat());
+    let (code, out, _) = run(&[&LONDON[..], &["events/private-appointment.json", "--format", "jsonl"]].concat());
     assert_eq!((code, out.lines().count()), (0, 6));
     assert_eq!(
         out.lines().next().unwrap(),
-        r#"{"file":"private-appointment.json","id":"2026-03-03T14:00:00","start":"2026-03-03T14:00:00Z","end":"2026-03-03T16:00:00Z","busy":true,"allDay":false,"floating":false,"title":""}"#
+        r#"{"file":"events/private-appointment.json","id":"2026-03-03T14:00:00","start":"2026-03-03T14:00:00Z","end":"2026-03-03T16:00:00Z","busy":true,"allDay":false,"floating":false,"title":""}"#
     );
 }
 
 #[test]
 fn raw_bytes_into_a_file() {
     let file = folder("raw").join("table");
-    let (code, out, _) =
-        run(&[&LONDON[..], &["private-appointment.json", "secret-audit.json", "--format", "raw", "--output", file.to_str().unwrap()]]
-            .concat());
+    let (code, out, _) = run(&[
+        &LONDON[..],
+        &["events/private-appointment.json", "events/secret-audit.json", "--format", "raw", "--output", file.to_str().unwrap()],
+    ]
+    .concat());
     assert_eq!((code, out.as_str()), (0, ""));
     let bytes = std::fs::read(file).unwrap();
     assert_eq!(bytes.len(), 6 * 28 + 12 + 12);
@@ -86,7 +58,7 @@ fn raw_bytes_into_a_file() {
 
 #[test]
 fn several_zones() {
-    let (code, out, errors) = run(&[&["--zone", "Asia/Tokyo", "--floating", "--quiet"], &LONDON[..], &["."]].concat());
+    let (code, out, errors) = run(&[&["--zone", "Asia/Tokyo", "--floating", "--quiet"], &LONDON[..], &["events", "closures"]].concat());
     assert_eq!((code, errors.as_str()), (0, ""));
     assert!(out.contains("137 occurrences"));
 }
@@ -118,10 +90,10 @@ fn refused_events() {
         errors.contains("a.json: refused with 5: ") && errors.contains("b.json: refused with 1: ") && !errors.contains("c.txt"),
         "{errors}"
     );
-    let (code, _, errors) = run(&["--floating", "--year", "2026", "theatre-lists.json", "christmas-closure.json"]);
+    let (code, _, errors) = run(&["--floating", "--year", "2026", "events/theatre-lists.json", "closures/christmas-closure.json"]);
     assert_eq!(code, 1);
-    assert!(errors.contains("theatre-lists.json: refused with 12: "), "{errors}");
-    let (code, out, errors) = run(&["--floating", "--year", "2026", "nowhere.json", "christmas-closure.json"]);
+    assert!(errors.contains("events/theatre-lists.json: refused with 12: "), "{errors}");
+    let (code, out, errors) = run(&["--floating", "--year", "2026", "nowhere.json", "closures/christmas-closure.json"]);
     assert_eq!(code, 1);
     assert!(errors.contains("nowhere.json: cannot be read: ") && out.contains("1 occurrence\n"), "{errors}");
 }
@@ -175,7 +147,7 @@ fn wrong_options() {
 
 #[test]
 fn output_that_cannot_be_written() {
-    let (code, _, errors) = run(&["christmas-closure.json", "--floating", "--year", "2026", "--output", "/nowhere/at/all"]);
+    let (code, _, errors) = run(&["closures/christmas-closure.json", "--floating", "--year", "2026", "--output", "/nowhere/at/all"]);
     assert_eq!(code, 3);
     assert!(errors.contains("/nowhere/at/all cannot be written"), "{errors}");
 }

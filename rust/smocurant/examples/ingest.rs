@@ -1,6 +1,6 @@
 //! How an ingest service calls the library: one buffer for all events, and a refusal is a number to be stored, not a failure.
 //!
-//!     cargo run -p smocurant --example ingest -- Europe/London 2026 ../examples/*.json
+//!     cargo run -p smocurant --example ingest -- Europe/London 2026 ../examples/events/*.json
 
 use smocurant::{expand, time, title, tzif, Status, Window, ZoneTable};
 

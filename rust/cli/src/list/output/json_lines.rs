@@ -5,7 +5,7 @@ use std::fmt::Write as _;
 use std::io::{self, Write};
 
 /// One occurrence. The title is the event's own JSON, escapes kept.
-pub fn line(line: &Line, out: &mut impl Write) -> io::Result<()> {
+pub fn line(line: &Line, out: &mut dyn Write) -> io::Result<()> {
     let record = &line.record;
     let id = smocurant::time::written(record.id);
     let (start, end) = (line.time(record.start), line.time(record.end));

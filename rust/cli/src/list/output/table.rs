@@ -4,7 +4,7 @@ use super::Line;
 use std::io::{self, Write};
 
 /// The event's name, and the heads of the columns.
-pub fn event(name: &str, occurrences: usize, out: &mut impl Write) -> io::Result<()> {
+pub fn event(name: &str, occurrences: usize, out: &mut dyn Write) -> io::Result<()> {
     match occurrences {
         0 => return writeln!(out, "{}: no occurrences", printable(name)),
         1 => writeln!(out, "{}: 1 occurrence", printable(name))?,
@@ -15,7 +15,7 @@ pub fn event(name: &str, occurrences: usize, out: &mut impl Write) -> io::Result
 }
 
 /// One occurrence.
-pub fn line(line: &Line, out: &mut impl Write) -> io::Result<()> {
+pub fn line(line: &Line, out: &mut dyn Write) -> io::Result<()> {
     let record = &line.record;
     let id = smocurant::time::written(record.id);
     let (start, end) = (line.time(record.start), line.time(record.end));

@@ -1,13 +1,19 @@
-//! The options of the command line.
+//! The options of the command that lists occurrences.
 
-use smocurant::{time, Window};
-use std::path::PathBuf;
+use super::common::{date, year, Common};
+use super::words::{Names, Word, Words};
+use super::Command;
+use smocurant::Window;
 
 /// What `--help` prints.
-pub const HELP: &str = "\
+const HELP: &str = "\
 Lists every occurrence of JSCalendar events (RFC 8984) in a window.
 
 Usage: smocurant [OPTIONS] EVENT...
+       smocurant weeks [OPTIONS] --log FILE CLOSURE...
+
+The second sorts the weeks of an upload log into reported, shut and missing
+ones; smocurant weeks --help has its options.
 
   EVENT            a file with one event, a folder of such files (*.json),
                    or - for standard input
@@ -21,7 +27,7 @@ Time zone:
 
 Window, in local time:
   --from DATE      its first date, as 2026-01-01 or 2026-01-01T08:00:00
-  --to DATE        the first date behind it
+  --to DATE        the first date after it
   --year YEAR      a whole year
   --always         all years from 1601 to 9998
 
@@ -44,26 +50,16 @@ Exit codes: 0 done; 1 some event was refused or could not be read; 2 wrong
 options or time zone; 3 the output could not be written.
 ";
 
-/// What to do.
-pub enum Command {
-    /// Show the help.
-    Help,
-    /// Show the version.
-    Version,
-    /// List occurrences.
-    Run(Options),
-}
+const NAMES: Names = Names {
+    flags: &["--floating", "--always", "--quiet"],
+    valued: &["--zone", "--zones", "--from", "--to", "--year", "--format", "--output"],
+};
 
 /// What to list, and how.
 pub struct Options {
-    pub events: Vec<String>,
-    pub zones: Vec<String>,
-    pub floating: bool,
-    pub zone_folder: Option<PathBuf>,
+    pub common: Common,
     pub window: Window,
     pub format: Format,
-    pub output: Option<PathBuf>,
-    pub quiet: bool,
 }
 
 /// How occurrences are written.
@@ -78,68 +74,40 @@ pub enum Format {
 /// The options as they are given.
 #[derive(Default)]
 struct Given {
-    events: Vec<String>,
-    zones: Vec<String>,
-    floating: bool,
-    zone_folder: Option<PathBuf>,
+    common: Common,
     from: Option<i64>,
     to: Option<i64>,
     year: Option<i64>,
     always: bool,
     format: Option<Format>,
-    output: Option<PathBuf>,
-    quiet: bool,
 }
 
-/// Reads the words of the command line.
+/// Reads the words after the program's name.
 pub fn read(words: impl Iterator<Item = String>) -> Result<Command, String> {
     let mut given = Given::default();
-    let mut words = words;
-    let mut only_events = false;
-    while let Some(word) = words.next() {
-        if only_events || word == "-" || !word.starts_with('-') {
-            given.events.push(word);
-            continue;
-        }
-        let (name, value) = match word.split_once('=') {
-            Some((name, value)) => (name.to_string(), Some(value.to_string())),
-            None => (word, None),
-        };
-        match name.as_str() {
-            "--" => only_events = true,
-            "--help" | "-h" => return Ok(Command::Help),
-            "--version" | "-V" => return Ok(Command::Version),
-            "--floating" | "--always" | "--quiet" if value.is_some() => return Err(format!("{name} takes no value")),
-            "--floating" => given.floating = true,
-            "--always" => given.always = true,
-            "--quiet" => given.quiet = true,
-            _ => take_value(&mut given, &name, value, &mut words)?,
+    for word in Words::new(words, NAMES) {
+        match word? {
+            Word::Plain(event) => given.common.events.push(event),
+            Word::Help => return Ok(Command::Help(HELP)),
+            Word::Version => return Ok(Command::Version),
+            Word::Flag(name) if given.common.flag(&name) => {}
+            Word::Flag(_) => given.always = true,
+            Word::Valued(name, value) => take(&mut given, &name, value)?,
         }
     }
-    finish(given).map(Command::Run)
+    finish(given).map(Command::List)
 }
 
-/// Takes an option that has a value, which is the next word unless it stands behind `=`.
-fn take_value(given: &mut Given, name: &str, value: Option<String>, words: &mut impl Iterator<Item = String>) -> Result<(), String> {
-    const NAMES: [&str; 7] = ["--zone", "--zones", "--from", "--to", "--year", "--format", "--output"];
-    if !NAMES.contains(&name) {
-        return Err(format!("there is no option {name}"));
-    }
-    let value = value.or_else(|| words.next()).ok_or_else(|| format!("{name} needs a value"))?;
+/// Takes an option with its value.
+fn take(given: &mut Given, name: &str, value: String) -> Result<(), String> {
+    let Some(value) = given.common.value(name, value) else { return Ok(()) };
     match name {
-        "--zone" => given.zones.push(value),
-        "--zones" => given.zone_folder = Some(value.into()),
         "--from" => given.from = Some(date(&value)?),
         "--to" => given.to = Some(date(&value)?),
-        "--year" => given.year = Some(value.parse().map_err(|_| format!("\"{value}\" is no year"))?),
-        "--format" => given.format = Some(format(&value)?),
-        _ => given.output = Some(value.into()),
+        "--year" => given.year = Some(year(&value)?),
+        _ => given.format = Some(format(&value)?),
     }
     Ok(())
-}
-
-fn date(value: &str) -> Result<i64, String> {
-    time::read(value).ok_or_else(|| format!("\"{value}\" is no date such as 2026-01-01 or 2026-01-01T08:00:00"))
 }
 
 fn format(value: &str) -> Result<Format, String> {
@@ -153,22 +121,13 @@ fn format(value: &str) -> Result<Format, String> {
 }
 
 fn finish(given: Given) -> Result<Options, String> {
-    if given.events.is_empty() {
+    if given.common.events.is_empty() {
         return Err("name an event's file, or a folder of events".to_string());
     }
-    if given.zones.is_empty() && !given.floating {
+    if given.common.zones.is_empty() && !given.common.floating {
         return Err("give the events' time zone by --zone NAME, or say --floating".to_string());
     }
-    Ok(Options {
-        window: window(&given)?,
-        events: given.events,
-        zones: given.zones,
-        floating: given.floating,
-        zone_folder: given.zone_folder,
-        format: given.format.unwrap_or(Format::Table),
-        output: given.output,
-        quiet: given.quiet,
-    })
+    Ok(Options { window: window(&given)?, common: given.common, format: given.format.unwrap_or(Format::Table) })
 }
 
 /// The window, said in one of three ways.

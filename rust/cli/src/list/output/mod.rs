@@ -4,7 +4,7 @@ mod csv;
 mod json_lines;
 mod table;
 
-use crate::options::Format;
+use crate::options::list::Format;
 use smocurant::{time, Record, Table, Text};
 use std::io::{self, Write};
 
@@ -31,7 +31,7 @@ impl Line<'_> {
 }
 
 /// What stands before all events.
-pub fn start(format: Format, out: &mut impl Write) -> io::Result<()> {
+pub fn start(format: Format, out: &mut dyn Write) -> io::Result<()> {
     match format {
         Format::Csv => csv::start(out),
         _ => Ok(()),
@@ -39,7 +39,7 @@ pub fn start(format: Format, out: &mut impl Write) -> io::Result<()> {
 }
 
 /// What stands before an event's occurrences; the whole of it in raw form.
-pub fn event(format: Format, name: &str, table: &Table, out: &mut impl Write) -> io::Result<()> {
+pub fn event(format: Format, name: &str, table: &Table, out: &mut dyn Write) -> io::Result<()> {
     match format {
         Format::Table => table::event(name, table.len(), out),
         Format::Raw => out.write_all(table.as_bytes()),
@@ -48,7 +48,7 @@ pub fn event(format: Format, name: &str, table: &Table, out: &mut impl Write) ->
 }
 
 /// An occurrence.
-pub fn line(format: Format, line: &Line, out: &mut impl Write) -> io::Result<()> {
+pub fn line(format: Format, line: &Line, out: &mut dyn Write) -> io::Result<()> {
     match format {
         Format::Table => table::line(line, out),
         Format::Csv => csv::line(line, out),

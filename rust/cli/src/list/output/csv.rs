@@ -4,12 +4,12 @@ use super::Line;
 use std::io::{self, Write};
 
 /// The names of the columns.
-pub fn start(out: &mut impl Write) -> io::Result<()> {
+pub fn start(out: &mut dyn Write) -> io::Result<()> {
     writeln!(out, "file,id,start,end,busy,all_day,floating,title")
 }
 
 /// One occurrence.
-pub fn line(line: &Line, out: &mut impl Write) -> io::Result<()> {
+pub fn line(line: &Line, out: &mut dyn Write) -> io::Result<()> {
     let record = &line.record;
     let id = smocurant::time::written(record.id);
     let (start, end) = (line.time(record.start), line.time(record.end));

@@ -1,0 +1,30 @@
+//! The options of the command line.
+
+mod common;
+pub mod list;
+pub mod weeks;
+mod words;
+
+pub use common::Common;
+
+/// What to do.
+pub enum Command {
+    /// Show a help text.
+    Help(&'static str),
+    /// Show the version.
+    Version,
+    /// List occurrences.
+    List(list::Options),
+    /// Sort the weeks of a log.
+    Weeks(weeks::Options),
+}
+
+/// Reads the words of the command line. The first of them may name a command; without one, occurrences are listed.
+pub fn read(words: Vec<String>) -> Result<Command, String> {
+    match words.split_first() {
+        Some((first, rest)) if first == "weeks" => {
+            weeks::read(rest.iter().cloned()).map_err(|reason| format!("{reason}\nsmocurant weeks --help lists the options."))
+        }
+        _ => list::read(words.into_iter()).map_err(|reason| format!("{reason}\nsmocurant --help lists the options.")),
+    }
+}
