@@ -1,3 +1,7 @@
-pub mod LoopLaws
+pub mod SpanLaws
+pub mod UploadLoops
+pub mod OrderLaws
+pub mod ClearLaws
+pub mod TallyLaws
 pub mod RangeLaws
 pub mod CallLaws

@@ -1,3 +1,4 @@
+-- `replay::instants::up` meets its contract: 2^63 less the negative part and more the positive one.
 use native.Mathlib.Omega.{arith}
 use Prim.Native.Nat.{_-_}
 use Rattle.signed.specs.Parts.{posPart, negPart}

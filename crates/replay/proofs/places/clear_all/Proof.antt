@@ -1,3 +1,4 @@
+-- `replay::places::clear_all` meets its contract: the places passed are 0, and those to come will be.
 use mathlib.Core.Path.{ap}
 use Prim.Native.Nat.{_+_, _-_, _≤_}
 use mathlib.Core.List.{_++_}
@@ -5,7 +6,7 @@ use mathlib.Core.Path.{_≡_, refl, sym, _∙_}
 use native.Mathlib.Omega.{arith}
 use lib.ListN.{length, take, length-set}
 use Rattle.sheet.specs.Runs.{tabulate}
-use Rattle.replay.proofs.LoopLaws.{zeros, clear-turn, clear-done}
+use Rattle.replay.proofs.ClearLaws.{zeros, clear-turn, clear-done}
 use borrow.Author.Needs.{needs}
 use Rattle.replay.proofs.places.clear_all.Statement.{statement}
 use Rattle.replay.proofs.places.clear_all.Tie as tie

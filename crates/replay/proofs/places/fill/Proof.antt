@@ -1,8 +1,9 @@
+-- `replay::places::fill` meets its contract: zeros, then the spans, the sweep and the uploads.
 use mathlib.Core.Path.{subst, sym}
 use Rattle.weeks.specs.Inner.Places.{Below}
 use Rattle.weeks.specs.Inner.Marks.{sweep}
 use Rattle.replay.specs.Inner.Sorted.{filled}
-use Rattle.replay.proofs.LoopLaws.{sweep-below}
+use Rattle.replay.proofs.SpanLaws.{sweep-below}
 use borrow.Author.Needs.{needs}
 use Rattle.replay.proofs.places.fill.Statement.{statement}
 use Rattle.replay.proofs.places.fill.Tie as tie

@@ -1,3 +1,4 @@
+-- `replay::refusals::in_order` meets its contract: the log is in order from here on exactly if all of it is.
 use mir.Facts.{toZ-ofZ}
 use Prim.Native.Nat.{_+_}
 use mathlib.Core.Path.{_≡_, refl, sym, _∙_}
@@ -9,7 +10,7 @@ use mir.Syntax.{w64}
 use mir.Val.{SFits}
 use borrow.Author.Tests.{not-true, not-false}
 use Rattle.weeks.specs.Replay.{ordered}
-use Rattle.replay.proofs.LoopLaws.{order-turn, order-fails, order-done}
+use Rattle.replay.proofs.OrderLaws.{order-turn, order-fails, order-done}
 use borrow.Author.Needs.{needs}
 use Rattle.replay.proofs.refusals.in_order.Statement.{statement}
 use Rattle.replay.proofs.refusals.in_order.Tie as tie

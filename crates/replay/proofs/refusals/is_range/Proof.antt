@@ -1,3 +1,4 @@
+-- `replay::refusals::is_range` meets its contract: both ends are Mondays, and the second is not before the first.
 use borrow.Author.Tests.{not-true, not-false}
 use Rattle.signed.proofs.Parts.{passed}
 use Rattle.weeks.specs.Inner.Marks.{up}

@@ -1,3 +1,4 @@
+-- `replay::refusals::refusal` meets its contract: four questions, in the order of their numbers.
 use Rattle.weeks.specs.Replay.{isRange}
 use mathlib.Core.Path.{_≡_}
 use borrow.Author.Tests.{not-true, not-false, eq-eqb, ne-eqb, le-leb, lt-leb}

@@ -1,3 +1,4 @@
+-- `replay::refusals::weeks_in` meets its contract: the seconds between the ends, divided by those of a week.
 use mathlib.Core.Path.{sym}
 use native.Mathlib.Omega.{arith}
 use Rattle.signed.proofs.Parts.{passed}

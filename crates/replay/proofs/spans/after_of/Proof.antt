@@ -1,3 +1,4 @@
+-- `replay::spans::after_of` meets its contract: the week after the last second of a span, or after an instant.
 use native.Mathlib.Omega.{arith}
 use Prim.Native.Nat.{_-_}
 use borrow.Author.Tests.{le-ltb, lt-ltb}

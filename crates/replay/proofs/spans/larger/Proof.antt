@@ -1,3 +1,4 @@
+-- `replay::spans::larger` meets its contract: the one that is not less.
 use Prim.Native.Nat.{_-_}
 use borrow.Author.Tests.{le-ltb, lt-ltb}
 use Rattle.weeks.specs.Inner.Marks.{larger}

@@ -1,3 +1,4 @@
+-- `replay::spans::mark` meets its contract: the span is that of the record's two instants.
 use Prim.Native.Nat.{_-_}
 use Rattle.signed.proofs.Parts.{back}
 use Rattle.weeks.specs.Inner.Marks.{up, spanOf, spanAt, raise}

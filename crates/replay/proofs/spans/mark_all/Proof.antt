@@ -1,3 +1,4 @@
+-- `replay::spans::mark_all` meets its contract: the spans from here on are still to be marked.
 use borrow.Author.Needs.{needs}
 use native.Mathlib.Omega.{arith}
 use Prim.Native.Nat.{_+_, _*_, _-_, _≤_}
@@ -7,7 +8,7 @@ use lib.IntN.{ℤ}
 use lib.ListN.{length}
 use Rattle.sheet.specs.Runs.{tabulate}
 use Rattle.weeks.specs.Inner.Marks.{spanAt, raiseAll}
-use Rattle.replay.proofs.LoopLaws.{raise-more, raise-none}
+use Rattle.replay.proofs.SpanLaws.{raise-more, raise-none}
 use Rattle.replay.proofs.spans.mark_all.Statement.{statement}
 use Rattle.replay.proofs.spans.mark_all.Tie as tie
 

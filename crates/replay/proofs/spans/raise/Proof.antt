@@ -1,3 +1,4 @@
+-- `replay::spans::raise` meets its contract: the place of the first week holds the farthest end, which fits.
 use native.Mathlib.Omega.{arith}
 use Prim.Native.Nat.{_-_, _<_, _^_}
 use mathlib.Core.Path.{_≡_, sym}

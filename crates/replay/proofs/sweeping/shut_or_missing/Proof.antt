@@ -1,3 +1,4 @@
+-- `replay::sweeping::shut_or_missing` meets its contract: shut where the spans reach past the week.
 use Prim.Native.Nat.{_-_}
 use borrow.Author.Tests.{le-ltb, lt-ltb}
 use Rattle.replay.proofs.sweeping.shut_or_missing.Statement.{statement}

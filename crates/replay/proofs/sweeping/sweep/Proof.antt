@@ -1,3 +1,4 @@
+-- `replay::sweeping::sweep` meets its contract: the places before here are done, and r is how far the spans reach.
 use borrow.Author.Needs.{needs}
 use native.Mathlib.Omega.{arith}
 use Prim.Native.Nat.{_+_, _-_, _≤_}
@@ -10,7 +11,7 @@ use mir.Val.{SFits}
 use Rattle.signed.specs.Parts.{posPart}
 use Rattle.signed.proofs.Parts.{back, passed}
 use Rattle.weeks.specs.Inner.Marks.{larger, sweep}
-use Rattle.replay.proofs.LoopLaws.{sweep-turn, sweep-done}
+use Rattle.replay.proofs.SpanLaws.{sweep-turn, sweep-done}
 use Rattle.replay.proofs.sweeping.sweep.Statement.{statement}
 use Rattle.replay.proofs.sweeping.sweep.Tie as tie
 

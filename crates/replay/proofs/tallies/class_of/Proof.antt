@@ -1,4 +1,5 @@
-use Rattle.replay.proofs.LoopLaws.{class-missing, class-shut, class-reported}
+-- `replay::tallies::class_of` meets its contract: missing below -1, shut at -1, else reported.
+use Rattle.replay.proofs.TallyLaws.{class-missing, class-shut, class-reported}
 use Rattle.replay.proofs.tallies.class_of.Statement.{statement}
 use Rattle.replay.proofs.tallies.class_of.Tie as tie
 

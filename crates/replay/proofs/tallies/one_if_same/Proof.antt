@@ -1,3 +1,4 @@
+-- `replay::tallies::one_if_same` meets its contract: by cases.
 use borrow.Author.Tests.{eq-eqb, ne-eqb}
 use Rattle.replay.proofs.tallies.one_if_same.Statement.{statement}
 use Rattle.replay.proofs.tallies.one_if_same.Tie as tie

@@ -1,3 +1,4 @@
+-- `replay::tallies::tally` meets its contract: what is counted, and what is to come, is the whole.
 use Prim.Native.Nat.{ℕ, _+_, _-_, _≤_}
 use lib.Dec.{eqb}
 use mathlib.Core.Path.{_≡_, ap, _∙_}
@@ -10,7 +11,7 @@ use Rattle.signed.proofs.Parts.{passed}
 use Rattle.signed.specs.Choose.{if_then_else_}
 use Rattle.weeks.specs.Weeks.{count}
 use Rattle.weeks.specs.Inner.Places.{classOf, inClass}
-use Rattle.replay.proofs.LoopLaws.{one-most, count-turn, count-done}
+use Rattle.replay.proofs.TallyLaws.{one-most, count-turn, count-done}
 use borrow.Author.Needs.{needs}
 use Rattle.replay.proofs.tallies.tally.Statement.{statement}
 use Rattle.replay.proofs.tallies.tally.Tie as tie

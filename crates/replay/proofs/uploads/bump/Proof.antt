@@ -1,5 +1,6 @@
+-- `replay::uploads::bump` meets its contract: a place that holds no uploads holds one, another one more.
 use Prim.Native.Nat.{_-_}
-use Rattle.replay.proofs.LoopLaws.{bump-none, bump-fits, bump-more}
+use Rattle.replay.proofs.UploadLoops.{bump-none, bump-fits, bump-more}
 use Rattle.replay.proofs.uploads.bump.Statement.{statement}
 use Rattle.replay.proofs.uploads.bump.Tie as tie
 

@@ -1,3 +1,4 @@
+-- `replay::uploads::upload` meets its contract: before the range and after it nothing changes.
 use native.Mathlib.Omega.{arith}
 use Prim.Native.Nat.{_-_}
 use mathlib.Core.Path.{_≡_, _∙_}
@@ -9,7 +10,7 @@ use mir.Facts.{toZ-ofZ}
 use Rattle.signed.proofs.Parts.{back, passed}
 use Rattle.weeks.specs.Inner.Marks.{up}
 use Rattle.weeks.specs.Inner.Places.{bump}
-use Rattle.replay.proofs.LoopLaws.{upload-before, upload-in, upload-past}
+use Rattle.replay.proofs.UploadLoops.{upload-before, upload-in, upload-past}
 use borrow.Author.Needs.{needs}
 use Rattle.replay.proofs.uploads.upload.Statement.{statement}
 use Rattle.replay.proofs.uploads.upload.Tie as tie

@@ -1,3 +1,4 @@
+-- `replay::uploads::upload_all` meets its contract: the uploads from here on are still to be counted, and no place holds more than those before.
 use borrow.Author.Needs.{needs}
 use native.Mathlib.Omega.{arith}
 use Prim.Native.Nat.{_+_, _-_, _≤_}
@@ -9,7 +10,7 @@ use mir.Syntax.{w64}
 use mir.Val.{SFits}
 use Rattle.signed.proofs.Parts.{passed}
 use Rattle.weeks.specs.Inner.Places.{upload, uploadAll, Below}
-use Rattle.replay.proofs.LoopLaws.{uploads-turn, uploads-done, upload-below}
+use Rattle.replay.proofs.UploadLoops.{uploads-turn, uploads-done, upload-below}
 use Rattle.replay.proofs.uploads.upload_all.Statement.{statement}
 use Rattle.replay.proofs.uploads.upload_all.Tie as tie
 
