@@ -16,6 +16,7 @@ use Rattle.demands.proofs.DemandTwo.{table-listed}
 use Rattle.demands.proofs.OwnBytes.{OwnIn, title-own, description-own}
 use Rattle.demands.proofs.DemandTwoTexts.{text-told, part-told}
 use Rattle.weeks.proofs.FloorWeeks.{in-week-floor}
+use Rattle.weeks.proofs.Touching.{touches-shares}
 use Rattle.demands.specs.Weeks.{SameReplays}
 use Rattle.demands.proofs.Written.{count-is, written-accepted}
 use Rattle.demands.proofs.Weeks.{weeks-answered, weeks-sorted, same-replays, shuts-nothing}
@@ -68,6 +69,7 @@ weeks-promises =
       answered = weeks-answered;
       sorted = weeks-sorted;
       floor = in-week-floor;
+      touching = touches-shares;
       written = written-accepted;
       private =
           λ s t h k agree zones from to buffer answer answer′ size size′ after after′ g g′.

@@ -14,8 +14,11 @@ use mathlib.Core.Option.{Option}
 use mathlib.Core.Path.{_≡_}
 use lib.IntN.{ℤ, pos, _+ℤ_}
 use lib.ListN.{take}
+use lib.Signed.{ltZ}
+use Rattle.sheet.specs.Records.{Row}
 use Rattle.sheet.specs.Reading.{rowsOf, faultOf}
-use Rattle.weeks.specs.Weeks.{isMonday, inWeek}
+use Rattle.weeks.specs.Weeks.{isMonday, inWeek, touches}
+use Rattle.weeks.specs.Touching.{Shares}
 use Rattle.weeks.specs.Calendar.{weekOf}
 use Rattle.weeks.specs.Replay.{replayOf, Replays}
 use Rattle.words.specs.declared.Privacy.the-variants.{Public, Private, Secret}
@@ -97,6 +100,8 @@ pub record WeeksPromises : Type 0 where
       → WeeksSorted log (rowsOf sheet) from to before reported shut missing after
   -- A week of a range is the one that floor division gives, before 1970 too.
   pub floor : (from t : ℤ) (i : ℕ) → isMonday from ≡ true → (inWeek from i t ≡ true) ↔ (weekOf t ≡ weekOf from +ℤ pos i)
+  -- "A span takes in its start and not its end": one that has seconds touches the weeks that have an instant of it.
+  pub touching : (from : ℤ) (i : ℕ) (r : Row) → ltZ (r .start) (r .end) ≡ true → (touches from i r ≡ true) ↔ Shares from i r
   -- Every sheet that the library writes is accepted: 32 is not given for it.
   pub written : (zones : ZoneTable) (s : List ℕ) (from to : ℤ) (buffer : List ℕ) (answer size : ℕ) (after : List ℕ)
       → Gives (expandText zones s from to buffer) answer size after → answer ≡ 0 → faultOf (take size after) ≡ 0

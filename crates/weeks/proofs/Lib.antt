@@ -7,3 +7,4 @@ pub mod Allowed
 pub mod Theorems
 pub mod FloorWeeks
 pub mod Worked
+pub mod Touching
