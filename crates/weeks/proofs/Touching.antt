@@ -1,33 +1,24 @@
 -- A span that has seconds touches the weeks with which it shares an instant.
-use Prim.Native.Nat.{ℕ, suc, _+_, _*_, _<_, _≤_}
-use mathlib.Core.Bool.{Bool, true, false, _&&_}
+use Prim.Native.Nat.{ℕ, suc, _+_, _*_}
+use mathlib.Core.Bool.{true, _&&_}
 use mathlib.Core.Logic.{_↔_}
-use mathlib.Core.Path.{_≡_, refl, sym, _∙_}
+use mathlib.Core.Path.{_≡_, sym, _∙_}
 use native.Mathlib.Omega.{arith}
 use lib.IntN.{ℤ, pos, _+ℤ_}
 use lib.Signed.{ltZ, leZ}
-use Rattle.signed.specs.Choose.{if_then_else_}
 use Rattle.signed.specs.Parts.{posPart, negPart}
-use Rattle.signed.proofs.Parts.{lt-parts, not-lt-parts, le-parts, not-le-parts, sum-parts}
+use Rattle.signed.proofs.Parts.{lt-parts, le-parts, not-le-parts, parts-lt, parts-le, sum-parts}
 use Rattle.rule.proofs.Bools.{by, both, left, right}
 use Rattle.sheet.specs.Records.{Row}
 use Rattle.weeks.specs.Weeks.{weekStart, inWeek, touches}
 use Rattle.weeks.specs.Touching.{Shares}
-
--- ---- the order, by the parts and back
-
-lower : (a b : ℤ) → posPart a + negPart b < posPart b + negPart a → ltZ a b ≡ true
-lower a b h = by (ltZ a b) (λ e. e) (λ e. absurd (omega (arith, not-lt-parts a b e)))
-
-not-above : (a b : ℤ) → posPart a + negPart b ≤ posPart b + negPart a → leZ a b ≡ true
-not-above a b h = by (leZ a b) (λ e. e) (λ e. absurd (omega (arith, not-le-parts a b e)))
 
 next-later : (from : ℤ) (i : ℕ) → ltZ (weekStart from i) (weekStart from (suc i)) ≡ true
 unfolding weekStart
 next-later from i =
     let a : posPart (from +ℤ pos (604800 * i)) + negPart from + 0 ≡ negPart (from +ℤ pos (604800 * i)) + posPart from + 604800 * i = sum-parts from (pos (604800 * i)) in
     let b : posPart (from +ℤ pos (604800 * suc i)) + negPart from + 0 ≡ negPart (from +ℤ pos (604800 * suc i)) + posPart from + 604800 * suc i = sum-parts from (pos (604800 * suc i)) in
-    lower (from +ℤ pos (604800 * i)) (from +ℤ pos (604800 * suc i)) (omega arith)
+    parts-lt (from +ℤ pos (604800 * i)) (from +ℤ pos (604800 * suc i)) (omega arith)
 
 -- ---- the law
 
@@ -51,12 +42,12 @@ module _ (from : ℤ) (i : ℕ) (r : Row) (long : ltZ (r .start) (r .end) ≡ tr
       let far = right (ltZ (r .start) next) _ t in
       by (leZ monday (r .start))
       (λ h.
-      record { instant = r .start; inIt = both (leZ monday (r .start)) _ h soon; notBefore = not-above (r .start) (r .start) (omega arith); before = long })
+      record { instant = r .start; inIt = both (leZ monday (r .start)) _ h soon; notBefore = parts-le (r .start) (r .start) (omega arith); before = long })
       (λ h.
       record {
         instant = monday;
-        inIt = both (leZ monday monday) _ (not-above monday monday (omega arith)) (next-later from i);
-        notBefore = not-above (r .start) monday (omega (arith, not-le-parts monday (r .start) h));
+        inIt = both (leZ monday monday) _ (parts-le monday monday (omega arith)) (next-later from i);
+        notBefore = parts-le (r .start) monday (omega (arith, not-le-parts monday (r .start) h));
         before = far;
       })
 
@@ -67,8 +58,8 @@ module _ (from : ℤ) (i : ℕ) (r : Row) (long : ltZ (r .start) (r .end) ≡ tr
       let b = right (leZ monday (s .instant)) _ (s .inIt) in
       is
       ∙ both (ltZ (r .start) next) _
-      (lower (r .start) next (omega (arith, le-parts (r .start) (s .instant) (s .notBefore), lt-parts (s .instant) next b)))
-      (lower monday (r .end) (omega (arith, le-parts monday (s .instant) a, lt-parts (s .instant) (r .end) (s .before))))
+      (parts-lt (r .start) next (omega (arith, le-parts (r .start) (s .instant) (s .notBefore), lt-parts (s .instant) next b)))
+      (parts-lt monday (r .end) (omega (arith, le-parts monday (s .instant) a, lt-parts (s .instant) (r .end) (s .before))))
 
   pub touches-shares : (touches from i r ≡ true) ↔ Shares from i r
   touches-shares = (shared, touched)
