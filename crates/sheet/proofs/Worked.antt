@@ -1,5 +1,5 @@
--- 01's worked sheet of 40 bytes is accepted and read to its record; so is the trailer alone, to none.
-use mathlib.Core.List.{List, [], _∷_}
+-- 01's worked sheet of 40 bytes is accepted and read to its record; so is the trailer alone, to none. Sheets of two records with one fault each.
+use mathlib.Core.List.{List, [], _∷_, _++_}
 use mathlib.Core.Path.{_≡_, refl}
 use Prim.Native.Nat.{ℕ}
 use lib.IntN.{pos}
@@ -33,3 +33,41 @@ alone-accepted = refl
 pub alone-read : rowsOf alone ≡ []
 unfolding rowsOf tabulate countOf numberAt valueOf
 alone-read = refl
+
+-- ---- the refusals, of sheets of two records
+
+-- a record with an id, marks and three bytes after them
+abbrev made : ℕ → ℕ → ℕ → ℕ → ℕ → List ℕ
+made id marks a b c =
+    id ∷ 0 ∷ 0 ∷ 0 ∷ 0 ∷ 0 ∷ 0 ∷ 0 ∷ 0 ∷ 0 ∷ 0 ∷ 0 ∷ 0 ∷ 0 ∷ 0 ∷ 0 ∷ 0 ∷ 0 ∷ 0 ∷ 0 ∷ 0 ∷ 0 ∷ 0 ∷ 0 ∷ marks ∷ a ∷ b ∷ c ∷ []
+
+abbrev ended : ℕ → ℕ → ℕ → ℕ → List ℕ
+ended size version count distance = size ∷ 0 ∷ version ∷ 0 ∷ count ∷ 0 ∷ 0 ∷ 0 ∷ distance ∷ 0 ∷ 0 ∷ 0 ∷ []
+
+abbrev two : List ℕ → List ℕ → ℕ
+two first second = faultOf (first ++ (second ++ ended 28 1 2 56))
+
+abbrev with : List ℕ → ℕ
+with trailer = faultOf (made 1 0 0 0 0 ++ (made 2 0 0 0 0 ++ trailer))
+
+-- "too short for a trailer, unknown version, wrong record size, a distance that isn't 28 times the count or isn't the bytes before the trailer"
+pub trailers :
+    faultOf (0 ∷ 1 ∷ 0 ∷ 2 ∷ 0 ∷ 0 ∷ 0 ∷ 56 ∷ 0 ∷ 0 ∷ 0 ∷ []) ∷ with (ended 28 0 2 56) ∷ with (ended 28 2 2 56) ∷ with (ended 27 1 2 56) ∷ with (ended 28 1 1 56) ∷ with (ended 28 1 1 28) ∷ with (ended 28 1 2 56) ∷ []
+    ≡ 34 ∷ 35 ∷ 35 ∷ 36 ∷ 37 ∷ 37 ∷ 0 ∷ []
+unfolding faultOf faultInRows sizeOf versionOf countOf distanceOf idAt marksAt zerosAt numberAt valueOf signedOf every
+trailers = refl
+
+-- "ids not strictly increasing": equal, and falling
+pub ids : two (made 1 0 0 0 0) (made 1 0 0 0 0) ∷ two (made 2 0 0 0 0) (made 1 0 0 0 0) ∷ [] ≡ 38 ∷ 38 ∷ []
+unfolding faultOf faultInRows sizeOf versionOf countOf distanceOf idAt marksAt zerosAt numberAt valueOf signedOf every
+ids = refl
+
+-- "marks outside 0 to 7", also where a byte after them is no zero
+pub marks : two (made 1 7 0 0 0) (made 2 7 0 0 0) ∷ two (made 1 0 0 0 0) (made 2 8 0 0 0) ∷ two (made 1 0 1 0 0) (made 2 8 0 0 0) ∷ [] ≡ 0 ∷ 39 ∷ 39 ∷ []
+unfolding faultOf faultInRows sizeOf versionOf countOf distanceOf idAt marksAt zerosAt numberAt valueOf signedOf every
+marks = refl
+
+-- "zeros not zero": each of the three
+pub zeros : two (made 1 0 1 0 0) (made 2 0 0 0 0) ∷ two (made 1 0 0 1 0) (made 2 0 0 0 0) ∷ two (made 1 0 0 0 0) (made 2 0 0 0 1) ∷ [] ≡ 40 ∷ 40 ∷ 40 ∷ []
+unfolding faultOf faultInRows sizeOf versionOf countOf distanceOf idAt marksAt zerosAt numberAt valueOf signedOf every
+zeros = refl

@@ -60,6 +60,17 @@ pub no-weeks : replayOf [] sheet (pos 345600) (pos 345600) [] ≡ record { answe
 unfolding replayOf refusal sorted ordered isRange modulo weeksIn isReported isShut isMissing placeOf countIn tabulate faultOf faultInRows sizeOf versionOf countOf distanceOf idAt marksAt zerosAt numberAt valueOf signedOf every
 no-weeks = refl
 
+-- ---- a log in order, with equal instants; one that is not, at its third; a refused call, whose places keep their values
+
+pub orders : ordered (pos 1 ∷ pos 1 ∷ pos 2 ∷ []) ∷ ordered (negsuc 1 ∷ pos 1 ∷ pos 0 ∷ []) ∷ [] ≡ true ∷ false ∷ []
+unfolding ordered
+orders = refl
+
+pub refused-call :
+    replayOf (pos 1 ∷ pos 0 ∷ []) sheet (pos 345600) (pos 950400) (pos 7 ∷ []) ≡ record { answer = 30; reported = 0; shut = 0; missing = 0; places = pos 7 ∷ [] }
+unfolding replayOf refusal refused ordered
+refused-call = refl
+
 -- ---- refusals: all four at once, then without the first, and so on
 
 abbrev given : List ℤ → List ℕ → ℤ → ℕ
