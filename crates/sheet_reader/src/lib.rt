@@ -1,3 +1,3 @@
 // Reads a sheet's bytes: whether they are accepted, and how many records they have.
-pub mod records;
+mod records;
 pub mod trailer;

@@ -81,7 +81,7 @@ fn all_clear(s: &[u8], n: usize) -> bool
 }
 
 // Of n records: 0, or 38 to 40.
-pub fn judge_rows(s: &[u8], most: u64, n: usize) -> u32
+pub(crate) fn judge_rows(s: &[u8], most: u64, n: usize) -> u32
     requires { ⌜ 28 * n ≤ length (now s) ⌝ }
     ensures { λ r. ⌜ r ≡ faultInRows (now (s .entry)) most n ⌝ }
 {
