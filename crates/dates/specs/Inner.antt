@@ -1,3 +1,4 @@
+pub mod Dates
 pub mod Load
 pub mod Loaded
 pub mod Overrides

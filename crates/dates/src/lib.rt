@@ -10,3 +10,11 @@ pub struct Tracks {
     pub list: [Track; 8],
     pub count: usize,
 }
+
+// What a call keeps of an event's dates. Beside it lie, in lent slices, the rows of flags (those of the eight rules, then those of the eight
+// excluded ones) and the overrides.
+pub struct Dates {
+    pub start: u64,
+    pub rules: Tracks,
+    pub excluded: Tracks,
+}

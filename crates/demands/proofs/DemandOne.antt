@@ -15,11 +15,11 @@ use Rattle.rule.proofs.Bools.{by}
 use Rattle.words.specs.declared.Privacy.{Privacy}
 use Rattle.event.specs.Types.{Text, Details, Event}
 use Rattle.event.specs.Event.{eventOf}
-use Rattle.table.specs.Occurrence.{isOccurrence, detailsAt}
-use Rattle.table.specs.Bytes.{ZoneTable, tableOf}
-use Rattle.table.specs.Answer.{Outcome, isSecret, isPublic, answerFor, outcomeBy, expanded, dateTimeOf, textAnswerFor, textAnswer}
-use Rattle.table.specs.Call.{textFault, expandText, Shown, placeFrom, placeOf, noPlace, shownFor, shownAt, textOf}
-use Rattle.table.specs.Results.{Gives, Shows, Tells}
+use Rattle.call_definitions.specs.Occurrence.{isOccurrence, detailsAt}
+use Rattle.call_definitions.specs.Bytes.{ZoneTable, tableOf}
+use Rattle.call_definitions.specs.Answer.{Outcome, isSecret, isPublic, answerFor, outcomeBy, expanded, dateTimeOf, textAnswerFor, textAnswer}
+use Rattle.call_definitions.specs.Call.{textFault, expandText, Shown, placeFrom, placeOf, noPlace, shownFor, shownAt, textOf}
+use Rattle.call_definitions.specs.Results.{Gives, Shows, Tells}
 use Rattle.demands.specs.Conditions.{Numbered, Lowest, textConditions, callConditions, tableConditions, occursAt, wordsConditions}
 use Rattle.demands.specs.One.{TableAnswered, TextAnswered, PartAnswered}
 use Rattle.demands.proofs.Lowest.{lowestOf, Rising, lowest-of}

@@ -10,13 +10,13 @@ use lib.Seq.{sets}
 use Rattle.words.specs.declared.Privacy.the-variants.{Private, Secret}
 use Rattle.event.specs.Types.{Text, Details}
 use Rattle.event.specs.Event.{eventOf}
-use Rattle.table.specs.Agree.{Agree, Accepted}
-use Rattle.table.specs.Bytes.{ZoneTable, recordsOf, trailerOf}
-use Rattle.table.specs.Answer.{Outcome, isSecret, dateTimeOf, textAnswer}
-use Rattle.table.specs.Call.{Shown, expandText, noPlace, textOf}
-use Rattle.table.specs.Results.{Gives, Shows, Tells}
-use Rattle.table.proofs.DemandTwo.{table-written, trailer-length}
-use Rattle.table.proofs.DemandThree.{accepted-table, secret-is, private-text, secret-text, private-tables, private-texts, secret-tables}
+use Rattle.call_definitions.specs.Agree.{Agree, Accepted}
+use Rattle.call_definitions.specs.Bytes.{ZoneTable, recordsOf, trailerOf}
+use Rattle.call_definitions.specs.Answer.{Outcome, isSecret, dateTimeOf, textAnswer}
+use Rattle.call_definitions.specs.Call.{Shown, expandText, noPlace, textOf}
+use Rattle.call_definitions.specs.Results.{Gives, Shows, Tells}
+use Rattle.call_definitions.proofs.DemandTwo.{table-written, trailer-length}
+use Rattle.call_definitions.proofs.DemandThree.{accepted-table, secret-is, private-text, secret-text, private-tables, private-texts, secret-tables}
 use Rattle.demands.specs.Sheet.{HasSheet}
 use Rattle.demands.specs.Three.{SameTable, PrivateTable, SameText, SamePart}
 use Rattle.demands.proofs.DemandOne.{table-answered, no-part}

@@ -17,14 +17,14 @@ use Rattle.recurrence.specs.Inner.Within.{OccursWithin}
 use Rattle.zone.specs.Table.{validTable}
 use Rattle.event.specs.Types.{Event}
 use Rattle.event.specs.Event.{eventOf}
-use Rattle.table.specs.Window.{since1600, since1970, validWindow}
-use Rattle.table.specs.Occurrence.{datesOf, occurrences, detailsAt}
-use Rattle.table.specs.Bytes.{ZoneTable, secondsIn, recordsOf, trailerOf, tableOf}
-use Rattle.table.specs.Answer.{Outcome, isSecret, expanded}
-use Rattle.table.specs.Call.{textFault, expandText}
-use Rattle.table.specs.Results.{Gives}
-use Rattle.table.proofs.DemandTwo as definitions
-use Rattle.table.proofs.Few.{window-last, few-accepted}
+use Rattle.call_definitions.specs.Window.{since1600, since1970, validWindow}
+use Rattle.call_definitions.specs.Occurrence.{datesOf, occurrences, detailsAt}
+use Rattle.call_definitions.specs.Bytes.{ZoneTable, secondsIn, recordsOf, trailerOf, tableOf}
+use Rattle.call_definitions.specs.Answer.{Outcome, isSecret, expanded}
+use Rattle.call_definitions.specs.Call.{textFault, expandText}
+use Rattle.call_definitions.specs.Results.{Gives}
+use Rattle.call_definitions.proofs.DemandTwo as definitions
+use Rattle.call_definitions.proofs.Few.{window-last, few-accepted}
 use Rattle.demands.specs.Conditions.{applies, textConditions, callConditions, tableConditions}
 use Rattle.sheet.specs.Records.{idAt}
 use Rattle.demands.specs.Two.{OnSheet, OccursIn, Row, Listed}

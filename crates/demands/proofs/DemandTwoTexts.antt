@@ -13,10 +13,10 @@ use Rattle.words.specs.declared.Privacy.{Privacy}
 use Rattle.words.specs.declared.Privacy.the-variants.{Public}
 use Rattle.event.specs.Types.{Text, Details, Event}
 use Rattle.event.specs.Event.{eventOf}
-use Rattle.table.specs.Occurrence.{isOccurrence, detailsAt}
-use Rattle.table.specs.Answer.{isPublic, isSecret, dateTimeOf, textAnswerFor, textAnswer}
-use Rattle.table.specs.Call.{Shown, textFault, placeFrom, placeOf, noPlace, shownFor, shownAt, textOf}
-use Rattle.table.specs.Results.{Shows, Tells}
+use Rattle.call_definitions.specs.Occurrence.{isOccurrence, detailsAt}
+use Rattle.call_definitions.specs.Answer.{isPublic, isSecret, dateTimeOf, textAnswerFor, textAnswer}
+use Rattle.call_definitions.specs.Call.{Shown, textFault, placeFrom, placeOf, noPlace, shownFor, shownAt, textOf}
+use Rattle.call_definitions.specs.Results.{Shows, Tells}
 use Rattle.demands.specs.Two.{rawOf, Told, PartTold}
 use Rattle.demands.proofs.OwnBytes.{Own, OwnIn}
 

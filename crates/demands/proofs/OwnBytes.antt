@@ -32,7 +32,7 @@ use Rattle.event.specs.Reading.{Reading, orWrong, optional, limited}
 use Rattle.event.specs.Properties.{dateTime, readText}
 use Rattle.event.specs.Overrides.{patched, patchIn, overrideOf, overridesIn, readOverrides}
 use Rattle.event.specs.Event.{detailsIn, nothing, eventIn, eventOf}
-use Rattle.table.specs.Occurrence.{overrideAt, withStart, patchedBy, detailsAt}
+use Rattle.call_definitions.specs.Occurrence.{overrideAt, withStart, patchedBy, detailsAt}
 use Rattle.demands.proofs.FaultLaws.{pick}
 
 -- ---- the bytes of a string

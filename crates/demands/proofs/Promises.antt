@@ -6,8 +6,8 @@ use lib.ListN.{take}
 use mathlib.Core.Path.{_≡_, ap₂}
 use Rattle.event.specs.Types.{Text, Details}
 use Rattle.event.specs.Event.{eventOf}
-use Rattle.table.specs.Occurrence.{detailsAt}
-use Rattle.table.specs.Call.{textOf, titleOf, descriptionOf}
+use Rattle.call_definitions.specs.Occurrence.{detailsAt}
+use Rattle.call_definitions.specs.Call.{textOf, titleOf, descriptionOf}
 use Rattle.demands.specs.Promises.{TablePromises, TextPromises, WeeksPromises, Promises}
 use Rattle.demands.proofs.Lowest.{lowest-one}
 use Rattle.demands.proofs.TextAnswers.{accepted-none}

@@ -25,11 +25,11 @@ use Rattle.event.specs.Overrides.{readOverrides}
 use Rattle.event.specs.Event.{detailsIn, noEvent, nothing, eventIn, objectFault, eventFault, eventOf}
 use Rattle.property.proofs.Ranges.{Short, length-range}
 use Rattle.override_text.proofs.RangeLaws.{InRange, read-range}
-use Rattle.table.specs.Window.{epoch, since1970}
-use Rattle.table.specs.Occurrence.{overrideAt, withStart, patchedBy, detailsAt}
-use Rattle.table.specs.Bytes.{ZoneTable, utcOf, secondsIn}
-use Rattle.table.specs.Call.{textFault}
-use Rattle.table.proofs.Few.{accepted-event}
+use Rattle.call_definitions.specs.Window.{epoch, since1970}
+use Rattle.call_definitions.specs.Occurrence.{overrideAt, withStart, patchedBy, detailsAt}
+use Rattle.call_definitions.specs.Bytes.{ZoneTable, utcOf, secondsIn}
+use Rattle.call_definitions.specs.Call.{textFault}
+use Rattle.call_definitions.proofs.Few.{accepted-event}
 
 -- ---- an accepted event
 

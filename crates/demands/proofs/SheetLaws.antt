@@ -11,10 +11,10 @@ use mir.Val.{SFits}
 use Rattle.little_endian.specs.Bytes.{bytesOf, twos, valueOf, numberAt}
 use Rattle.little_endian.proofs.ByteLaws.{bytes-length, signed-twos, twos-small, field-at}
 use Rattle.event.specs.Types.{Event}
-use Rattle.table.specs.Window.{since1970}
-use Rattle.table.specs.Occurrence.{detailsAt}
-use Rattle.table.specs.Bytes.{ZoneTable, utcOf, secondsIn, marksOf, recordOf, recordsOf, trailerOf}
-use Rattle.table.proofs.DemandTwo.{records-length, trailer-length}
+use Rattle.call_definitions.specs.Window.{since1970}
+use Rattle.call_definitions.specs.Occurrence.{detailsAt}
+use Rattle.call_definitions.specs.Bytes.{ZoneTable, utcOf, secondsIn, marksOf, recordOf, recordsOf, trailerOf}
+use Rattle.call_definitions.proofs.DemandTwo.{records-length, trailer-length}
 use Rattle.sheet.specs.Records.{idAt, startAt, endAt, marksAt, zerosAt}
 use Rattle.demands.specs.Sheet.{HasSheet}
 

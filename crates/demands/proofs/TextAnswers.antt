@@ -23,7 +23,7 @@ use Rattle.signed.proofs.Parts.{false-true}
 use Rattle.rule.proofs.Bools.{by, or-either, left, right}
 use Rattle.event.specs.Values.{object}
 use Rattle.event.specs.Event.{noEvent, eventIn, objectFault, eventFault}
-use Rattle.table.specs.Call.{textFault}
+use Rattle.call_definitions.specs.Call.{textFault}
 use Rattle.demands.specs.Conditions.{Numbered, Lowest, applies, isDeep, isRead, isJson, isUnpaired, isNoEvent, readFault, textConditions}
 use Rattle.demands.proofs.Lowest.{lowestOf, Rising, lowest-of}
 use Rattle.demands.proofs.FaultLaws.{isFault, event-fault}

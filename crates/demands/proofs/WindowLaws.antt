@@ -8,7 +8,7 @@ use lib.Signed.{leZ, ltZ}
 use Rattle.signed.specs.Parts.{posPart, negPart}
 use Rattle.signed.proofs.Parts.{le-parts, lt-parts, parts-le, parts-lt, parts-eq, subℕ-parts, sum-parts}
 use Rattle.rule.proofs.Bools.{left, right}
-use Rattle.table.specs.Window.{epoch, since1600, since1970, validWindow}
+use Rattle.call_definitions.specs.Window.{epoch, since1600, since1970, validWindow}
 
 -- ---- one way and back
 

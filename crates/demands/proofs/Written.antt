@@ -24,11 +24,11 @@ use Rattle.words.specs.declared.Privacy.{Privacy}
 use Rattle.words.specs.declared.Privacy.the-variants.{Public, Private, Secret}
 use Rattle.event.specs.Types.{Details}
 use Rattle.event.specs.Event.{eventOf}
-use Rattle.table.specs.Agree.{Accepted as Event-accepted}
-use Rattle.table.specs.Answer.{isSecret}
-use Rattle.table.specs.Bytes.{ZoneTable, marksOf, isFloating}
-use Rattle.table.specs.Call.{textFault, expandText}
-use Rattle.table.specs.Results.{Gives}
+use Rattle.call_definitions.specs.Agree.{Accepted as Event-accepted}
+use Rattle.call_definitions.specs.Answer.{isSecret}
+use Rattle.call_definitions.specs.Bytes.{ZoneTable, marksOf, isFloating}
+use Rattle.call_definitions.specs.Call.{textFault, expandText}
+use Rattle.call_definitions.specs.Results.{Gives}
 use Rattle.demands.specs.Sheet.{HasSheet}
 use Rattle.demands.proofs.DemandTwo.{table-listed}
 use Rattle.demands.proofs.DemandThree.{secret-same}

@@ -20,10 +20,10 @@ use Rattle.rule.specs.Lists.{any}
 use Rattle.event.specs.Types.{Event}
 use Rattle.event.specs.Values.{object}
 use Rattle.event.specs.Event.{noEvent, eventIn, eventOf}
-use Rattle.table.specs.Window.{validWindow}
-use Rattle.table.specs.Occurrence.{isOccurrence}
-use Rattle.table.specs.Bytes.{ZoneTable, tableOf}
-use Rattle.table.specs.Answer.{isSecret, otherZone, dateTimeOf}
+use Rattle.call_definitions.specs.Window.{validWindow}
+use Rattle.call_definitions.specs.Occurrence.{isOccurrence}
+use Rattle.call_definitions.specs.Bytes.{ZoneTable, tableOf}
+use Rattle.call_definitions.specs.Answer.{isSecret, otherZone, dateTimeOf}
 
 -- A number, and whether its condition holds.
 pub record Numbered : Type 0 where

@@ -24,11 +24,11 @@ use Rattle.weeks.specs.Replay.{replayOf, Replays}
 use Rattle.words.specs.declared.Privacy.the-variants.{Public, Private, Secret}
 use Rattle.event.specs.Types.{Text, Details}
 use Rattle.event.specs.Event.{eventOf}
-use Rattle.table.specs.Agree.{Agree, Accepted}
-use Rattle.table.specs.Answer.{isSecret}
-use Rattle.table.specs.Bytes.{ZoneTable}
-use Rattle.table.specs.Call.{Shown, textFault, expandText, titleOf, descriptionOf}
-use Rattle.table.specs.Results.{Gives, Shows, Tells}
+use Rattle.call_definitions.specs.Agree.{Agree, Accepted}
+use Rattle.call_definitions.specs.Answer.{isSecret}
+use Rattle.call_definitions.specs.Bytes.{ZoneTable}
+use Rattle.call_definitions.specs.Call.{Shown, textFault, expandText, titleOf, descriptionOf}
+use Rattle.call_definitions.specs.Results.{Gives, Shows, Tells}
 use Rattle.demands.specs.Conditions.{Numbered, Lowest, applies, textConditions}
 use Rattle.demands.specs.Sheet.{HasSheet}
 use Rattle.demands.specs.One.{TableAnswered, TextAnswered, PartAnswered}

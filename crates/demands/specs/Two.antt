@@ -12,10 +12,10 @@ use lib.ListN.{length, take, drop}
 use lib.Signed.{leZ, ltZ}
 use Rattle.recurrence.specs.Occurs.{Occurs}
 use Rattle.event.specs.Types.{Text, Details, Event}
-use Rattle.table.specs.Window.{since1600, since1970}
-use Rattle.table.specs.Occurrence.{datesOf, isOccurrence, detailsAt}
-use Rattle.table.specs.Bytes.{ZoneTable, utcOf, secondsIn, marksOf}
-use Rattle.table.specs.Answer.{dateTimeOf}
+use Rattle.call_definitions.specs.Window.{since1600, since1970}
+use Rattle.call_definitions.specs.Occurrence.{datesOf, isOccurrence, detailsAt}
+use Rattle.call_definitions.specs.Bytes.{ZoneTable, utcOf, secondsIn, marksOf}
+use Rattle.call_definitions.specs.Answer.{dateTimeOf}
 use Rattle.sheet.specs.Records.{idAt, startAt, endAt, marksAt, zerosAt}
 use Rattle.demands.specs.Sheet.{HasSheet}
 

@@ -18,15 +18,15 @@ use Rattle.event_text.specs.Inner.Held.{fromHead}
 use Rattle.event_text.specs.declared.Head.{Head}
 use Rattle.event_text.proofs.FromHead.{head-privacy, head-zone}
 use Rattle.window.specs.Inner.Chunks.{Window}
-use Rattle.table.specs.Window.{since1600, validWindow}
-use Rattle.table.specs.Bytes.{ZoneTable, trailerOf}
-use Rattle.table.specs.Answer.{isSecret, expanded}
-use Rattle.table.specs.Results.{zonesOf, Gives}
-use Rattle.answers.specs.Inner.Refusal.{refusalFor}
-use Rattle.answers.proofs.RefusalLaws.{call-valid}
-use Rattle.event_loading.proofs.KeptLaws.{kept-window}
-use Rattle.tables.specs.Inner.Sheet.{fitted}
-use Rattle.expansion.specs.Inner.Shown.{sheetOf}
+use Rattle.call_definitions.specs.Window.{since1600, validWindow}
+use Rattle.call_definitions.specs.Bytes.{ZoneTable, trailerOf}
+use Rattle.call_definitions.specs.Answer.{isSecret, expanded}
+use Rattle.call_definitions.specs.Results.{zonesOf, Gives}
+use Rattle.opening.specs.Inner.Refusal.{refusalFor}
+use Rattle.opening.proofs.RefusalLaws.{call-valid}
+use Rattle.loading.proofs.KeptLaws.{kept-window}
+use Rattle.writer.specs.Inner.Table.{fitted}
+use Rattle.expansion.specs.Inner.Shown.{tableFor}
 use Rattle.expansion.proofs.CallLaws.{call-refused, call-secret, call-shown}
 
 abbrev again : ℤ → ℤ
@@ -54,7 +54,7 @@ module _ (s : List ℕ) (hd : Head) (is : fromHead inner s hd ≡ frontOf s) (na
         secret-gives p g = call-secret (zonesOf name b ts ns) (eventOf s) from to buffer r refusal-is z (secrecy q true e p) n k after g
 
         pub shown-gives : q ≡ false → (a : ℕ) → a ≡ since1600 (again from) → (d : ℕ) → d ≡ since1600 (again to)
-            → ((other : List ℕ) → Gives (fitted (sheetOf (zonesOf other (again b) ts ns) (eventOf s) a d) buffer) n k after)
+            → ((other : List ℕ) → Gives (fitted (tableFor (zonesOf other (again b) ts ns) (eventOf s) a d) buffer) n k after)
             → Gives (expanded (zonesOf name b ts ns) (eventOf s) from to buffer) n k after
         shown-gives p a ea d ed g =
             let here = g name in

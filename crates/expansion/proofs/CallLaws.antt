@@ -15,15 +15,15 @@ use Rattle.words.specs.declared.Privacy.{Privacy}
 use Rattle.words.specs.declared.Privacy.the-variants.{Public, Private, Secret}
 use Rattle.event.specs.Types.{Event}
 use Rattle.event.specs.Event.{eventFault, eventOf}
-use Rattle.table.specs.Window.{since1600}
-use Rattle.table.specs.Bytes.{ZoneTable, recordsOf, trailerOf, listed, tableOf}
-use Rattle.table.specs.Answer.{isSecret, Outcome, answerFor, outcomeBy, expanded}
-use Rattle.table.specs.Call.{textFault, expandText}
-use Rattle.table.specs.Results.{Gives}
-use Rattle.answers.specs.Inner.Refusal.{refusalFor}
-use Rattle.answers.proofs.RefusalLaws.{answer-left, answer-refused}
-use Rattle.tables.specs.Inner.Sheet.{fitted}
-use Rattle.expansion.specs.Inner.Shown.{sheetOf}
+use Rattle.call_definitions.specs.Window.{since1600}
+use Rattle.call_definitions.specs.Bytes.{ZoneTable, recordsOf, trailerOf, listed, tableOf}
+use Rattle.call_definitions.specs.Answer.{isSecret, Outcome, answerFor, outcomeBy, expanded}
+use Rattle.call_definitions.specs.Call.{textFault, expandText}
+use Rattle.call_definitions.specs.Results.{Gives}
+use Rattle.opening.specs.Inner.Refusal.{refusalFor}
+use Rattle.opening.proofs.RefusalLaws.{answer-left, answer-refused}
+use Rattle.writer.specs.Inner.Table.{fitted}
+use Rattle.expansion.specs.Inner.Shown.{tableFor}
 
 -- ---- 1 to 9
 
@@ -57,27 +57,27 @@ module _ (zones : ZoneTable) (e : Event) (from to : ℤ) (buffer : List ℕ) (r 
   gives-table z table same n k after g =
       subst (λ (o : Outcome). Gives o n k after) (sym (call-fits z ∙ ap (λ (t : List ℕ). fitted t buffer) same)) g
 
-  tableFor : Privacy → List ℕ
-  tableFor p = let xs = listed e p (since1600 from) (since1600 to) in recordsOf zones e xs ++ trailerOf (length xs)
+  tableWith : Privacy → List ℕ
+  tableWith p = let xs = listed e p (since1600 from) (since1600 to) in recordsOf zones e xs ++ trailerOf (length xs)
 
-  secret-table : (p : Privacy) → isSecret p ≡ true → tableFor p ≡ trailerOf 0
-  unfolding tableFor listed recordsOf
+  secret-table : (p : Privacy) → isSecret p ≡ true → tableWith p ≡ trailerOf 0
+  unfolding tableWith listed recordsOf
   secret-table Public h = false-true h
   secret-table Private h = false-true h
   secret-table Secret h = refl
 
-  shown-table : (p : Privacy) → isSecret p ≡ false → tableFor p ≡ sheetOf zones e (since1600 from) (since1600 to)
-  unfolding tableFor listed sheetOf
+  shown-table : (p : Privacy) → isSecret p ≡ false → tableWith p ≡ tableFor zones e (since1600 from) (since1600 to)
+  unfolding tableWith listed tableFor
   shown-table Public h = refl
   shown-table Private h = refl
   shown-table Secret h = true-false h
 
   pub call-secret : r ≡ 0 → isSecret (e .privacy) ≡ true → (n k : ℕ) (after : List ℕ) → Gives (fitted (trailerOf 0) buffer) n k after
       → Gives (expanded zones e from to buffer) n k after
-  unfolding tableOf tableFor
+  unfolding tableOf tableWith
   call-secret z h n k after g = gives-table z (trailerOf 0) (secret-table (e .privacy) h) n k after g
 
   pub call-shown : r ≡ 0 → isSecret (e .privacy) ≡ false → (n k : ℕ) (after : List ℕ)
-      → Gives (fitted (sheetOf zones e (since1600 from) (since1600 to)) buffer) n k after → Gives (expanded zones e from to buffer) n k after
-  unfolding tableOf tableFor
-  call-shown z h n k after g = gives-table z (sheetOf zones e (since1600 from) (since1600 to)) (shown-table (e .privacy) h) n k after g
+      → Gives (fitted (tableFor zones e (since1600 from) (since1600 to)) buffer) n k after → Gives (expanded zones e from to buffer) n k after
+  unfolding tableOf tableWith
+  call-shown z h n k after g = gives-table z (tableFor zones e (since1600 from) (since1600 to)) (shown-table (e .privacy) h) n k after g

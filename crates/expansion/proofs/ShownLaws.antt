@@ -30,21 +30,21 @@ use Rattle.dates.specs.Inner.Loaded.{Loaded, loaded, isIn}
 use Rattle.dates.specs.Inner.Stands.{Stands}
 use Rattle.dates.specs.Inner.Tracked.{Tracked}
 use Rattle.window.specs.Inner.Chunks.{Window}
-use Rattle.table.specs.Occurrence.{datesOf}
-use Rattle.table.specs.Bytes.{ZoneTable, isFloating}
-use Rattle.table.specs.Answer.{Outcome}
-use Rattle.table.specs.Results.{zonesOf, Gives}
-use Rattle.writing.specs.Inner.Details.{detailsBy, rowBy}
-use Rattle.writing.specs.Inner.Runs.{Overridden, Timed}
+use Rattle.call_definitions.specs.Occurrence.{datesOf}
+use Rattle.call_definitions.specs.Bytes.{ZoneTable, isFloating}
+use Rattle.call_definitions.specs.Answer.{Outcome}
+use Rattle.call_definitions.specs.Results.{zonesOf, Gives}
+use Rattle.writer.specs.Inner.Details.{detailsBy, rowBy}
+use Rattle.writer.specs.Inner.Runs.{Overridden, Timed}
 use Rattle.loading.specs.Inner.Rules.{Season, SettledRules}
-use Rattle.event_loading.specs.Inner.Limit.{limitOf}
-use Rattle.event_loading.specs.Inner.Patches.{patchesIn}
-use Rattle.event_loading.proofs.KeptLaws.{kept-season, kept-start, kept-bounds, kept-even, kept-details, kept-small, kept-stands}
-use Rattle.event_loading.proofs.WindowLaws.{limit-within, limit-enough}
-use Rattle.tables.specs.Inner.Sheet.{sheetBy, fitted}
-use Rattle.tables.proofs.EventLaws.{sheet-is}
+use Rattle.loading.specs.Inner.Limit.{limitOf}
+use Rattle.loading.specs.Inner.Patches.{patchesIn}
+use Rattle.loading.proofs.KeptLaws.{kept-season, kept-start, kept-bounds, kept-even, kept-details, kept-small, kept-stands}
+use Rattle.loading.proofs.WindowLaws.{limit-within, limit-enough}
+use Rattle.writer.specs.Inner.Table.{tableBy, fitted}
+use Rattle.writer.proofs.EventLaws.{table-is}
 use Rattle.tables.proofs.LentLaws.{taken}
-use Rattle.expansion.specs.Inner.Shown.{sheetOf}
+use Rattle.expansion.specs.Inner.Shown.{tableFor}
 
 -- the lists that were filled from the front are as long as before
 module _ (overrides : List Override) (patches : List ℕ) (ids₀ ids₁ : List ℕ) (gone₀ gone₁ : List Bool) (places₀ places₁ : List ℕ) (n : ℕ)
@@ -131,21 +131,21 @@ module _ (s : List ℕ) (hd : Head) (is : fromHead inner s hd ≡ frontOf s) (ok
           enough : to ≤ 86400 * limit
           enough = rw lim (limit-enough to (w .high))
 
-          sheet-same : (name : List ℕ) (floating : Bool) → floating ≡ isFloating (nameIn s (hd .zone))
-              → sheetBy (rowBy floating b ts ns (detailsBy s (detailsIn s o) (take n ids₁) (take n places₁))) (isIn l) from to ≡ sheetOf (zonesOf name b ts ns) (eventOf s) from to
-          unfolding sheetOf
-          sheet-same name floating f =
-              sheet-is (zonesOf name b ts ns) (eventOf s) (detailsBy s (detailsIn s o) (take n ids₁) (take n places₁))
+          table-same : (name : List ℕ) (floating : Bool) → floating ≡ isFloating (nameIn s (hd .zone))
+              → tableBy (rowBy floating b ts ns (detailsBy s (detailsIn s o) (take n ids₁) (take n places₁))) (isIn l) from to ≡ tableFor (zonesOf name b ts ns) (eventOf s) from to
+          unfolding tableFor
+          table-same name floating f =
+              table-is (zonesOf name b ts ns) (eventOf s) (detailsBy s (detailsIn s o) (take n ids₁) (take n places₁))
               (kept-details s hd is ok o (own s) ids₀ ids₁ gone₀ gone₁ places₀ places₁ n room filled) floating
               (f ∙ ap isFloating (sym (head-zone s hd is))) from to (w .order) limit l stands enough
 
           pub table-given : (floating : Bool) → floating ≡ isFloating (nameIn s (hd .zone)) → (buffer : List ℕ) (r k : ℕ) (after : List ℕ)
-              → Gives (fitted (sheetBy (rowBy floating (toZ w64 (ofZ w64 b)) ts ns (detailsBy s (detailsIn s o) (take n ids₁) (take n places₁)))
+              → Gives (fitted (tableBy (rowBy floating (toZ w64 (ofZ w64 b)) ts ns (detailsBy s (detailsIn s o) (take n ids₁) (take n places₁)))
               (isIn (loaded (o .start) rules flags excluded excludedFlags (take n ids₁) (take n gone₁))) from to) buffer) r k after
-              → (name : List ℕ) → Gives (fitted (sheetOf (zonesOf name b ts ns) (eventOf s) from to) buffer) r k after
+              → (name : List ℕ) → Gives (fitted (tableFor (zonesOf name b ts ns) (eventOf s) from to) buffer) r k after
           unfolding l
           table-given floating f buffer r k after g name =
               let here = rw (toZ-ofZ fb) at g in
-              subst (λ (t : List ℕ). Gives (fitted t buffer) r k after) (sheet-same name floating f)
-              (subst (λ (start : ℕ). Gives (fitted (sheetBy (rowBy floating b ts ns (detailsBy s (detailsIn s o) (take n ids₁) (take n places₁)))
+              subst (λ (t : List ℕ). Gives (fitted t buffer) r k after) (table-same name floating f)
+              (subst (λ (start : ℕ). Gives (fitted (tableBy (rowBy floating b ts ns (detailsBy s (detailsIn s o) (take n ids₁) (take n places₁)))
               (isIn (loaded start rules flags excluded excludedFlags (take n ids₁) (take n gone₁))) from to) buffer) r k after) begins here)

@@ -4,14 +4,14 @@ ghost use Rattle.json_ends.specs.Inner.Ends.{Ends};
 ghost use Rattle.event.specs.Event.{eventFault, eventOf};
 ghost use Rattle.event_text.specs.Inner.Front.{frontOf, inner};
 ghost use Rattle.event_text.specs.Inner.Held.{fromHead};
-ghost use Rattle.table.specs.Answer.{expanded};
-ghost use Rattle.table.specs.Results.{zonesOf, Gives};
+ghost use Rattle.call_definitions.specs.Answer.{expanded};
+ghost use Rattle.call_definitions.specs.Results.{zonesOf, Gives};
 use crate::shown::put_shown;
-use answers::calls::call_fault;
-use answers::calls::is_secret;
+use opening::calls::call_fault;
+use opening::calls::is_secret;
 use event_text::Head;
 use record::window::since_1600;
-use tables::nothing::put_trailer_alone;
+use writer::nothing::put_trailer_alone;
 
 pub(crate) fn expand_accepted(
     text: &[u8],

@@ -1,6 +1,6 @@
 // The expansion of an event: whatever arrives, one answer, the table's length, and the table or an untouched buffer.
-ghost use Rattle.table.specs.Call.{expandText};
-ghost use Rattle.table.specs.Results.{zonesOf, Gives};
+ghost use Rattle.call_definitions.specs.Call.{expandText};
+ghost use Rattle.call_definitions.specs.Results.{zonesOf, Gives};
 use crate::judged::expand_with;
 
 // A text of 2,048 bytes: as many entries has the table of its ends.

@@ -2,8 +2,8 @@
 ghost use mathlib.Core.Path.{_≡_};
 ghost use Rattle.json_ends.specs.Inner.Ends.{Ends};
 ghost use Rattle.json.specs.Answer.{answerOf};
-ghost use Rattle.table.specs.Call.{expandText};
-ghost use Rattle.table.specs.Results.{zonesOf, Gives};
+ghost use Rattle.call_definitions.specs.Call.{expandText};
+ghost use Rattle.call_definitions.specs.Results.{zonesOf, Gives};
 use crate::accepted::expand_accepted;
 use event_text::heads::head;
 use event_text::whole::event_fault;

@@ -8,16 +8,16 @@ ghost use Rattle.zone.specs.Table.{validTable};
 ghost use Rattle.event.specs.Event.{eventFault, eventOf};
 ghost use Rattle.event_text.specs.Inner.Front.{frontOf, inner};
 ghost use Rattle.event_text.specs.Inner.Held.{fromHead};
-ghost use Rattle.table.specs.Results.{zonesOf, Gives};
-ghost use Rattle.tables.specs.Inner.Sheet.{fitted};
+ghost use Rattle.call_definitions.specs.Results.{zonesOf, Gives};
+ghost use Rattle.writer.specs.Inner.Table.{fitted};
 ghost use Rattle.window.specs.Inner.Chunks.{Window};
-ghost use Rattle.expansion.specs.Inner.Shown.{sheetOf};
-use answers::calls::is_floating;
-use event_loading::limits::limit_of;
-use event_loading::lists::load_list;
-use event_loading::lists::load_overrides;
+ghost use Rattle.expansion.specs.Inner.Shown.{tableFor};
+use opening::calls::is_floating;
 use event_text::Head;
 use event_text::heads::own_of;
+use loading::limits::limit_of;
+use loading::lists::load_list;
+use loading::lists::load_overrides;
 use sheets::whole::put_event;
 
 // The flags are rows for eight rules of each list.
@@ -35,7 +35,7 @@ pub(crate) fn put_shown(
 ) -> u32
     requires { ⌜ Ends (now text) (now ends) × ((fromHead inner (now text) event ≡ frontOf (now text)) × ((eventFault (now text) ≡ 0)
         × ((validTable initial (now instants) (now offsets) ≡ true) × Window (event .start) from to))) ⌝ }
-    ensures { λ r. ⌜ ((name : List ℕ) → Gives (fitted (sheetOf (zonesOf name initial (now (instants .entry)) (now (offsets .entry))) (eventOf (now (text .entry))) from to) (now (buffer .entry))) r (now (length .exit)) (now (buffer .exit))) ⌝ }
+    ensures { λ r. ⌜ ((name : List ℕ) → Gives (fitted (tableFor (zonesOf name initial (now (instants .entry)) (now (offsets .entry))) (eventOf (now (text .entry))) from to) (now (buffer .entry))) r (now (length .exit)) (now (buffer .exit))) ⌝ }
 {
     let limit = limit_of(to);
     let start = event.start;

@@ -1,1 +1,6 @@
 pub mod RuleLaws
+pub mod PlaceLaws
+pub mod PatchLaws
+pub mod WindowLaws
+pub mod YearLaws
+pub mod KeptLaws

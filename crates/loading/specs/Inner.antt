@@ -1,1 +1,4 @@
+pub mod Limit
+pub mod Loads
+pub mod Patches
 pub mod Rules

@@ -1,2 +1,14 @@
-// What a call keeps of an event, read from its text: the rules, each settled with its row of flags.
-pub mod rules;
+// What a call keeps of an event, from the places that its head gives: its rules, its excluded rules and its overrides.
+use dates::Dates;
+use writer::Form;
+
+pub mod limits;
+pub mod lists;
+mod rules;
+
+// What a call keeps of an accepted event, beside lent slices: its dates, what its records are made from, and how many overrides it has.
+pub struct Kept {
+    pub dates: Dates,
+    pub form: Form,
+    pub count: usize,
+}

@@ -37,7 +37,7 @@ fn load_places(
 }
 
 // The rules of the list at a place, which was read without a fault.
-pub fn load_rules(
+pub(crate) fn load_rules(
     text: &[u8],
     ends: &[u32],
     at: usize,

@@ -12,7 +12,7 @@ use mir.Val.{SFits, toZ, ofZ}
 use mir.Facts.{toZ-ofZ}
 use Rattle.signed.specs.Parts.{posPart, negPart}
 use Rattle.signed.proofs.Parts.{subℕ-above, parts-le, parts-not-le, lt-parts, not-lt-parts}
-use Rattle.table.specs.Window.{epoch, since1600, validWindow}
+use Rattle.call_definitions.specs.Window.{epoch, since1600, validWindow}
 
 -- ---- seconds from 1600
 

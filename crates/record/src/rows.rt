@@ -4,7 +4,7 @@ ghost use Prim.Native.Nat.{_+_, _*_, _≤_, _<_, _^_};
 ghost use lib.ListN.{length};
 ghost use lib.Seq.{sets};
 ghost use Rattle.signed.specs.Choose.{if_then_else_};
-ghost use Rattle.table.specs.Bytes.{trailerOf};
+ghost use Rattle.call_definitions.specs.Bytes.{trailerOf};
 ghost use Rattle.record.specs.Inner.Rows.{marksFor, rowOf};
 use little_endian::put_i64;
 use little_endian::put_u16;

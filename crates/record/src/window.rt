@@ -1,7 +1,7 @@
 // Local seconds, signed and from 1970 where they come in and go out, natural and from 1600 inside; and the window of a call.
 ghost use mathlib.Core.Path.{_≡_};
 ghost use Prim.Native.Nat.{_<_, _^_};
-ghost use Rattle.table.specs.Window.{since1600, since1970, validWindow};
+ghost use Rattle.call_definitions.specs.Window.{since1600, since1970, validWindow};
 
 // The seconds from 1600-01-01T00:00:00 to 1970-01-01T00:00:00.
 const EPOCH: u64 = 11676096000;

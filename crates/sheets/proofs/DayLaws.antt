@@ -7,9 +7,9 @@ use native.Mathlib.Omega.{arith}
 use lib.ListN.{length, take, getD, length-append, length-map}
 use lib.Seq.{sets}
 use Rattle.rule.specs.Gives.{endDay, onDay}
-use Rattle.table.specs.Bytes.{trailerOf}
-use Rattle.table.specs.Results.{Gives}
-use Rattle.table.proofs.DemandTwo.{trailer-length}
+use Rattle.call_definitions.specs.Bytes.{trailerOf}
+use Rattle.call_definitions.specs.Results.{Gives}
+use Rattle.call_definitions.proofs.DemandTwo.{trailer-length}
 use Rattle.record.proofs.RowLaws.{sets-append}
 use Rattle.track.specs.declared.Track.{Track}
 use Rattle.dates.specs.declared.Tracks.{Tracks}
@@ -22,10 +22,10 @@ use Rattle.window.specs.Inner.Chunks.{Window}
 use Rattle.window.proofs.HitLaws.{from-day}
 use Rattle.listing.specs.Inner.Lists.{Tried, Listing, startOr}
 use Rattle.listing.proofs.SecondLaws.{event-listed}
-use Rattle.writing.specs.Inner.Rows.{rowsOf}
-use Rattle.writing.proofs.ChunkLaws.{rows-length}
-use Rattle.tables.specs.Inner.Sheet.{sheetBy, fitted}
-use Rattle.tables.proofs.SheetLaws.{too-long, fits}
+use Rattle.writer.specs.Inner.Rows.{rowsOf}
+use Rattle.writer.proofs.ChunkLaws.{rows-length}
+use Rattle.writer.specs.Inner.Table.{tableBy, fitted}
+use Rattle.writer.proofs.TableLaws.{too-long, fits}
 use Rattle.sheets.specs.Inner.Days.{sheetOn}
 use Rattle.sheets.specs.Inner.Plain.{Plain, ListedWindow}
 
@@ -131,8 +131,8 @@ module _ (start : ℕ) (rules : Tracks) (ruleFlags : List Bool) (excluded : Trac
 
   same-sheet : (row : ℕ → List ℕ) (days : List ℕ)
       → days ≡ listIn (startOr (getD (rules .list) 0 other) (take 1574 ruleFlags) (start / 86400)) (dayFrom start from) (dayFrom start to - dayFrom start from)
-      → sheetOn row start days ≡ sheetBy row (isIn (loaded start rules ruleFlags excluded excludedFlags ids gone)) from to
-  unfolding sheetOn sheetBy
+      → sheetOn row start days ≡ tableBy row (isIn (loaded start rules ruleFlags excluded excludedFlags ids gone)) from to
+  unfolding sheetOn tableBy
   same-sheet row days is =
       let seconds : map (onDay start) days ≡ listIn (isIn (loaded start rules ruleFlags excluded excludedFlags ids gone)) from (to - from) =
       ap (map (onDay start)) is ∙ sym (event-listed start rules ruleFlags excluded excludedFlags ids gone (p .one) (p .none) (p .unnamed) other whole from to (w .order)) in
@@ -141,7 +141,7 @@ module _ (start : ℕ) (rules : Tracks) (ruleFlags : List Bool) (excluded : Trac
 
   pub plain-gives : (own row : ℕ → List ℕ) → ((x : ℕ) → own x ≡ row x) → (room : ℕ) (days : List ℕ) (count : ℕ) → ListedWindow start rules ruleFlags from to room days count → count ≤ room
       → (before after : List ℕ) (r k : ℕ) → Gives (fitted (sheetOn own start (take count days)) before) r k after
-      → Gives (fitted (sheetBy row (isIn (loaded start rules ruleFlags excluded excludedFlags ids gone)) from to) before) r k after
+      → Gives (fitted (tableBy row (isIn (loaded start rules ruleFlags excluded excludedFlags ids gone)) from to) before) r k after
   plain-gives own row same room days count l few before after r k g =
       subst (λ (sheet : List ℕ). Gives (fitted sheet before) r k after) (rows-same own row same start (take count days) ∙ same-sheet row (take count days) (l .list few other)) g
 

@@ -5,13 +5,13 @@ ghost use Prim.Native.Nat.{_+_, _*_, _≤_, _^_};
 ghost use lib.ListN.{length as List·length};
 ghost use lib.Seq.{sets};
 ghost use Rattle.zone.specs.Table.{validTable};
-ghost use Rattle.writing.specs.Inner.Details.{ownRow};
-ghost use Rattle.table.specs.Results.{Gives};
-ghost use Rattle.tables.specs.Inner.Sheet.{fitted};
+ghost use Rattle.writer.specs.Inner.Details.{ownRow};
+ghost use Rattle.call_definitions.specs.Results.{Gives};
+ghost use Rattle.writer.specs.Inner.Table.{fitted};
 ghost use Rattle.sheets.specs.Inner.Days.{sheetOn};
 use override_text::Own;
 use record::rows::put_trailer;
-use writing::listed::write_days;
+use writer::listed::write_days;
 
 // The records of the days, and the trailer after them.
 fn put_days(

@@ -4,11 +4,11 @@ use mathlib.Core.Bool.{Bool, true, false}
 use mathlib.Core.Path.{_≡_, refl, sym, ap, _∙_, subst}
 use mathlib.Core.List.{List}
 use lib.IntN.{ℤ}
-use Rattle.table.specs.Answer.{Outcome}
+use Rattle.call_definitions.specs.Answer.{Outcome}
 use Rattle.zone.specs.Table.{validTable}
-use Rattle.table.specs.Call.{expandText}
-use Rattle.table.proofs.Invalid.{invalid-same}
-use Rattle.table.specs.Results.{zonesOf, Gives}
+use Rattle.call_definitions.specs.Call.{expandText}
+use Rattle.call_definitions.proofs.Invalid.{invalid-same}
+use Rattle.call_definitions.specs.Results.{zonesOf, Gives}
 use Rattle.entries.specs.declared.Transition.{Transition}
 use Rattle.entries.specs.Gather.{instantsOf, offsetsOf}
 use Rattle.entries.specs.Inner.Gathers.{gathered}

@@ -1,8 +1,8 @@
 // 01: "lent slice of entry structs in a thin outer function; the core first works over slices of numbers".
 ghost use Prim.Native.Nat.{_≤_};
 ghost use lib.ListN.{length as lengthOf, take};
-ghost use Rattle.table.specs.Call.{expandText};
-ghost use Rattle.table.specs.Results.{zonesOf, Gives};
+ghost use Rattle.call_definitions.specs.Call.{expandText};
+ghost use Rattle.call_definitions.specs.Results.{zonesOf, Gives};
 ghost use Rattle.entries.specs.Gather.{instantsOf, offsetsOf};
 use entries::Transition;
 

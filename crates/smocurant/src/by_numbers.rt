@@ -1,6 +1,6 @@
 // The table of occurrences, its zone table lent as two runs of numbers.
-ghost use Rattle.table.specs.Call.{expandText};
-ghost use Rattle.table.specs.Results.{zonesOf, Gives};
+ghost use Rattle.call_definitions.specs.Call.{expandText};
+ghost use Rattle.call_definitions.specs.Results.{zonesOf, Gives};
 
 #[no_mangle]
 pub extern "C" fn smocurant_expand(

@@ -1,6 +1,6 @@
 // The texts of one occurrence, by their place in the event's text: both numbers are 0 where no bytes come out.
-ghost use Rattle.table.specs.Call.{titleOf, descriptionOf};
-ghost use Rattle.table.specs.Results.{Shows};
+ghost use Rattle.call_definitions.specs.Call.{titleOf, descriptionOf};
+ghost use Rattle.call_definitions.specs.Results.{Shows};
 
 #[no_mangle]
 pub extern "C" fn smocurant_title(text: &[u8], date: i64, start: &mut u64, length: &mut u64) -> u32

@@ -19,10 +19,11 @@ use Rattle.window.specs.Inner.Lists.{listIn}
 use Rattle.window.specs.Inner.Chunks.{Window}
 use Rattle.window.proofs.RunLaws.{same-there}
 use Rattle.window.proofs.ListLaws.{list-same}
-use Rattle.writing.specs.Inner.Rows.{rowsOf}
-use Rattle.table.specs.Bytes.{trailerOf}
-use Rattle.table.specs.Results.{Gives}
-use Rattle.tables.specs.Inner.Sheet.{sheetBy, fitted, oneChunk}
+use Rattle.writer.specs.Inner.Rows.{rowsOf}
+use Rattle.call_definitions.specs.Bytes.{trailerOf}
+use Rattle.call_definitions.specs.Results.{Gives}
+use Rattle.writer.specs.Inner.Table.{tableBy, fitted}
+use Rattle.tables.specs.Inner.Sheet.{oneChunk}
 
 pub one-chunk : (start from to n : ℕ) → Window start from to → (r : Bool) → r ≡ oneChunk from to n → r ≡ true → Stretch (from / 86400) n from to
 unfolding oneChunk
@@ -39,14 +40,14 @@ pub run-small : (p : ℕ → Bool) (first n from to : ℕ) → Stretch first n f
 run-small p first n from to s = omega (arith, count-most p from (to - from), s .high, s .days)
 
 module _ (l : Loaded) (hits : List Bool) (first n : ℕ) (is : hits ≡ run (isOn l) first n) (from to : ℕ) (s : Stretch first n from to) where
-  same-sheet : (row : ℕ → List ℕ) → sheetBy row (isThere hits first (l .start) (l .ids) (l .gone)) from to ≡ sheetBy row (isIn l) from to
-  unfolding sheetBy
+  same-sheet : (row : ℕ → List ℕ) → tableBy row (isThere hits first (l .start) (l .ids) (l .gone)) from to ≡ tableBy row (isIn l) from to
+  unfolding tableBy
   same-sheet row =
       let order = s .order in
       ap (λ (xs : List ℕ). rowsOf row xs ++ trailerOf (length xs))
       (list-same (isThere hits first (l .start) (l .ids) (l .gone)) (isIn l) from (to - from) (λ j low high. same-there l hits first n is from to s j low (omega arith)))
 
   pub run-gives : (row : ℕ → List ℕ) (before after : List ℕ) (r k : ℕ)
-      → Gives (fitted (sheetBy row (isThere hits first (l .start) (l .ids) (l .gone)) from to) before) r k after
-      → Gives (fitted (sheetBy row (isIn l) from to) before) r k after
+      → Gives (fitted (tableBy row (isThere hits first (l .start) (l .ids) (l .gone)) from to) before) r k after
+      → Gives (fitted (tableBy row (isIn l) from to) before) r k after
   run-gives row before after r k g = subst (λ (sheet : List ℕ). Gives (fitted sheet before) r k after) (same-sheet row) g

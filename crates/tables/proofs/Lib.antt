@@ -1,4 +1,2 @@
-pub mod SheetLaws
-pub mod EventLaws
 pub mod ChunkLaws
 pub mod LentLaws

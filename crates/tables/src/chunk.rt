@@ -10,16 +10,17 @@ ghost use Rattle.override_text.specs.Inner.Meaning.{detailsIn};
 ghost use Rattle.dates.specs.Inner.Loaded.{loaded, isIn};
 ghost use Rattle.window.specs.Inner.Next.{isThere, Stretch};
 ghost use Rattle.window.specs.Inner.Chunks.{Window, Ready};
-ghost use Rattle.writing.specs.Inner.Details.{detailsBy, rowBy};
-ghost use Rattle.writing.specs.Inner.Runs.{Overridden, Timed};
-ghost use Rattle.table.specs.Results.{Gives};
-ghost use Rattle.tables.specs.Inner.Sheet.{sheetBy, fitted, oneChunk};
+ghost use Rattle.writer.specs.Inner.Details.{detailsBy, rowBy};
+ghost use Rattle.writer.specs.Inner.Runs.{Overridden, Timed};
+ghost use Rattle.call_definitions.specs.Results.{Gives};
+ghost use Rattle.writer.specs.Inner.Table.{tableBy, fitted};
+ghost use Rattle.tables.specs.Inner.Sheet.{oneChunk};
 use dates::Tracks;
 use dates::fill::fill;
 use override_text::Own;
 use record::rows::put_trailer;
 use window::chunks::count_run;
-use writing::runs::write_run;
+use writer::runs::write_run;
 
 // Have n days from the first one of the window on all of it?
 pub(crate) fn is_one_chunk(from: u64, to: u64, n: usize) -> bool
@@ -55,7 +56,7 @@ fn put_run(
     requires { ⌜ Ends (now text) (now ends) × (Stretch first (List·length (now hits)) from to × (Overridden (List·length (now ids)) (List·length (now gone)) (List·length (now places))
         × (Timed initial (now instants) (now offsets) (detailsBy (now text) (detailsIn (now text) own) (now ids) (now places))
         × ((count ≡ countIn (isThere (now hits) first (own .start) (now ids) (now gone)) from (to - from)) × (28 * count + 12 ≤ List·length (now buffer)))))) ⌝ }
-    ensures { λ _. ⌜ now (buffer .exit) ≡ sets (now (buffer .entry)) 0 (sheetBy
+    ensures { λ _. ⌜ now (buffer .exit) ≡ sets (now (buffer .entry)) 0 (tableBy
         (rowBy floating initial (now (instants .entry)) (now (offsets .entry)) (detailsBy (now (text .entry)) (detailsIn (now (text .entry)) own) (now (ids .entry)) (now (places .entry))))
         (isThere (now (hits .entry)) first (own .start) (now (ids .entry)) (now (gone .entry))) from to) ⌝ }
 {
@@ -101,7 +102,7 @@ fn put_filled(
 ) -> u32
     requires { ⌜ Ends (now text) (now ends) × (Stretch first (List·length (now hits)) from to × (Overridden (List·length (now ids)) (List·length (now gone)) (List·length (now places))
         × Timed initial (now instants) (now offsets) (detailsBy (now text) (detailsIn (now text) own) (now ids) (now places)))) ⌝ }
-    ensures { λ r. ⌜ Gives (fitted (sheetBy
+    ensures { λ r. ⌜ Gives (fitted (tableBy
         (rowBy floating initial (now (instants .entry)) (now (offsets .entry)) (detailsBy (now (text .entry)) (detailsIn (now (text .entry)) own) (now (ids .entry)) (now (places .entry))))
         (isThere (now (hits .entry)) first (own .start) (now (ids .entry)) (now (gone .entry))) from to)
         (now (buffer .entry))) r (now (length .exit)) (now (buffer .exit)) ⌝ }
@@ -159,7 +160,7 @@ pub(crate) fn put_chunk(
     requires { ⌜ Ends (now text) (now ends) × (Ready rules (List·length (now rulerows)) excluded (List·length (now excludedrows)) (List·length (now ids)) (List·length (now gone)) (List·length (now hits))
         × ((Window (own .start) from to × Stretch (from / 86400) (List·length (now hits)) from to) × (Overridden (List·length (now ids)) (List·length (now gone)) (List·length (now places))
         × Timed initial (now instants) (now offsets) (detailsBy (now text) (detailsIn (now text) own) (now ids) (now places))))) ⌝ }
-    ensures { λ r. ⌜ Gives (fitted (sheetBy
+    ensures { λ r. ⌜ Gives (fitted (tableBy
         (rowBy floating initial (now (instants .entry)) (now (offsets .entry)) (detailsBy (now (text .entry)) (detailsIn (now (text .entry)) own) (now (ids .entry)) (now (places .entry))))
         (isIn (loaded (own .start) rules (now (rulerows .entry)) excluded (now (excludedrows .entry)) (now (ids .entry)) (now (gone .entry)))) from to)
         (now (buffer .entry))) r (now (length .exit)) (now (buffer .exit)) ⌝ }

@@ -8,17 +8,17 @@ ghost use Rattle.json_ends.specs.Inner.Ends.{Ends};
 ghost use Rattle.override_text.specs.Inner.Meaning.{detailsIn};
 ghost use Rattle.dates.specs.Inner.Loaded.{loaded, isIn};
 ghost use Rattle.window.specs.Inner.Chunks.{Window, Ready};
-ghost use Rattle.writing.specs.Inner.Details.{detailsBy, rowBy};
-ghost use Rattle.writing.specs.Inner.Runs.{Overridden, Timed};
-ghost use Rattle.table.specs.Results.{Gives};
-ghost use Rattle.tables.specs.Inner.Sheet.{sheetBy, fitted};
+ghost use Rattle.writer.specs.Inner.Details.{detailsBy, rowBy};
+ghost use Rattle.writer.specs.Inner.Runs.{Overridden, Timed};
+ghost use Rattle.call_definitions.specs.Results.{Gives};
+ghost use Rattle.writer.specs.Inner.Table.{tableBy, fitted};
 use crate::chunk::is_one_chunk;
 use crate::chunk::put_chunk;
 use dates::Tracks;
 use override_text::Own;
 use record::rows::put_trailer;
 use window::whole::count_ids;
-use writing::whole::write_ids;
+use writer::whole::write_ids;
 
 // The records and the trailer after them, with their number.
 fn put_all(
@@ -47,7 +47,7 @@ fn put_all(
         × (Timed initial (now instants) (now offsets) (detailsBy (now text) (detailsIn (now text) own) (now ids) (now places))
         × ((count ≡ countIn (isIn (loaded (own .start) rules (now rulerows) excluded (now excludedrows) (now ids) (now gone))) from (to - from))
         × (28 * count + 12 ≤ List·length (now buffer))))))) ⌝ }
-    ensures { λ _. ⌜ now (buffer .exit) ≡ sets (now (buffer .entry)) 0 (sheetBy
+    ensures { λ _. ⌜ now (buffer .exit) ≡ sets (now (buffer .entry)) 0 (tableBy
         (rowBy floating initial (now (instants .entry)) (now (offsets .entry)) (detailsBy (now (text .entry)) (detailsIn (now (text .entry)) own) (now (ids .entry)) (now (places .entry))))
         (isIn (loaded (own .start) rules (now (rulerows .entry)) excluded (now (excludedrows .entry)) (now (ids .entry)) (now (gone .entry)))) from to) ⌝ }
 {
@@ -102,7 +102,7 @@ fn put_chunks(
     requires { ⌜ Ends (now text) (now ends) × (Ready rules (List·length (now rulerows)) excluded (List·length (now excludedrows)) (List·length (now ids)) (List·length (now gone)) (List·length (now hits))
         × (Window (own .start) from to × (Overridden (List·length (now ids)) (List·length (now gone)) (List·length (now places))
         × Timed initial (now instants) (now offsets) (detailsBy (now text) (detailsIn (now text) own) (now ids) (now places))))) ⌝ }
-    ensures { λ r. ⌜ Gives (fitted (sheetBy
+    ensures { λ r. ⌜ Gives (fitted (tableBy
         (rowBy floating initial (now (instants .entry)) (now (offsets .entry)) (detailsBy (now (text .entry)) (detailsIn (now (text .entry)) own) (now (ids .entry)) (now (places .entry))))
         (isIn (loaded (own .start) rules (now (rulerows .entry)) excluded (now (excludedrows .entry)) (now (ids .entry)) (now (gone .entry)))) from to)
         (now (buffer .entry))) r (now (length .exit)) (now (buffer .exit)) ⌝ }
@@ -174,7 +174,7 @@ pub(crate) fn put_marked(
     requires { ⌜ Ends (now text) (now ends) × (Ready rules (List·length (now rulerows)) excluded (List·length (now excludedrows)) (List·length (now ids)) (List·length (now gone)) (List·length (now hits))
         × (Window (own .start) from to × (Overridden (List·length (now ids)) (List·length (now gone)) (List·length (now places))
         × Timed initial (now instants) (now offsets) (detailsBy (now text) (detailsIn (now text) own) (now ids) (now places))))) ⌝ }
-    ensures { λ r. ⌜ Gives (fitted (sheetBy
+    ensures { λ r. ⌜ Gives (fitted (tableBy
         (rowBy floating initial (now (instants .entry)) (now (offsets .entry)) (detailsBy (now (text .entry)) (detailsIn (now (text .entry)) own) (now (ids .entry)) (now (places .entry))))
         (isIn (loaded (own .start) rules (now (rulerows .entry)) excluded (now (excludedrows .entry)) (now (ids .entry)) (now (gone .entry)))) from to)
         (now (buffer .entry))) r (now (length .exit)) (now (buffer .exit)) ⌝ }

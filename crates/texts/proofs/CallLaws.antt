@@ -11,9 +11,9 @@ use mir.Syntax.{w64}
 use mir.Val.{SFits, toZ, ofZ}
 use mir.Facts.{toZ-ofZ}
 use Rattle.event.specs.Event.{eventOf}
-use Rattle.table.specs.Answer.{dateTimeOf}
-use Rattle.table.specs.Call.{Shown, noPlace, textFault, shownAt, textOf, titleOf, descriptionOf}
-use Rattle.table.specs.Results.{Shows, Tells}
+use Rattle.call_definitions.specs.Answer.{dateTimeOf}
+use Rattle.call_definitions.specs.Call.{Shown, noPlace, textFault, shownAt, textOf, titleOf, descriptionOf}
+use Rattle.call_definitions.specs.Results.{Shows, Tells}
 use Rattle.texts.specs.declared.Told.{Told}
 use Rattle.texts.specs.declared.Lookup.{Lookup}
 use Rattle.texts.specs.Inner.Shown.{toldShown, lookupShown, Placed, chosen}

@@ -18,10 +18,10 @@ use Rattle.signed.specs.Choose.{if_then_else_}
 use Rattle.words.specs.declared.Privacy.{Privacy}
 use Rattle.words.specs.declared.Privacy.the-variants.{Public, Private, Secret}
 use Rattle.event.specs.Types.{Text, Details, Event}
-use Rattle.table.specs.Window.{epoch, since1600}
-use Rattle.table.specs.Answer.{isSecret, isPublic, textAnswerFor, textAnswer, dateTimeOf}
-use Rattle.table.specs.Call.{Shown, noPlace, placeOf, shownFor, shownAt}
-use Rattle.table.specs.Occurrence.{isOccurrence, detailsAt}
+use Rattle.call_definitions.specs.Window.{epoch, since1600}
+use Rattle.call_definitions.specs.Answer.{isSecret, isPublic, textAnswerFor, textAnswer, dateTimeOf}
+use Rattle.call_definitions.specs.Call.{Shown, noPlace, placeOf, shownFor, shownAt}
+use Rattle.call_definitions.specs.Occurrence.{isOccurrence, detailsAt}
 use Rattle.record.proofs.WindowLaws.{since-none}
 use Rattle.texts.specs.Inner.Shown.{shownBy}
 

@@ -23,17 +23,17 @@ use Rattle.event_text.specs.Inner.Front.{frontOf, inner}
 use Rattle.event_text.specs.Inner.Held.{fromHead}
 use Rattle.event_text.specs.declared.Head.{Head}
 use Rattle.event_text.proofs.FromHead.{head-accepted}
-use Rattle.table.specs.Call.{Shown, placeOf}
-use Rattle.table.specs.Occurrence.{datesOf, isOccurrence, detailsAt}
+use Rattle.call_definitions.specs.Call.{Shown, placeOf}
+use Rattle.call_definitions.specs.Occurrence.{datesOf, isOccurrence, detailsAt}
 use Rattle.dates.specs.declared.Tracks.{Tracks}
 use Rattle.dates.specs.Inner.Loaded.{loaded, isIn}
 use Rattle.dates.proofs.SetLaws.{in-set}
 use Rattle.window.specs.Inner.Chunks.{Window, Ready}
-use Rattle.writing.specs.Inner.Details.{detailsBy}
-use Rattle.writing.specs.Inner.Runs.{Overridden}
+use Rattle.writer.specs.Inner.Details.{detailsBy}
+use Rattle.writer.specs.Inner.Runs.{Overridden}
 use Rattle.loading.specs.Inner.Rules.{Season, SettledRules}
-use Rattle.event_loading.specs.Inner.Patches.{patchesIn}
-use Rattle.event_loading.proofs.KeptLaws.{kept-season, kept-even, kept-details, kept-stands}
+use Rattle.loading.specs.Inner.Patches.{patchesIn}
+use Rattle.loading.proofs.KeptLaws.{kept-season, kept-even, kept-details, kept-stands}
 use Rattle.texts.specs.Inner.Shown.{Placed, chosen, shownBy}
 use Rattle.texts.proofs.PartLaws.{placed-same}
 

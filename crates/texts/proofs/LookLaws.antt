@@ -14,11 +14,11 @@ use Rattle.event_text.specs.Inner.Front.{frontOf, inner}
 use Rattle.event_text.specs.Inner.Held.{fromHead}
 use Rattle.event_text.specs.declared.Head.{Head}
 use Rattle.event_text.proofs.FromHead.{head-privacy}
-use Rattle.event_loading.proofs.KeptLaws.{kept-years}
-use Rattle.table.specs.Window.{since1600}
-use Rattle.table.specs.Answer.{isSecret, isPublic, dateTimeOf}
-use Rattle.table.specs.Call.{Shown, noPlace, placeOf, shownAt}
-use Rattle.table.specs.Occurrence.{isOccurrence, detailsAt}
+use Rattle.loading.proofs.KeptLaws.{kept-years}
+use Rattle.call_definitions.specs.Window.{since1600}
+use Rattle.call_definitions.specs.Answer.{isSecret, isPublic, dateTimeOf}
+use Rattle.call_definitions.specs.Call.{Shown, noPlace, placeOf, shownAt}
+use Rattle.call_definitions.specs.Occurrence.{isOccurrence, detailsAt}
 use Rattle.texts.specs.Inner.Shown.{Placed, chosen, shownBy}
 use Rattle.texts.proofs.PartLaws.{empty-placed, placed-same}
 use Rattle.texts.proofs.DateLaws.{shown-secret, shown-open, date-inside, date-outside}

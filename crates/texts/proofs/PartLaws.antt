@@ -8,7 +8,7 @@ use lib.ListN.{length}
 use borrow.Author.Tests.{ne-eqb}
 use Rattle.signed.specs.Choose.{if_then_else_}
 use Rattle.json_walk.specs.Strings.{bytesAt, rawAt}
-use Rattle.table.specs.Call.{Shown, noPlace, placeFrom}
+use Rattle.call_definitions.specs.Call.{Shown, noPlace, placeFrom}
 use Rattle.texts.specs.Inner.Shown.{spanned, Placed}
 
 bytes-length : (n : ℕ) (s : List ℕ) (i : ℕ) → length (bytesAt n s i) ≡ n

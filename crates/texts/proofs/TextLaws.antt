@@ -12,8 +12,8 @@ use Rattle.override_text.specs.declared.Own.{Own}
 use Rattle.override_text.specs.declared.Patch.{Patch}
 use Rattle.override_text.specs.Inner.Meaning.{detailsIn, overrideIn}
 use Rattle.override_text.specs.Inner.Patched.{patchAt}
-use Rattle.table.specs.Occurrence.{withStart}
-use Rattle.writing.specs.Inner.Details.{patchDetails}
+use Rattle.call_definitions.specs.Occurrence.{withStart}
+use Rattle.writer.specs.Inner.Details.{patchDetails}
 use Rattle.texts.specs.Inner.Shown.{chosen}
 
 module _ (s : List ℕ) (title : Bool) (first second r : Place) (is : r ≡ (if title then first else second)) (d : Details) where

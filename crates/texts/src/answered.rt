@@ -4,7 +4,7 @@ ghost use mathlib.Core.Path.{_≡_};
 ghost use lib.ListN.{length};
 ghost use Rattle.json_ends.specs.Inner.Ends.{Ends};
 ghost use Rattle.json.specs.Answer.{answerOf};
-ghost use Rattle.table.specs.Call.{textOf, noPlace};
+ghost use Rattle.call_definitions.specs.Call.{textOf, noPlace};
 ghost use Rattle.texts.specs.Inner.Shown.{toldShown, lookupShown, Placed, chosen};
 use crate::Lookup;
 use crate::Told;

@@ -1,7 +1,7 @@
 // The calls for the texts of one occurrence. "the words need only text and date and answer 0 to 9 or 14"; a text is the caller's own bytes
 // between the quotes, and has none after a refusal.
-ghost use Rattle.table.specs.Call.{textOf, titleOf, descriptionOf};
-ghost use Rattle.table.specs.Results.{Shows, Tells};
+ghost use Rattle.call_definitions.specs.Call.{textOf, titleOf, descriptionOf};
+ghost use Rattle.call_definitions.specs.Results.{Shows, Tells};
 ghost use Rattle.texts.specs.Inner.Shown.{chosen};
 use crate::answered::told;
 

@@ -8,18 +8,18 @@ ghost use Rattle.rule.specs.Gives.{endDay};
 ghost use Rattle.event.specs.Event.{eventFault, eventOf};
 ghost use Rattle.event_text.specs.Inner.Front.{inner, frontOf};
 ghost use Rattle.event_text.specs.Inner.Held.{fromHead};
-ghost use Rattle.table.specs.Occurrence.{isOccurrence, detailsAt};
-ghost use Rattle.table.specs.Answer.{dateTimeOf};
-ghost use Rattle.table.specs.Call.{placeOf, shownAt};
+ghost use Rattle.call_definitions.specs.Occurrence.{isOccurrence, detailsAt};
+ghost use Rattle.call_definitions.specs.Answer.{dateTimeOf};
+ghost use Rattle.call_definitions.specs.Call.{placeOf, shownAt};
 ghost use Rattle.texts.specs.Inner.Shown.{lookupShown, Placed, chosen, shownBy};
 use crate::Lookup;
 use crate::kept::look_up_kept;
-use answers::calls::is_public;
-use answers::calls::is_secret;
-use event_loading::lists::load_list;
-use event_loading::lists::load_overrides;
+use opening::calls::is_public;
+use opening::calls::is_secret;
 use event_text::Head;
 use event_text::heads::own_of;
+use loading::lists::load_list;
+use loading::lists::load_overrides;
 use record::window::since_1600;
 
 // The first second of 1601, from 1600-01-01T00:00:00.

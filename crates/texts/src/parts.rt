@@ -4,7 +4,7 @@ ghost use Prim.Native.Nat.{_+_, _-_, _≤_};
 ghost use lib.ListN.{length};
 ghost use Rattle.property.specs.Inner.From.{textIn};
 ghost use Rattle.property.specs.Inner.Words.{wordAt};
-ghost use Rattle.table.specs.Call.{placeFrom, placeOf};
+ghost use Rattle.call_definitions.specs.Call.{placeFrom, placeOf};
 ghost use Rattle.texts.specs.Inner.Shown.{partShown, spanned, Placed};
 use crate::Part;
 use json_text::Read;

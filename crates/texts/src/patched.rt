@@ -5,7 +5,7 @@ ghost use Rattle.json_ends.specs.Inner.Ends.{Ends};
 ghost use Rattle.signed.specs.Choose.{if_then_else_};
 ghost use Rattle.property.specs.Inner.From.{textIn};
 ghost use Rattle.override_text.specs.Inner.Meaning.{detailsIn};
-ghost use Rattle.writing.specs.Inner.Details.{patchDetails, detailsBy};
+ghost use Rattle.writer.specs.Inner.Details.{patchDetails, detailsBy};
 ghost use Rattle.texts.specs.Inner.Shown.{chosen};
 use override_text::Own;
 use override_text::patches::patch;

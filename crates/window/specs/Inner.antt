@@ -1,4 +1,5 @@
 pub mod Chunks
+pub mod Handed
 pub mod Lists
 pub mod Next
 pub mod Sorted

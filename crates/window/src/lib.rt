@@ -4,3 +4,9 @@ mod hits;
 pub mod next;
 pub mod sorted;
 pub mod whole;
+
+// What was found of a window's ids: how many stand in the lent slice, and the second from which on to ask for more.
+pub struct Chunk {
+    pub count: usize,
+    pub next: u64,
+}

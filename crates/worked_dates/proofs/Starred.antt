@@ -26,10 +26,10 @@ use Rattle.json_walk.specs.Strings.{same}
 use Rattle.words.specs.declared.Privacy.{Privacy}
 use Rattle.words.specs.declared.Privacy.the-variants.{Public, Private, Secret}
 use Rattle.event.specs.Types.{Event}
-use Rattle.table.specs.Window.{since1600, since1970, validWindow}
-use Rattle.table.specs.Occurrence.{datesOf, occurrences, overrideAt, withStart, patchedBy, detailsAt}
-use Rattle.table.specs.Bytes.{ZoneTable, utcOf, secondsIn, marksOf, recordOf, recordsOf, trailerOf, listed, tableOf}
-use Rattle.table.specs.Answer.{Outcome, otherZone, answerFor, outcomeBy, expanded}
+use Rattle.call_definitions.specs.Window.{since1600, since1970, validWindow}
+use Rattle.call_definitions.specs.Occurrence.{datesOf, occurrences, overrideAt, withStart, patchedBy, detailsAt}
+use Rattle.call_definitions.specs.Bytes.{ZoneTable, utcOf, secondsIn, marksOf, recordOf, recordsOf, trailerOf, listed, tableOf}
+use Rattle.call_definitions.specs.Answer.{Outcome, otherZone, answerFor, outcomeBy, expanded}
 use Rattle.worked_dates.specs.Inner.Written.{Case, on, lasting, eventOf, rule, row, floatingRows, noZone, dated, ruled, timed}
 use Rattle.worked_dates.specs.Inner.Cases.{newYork, losAngeles, melbourne, starred}
 

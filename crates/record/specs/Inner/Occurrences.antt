@@ -5,7 +5,7 @@ use mathlib.Core.List.{List}
 use lib.IntN.{ℤ, pos, _+ℤ_}
 use Rattle.signed.specs.Choose.{if_then_else_}
 use Rattle.zone.specs.Lookup.{utcAt}
-use Rattle.table.specs.Window.{since1970}
+use Rattle.call_definitions.specs.Window.{since1970}
 use Rattle.record.specs.declared.Times.{Times}
 use Rattle.record.specs.Inner.Rows.{marksFor, rowOf}
 

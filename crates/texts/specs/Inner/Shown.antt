@@ -6,7 +6,7 @@ use mathlib.Core.Path.{_≡_}
 use lib.Dec.{eqb}
 use Rattle.signed.specs.Choose.{if_then_else_}
 use Rattle.event.specs.Types.{Text, Details}
-use Rattle.table.specs.Call.{Shown, noPlace}
+use Rattle.call_definitions.specs.Call.{Shown, noPlace}
 use Rattle.texts.specs.declared.Part.{Part}
 use Rattle.texts.specs.declared.Told.{Told}
 use Rattle.texts.specs.declared.Lookup.{Lookup}

@@ -2,7 +2,7 @@
 use mathlib.Core.Path.{sym, _∙_}
 use mir.Facts.{toZ-ofZ}
 use borrow.Author.Needs.{needs}
-use Rattle.answers.proofs.TextLaws.{event-next}
+use Rattle.opening.proofs.TextLaws.{event-next}
 use Rattle.expansion.proofs.CallLaws.{text-refused, text-accepted}
 use Rattle.expansion.proofs.judged.expand_json.Statement.{statement}
 use Rattle.expansion.proofs.judged.expand_json.Tie as tie

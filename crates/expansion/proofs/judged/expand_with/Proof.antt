@@ -2,7 +2,7 @@
 use mathlib.Core.Path.{sym, _∙_}
 use mir.Facts.{toZ-ofZ}
 use borrow.Author.Needs.{needs}
-use Rattle.answers.proofs.TextLaws.{answer-first}
+use Rattle.opening.proofs.TextLaws.{answer-first}
 use Rattle.expansion.proofs.CallLaws.{text-refused}
 use Rattle.expansion.proofs.judged.expand_with.Statement.{statement}
 use Rattle.expansion.proofs.judged.expand_with.Tie as tie

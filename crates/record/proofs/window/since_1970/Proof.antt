@@ -2,7 +2,7 @@
 use mathlib.Core.Path.{_∙_}
 use borrow.Author.Needs.{needs}
 use Rattle.signed.proofs.Parts.{back}
-use Rattle.table.specs.Window.{since1970}
+use Rattle.call_definitions.specs.Window.{since1970}
 use Rattle.record.proofs.window.since_1970.Statement.{statement}
 use Rattle.record.proofs.window.since_1970.Tie as tie
 

@@ -49,8 +49,8 @@ use denote.Triple.Table.{entered, cited}
 use denote.Triple.Walked.{says, Stays, stay-none, stay-none-slice, gave-ref, gave-slice, walkOf, AllGo, goes-none, goes-none-slice, goes-gave-ref, goes-gave-slice, Walks, ends-at, walked, walk-meets}
 use denote.Exit.{yes}
 use denote.Triple.Clauses.{ensured, lasts}
-use Rattle.table.specs.Call.{expandText}
-use Rattle.table.specs.Results.{zonesOf, Gives}
+use Rattle.call_definitions.specs.Call.{expandText}
+use Rattle.call_definitions.specs.Results.{zonesOf, Gives}
 use Rattle.entries.specs.Gather.{instantsOf, offsetsOf}
 use Rattle.entries.specs.Inner.Gathers.{gathered, Gathers}
 use Rattle.entries.specs.declared.Transition.{Transition}

@@ -3,9 +3,9 @@ use native.Mathlib.Omega.{arith}
 use mir.Facts.{toZ-ofZ}
 use Rattle.override_text.specs.Inner.Meaning.{detailsIn}
 use Rattle.window.specs.Inner.Next.{isThere}
-use Rattle.writing.specs.Inner.Details.{detailsBy, rowBy}
-use Rattle.writing.proofs.WriteLaws.{by-length}
-use Rattle.tables.proofs.SheetLaws.{sheet-short, sheet-fits}
+use Rattle.writer.specs.Inner.Details.{detailsBy, rowBy}
+use Rattle.writer.proofs.WriteLaws.{by-length}
+use Rattle.writer.proofs.TableLaws.{table-short, table-fits}
 use Rattle.tables.proofs.ChunkLaws.{run-small}
 use borrow.Author.Needs.{needs}
 use Rattle.tables.proofs.chunk.put_filled.Statement.{statement}
@@ -27,7 +27,7 @@ add-need c =
 returns : tie.Need-returns
 returns c =
     let q = c .before .before .before .before .before .before .before .before .before in
-    sheet-short (rowBy (q .args .floating) _ (q .args .instants .now) (q .args .offsets .now) (detailsBy (q .args .text .now) (detailsIn (q .args .text .now) (q .args .own)) (q .args .ids .now) (q .args .places .now))) (by-length (q .args .floating) _ (q .args .instants .now) (q .args .offsets .now) (detailsBy (q .args .text .now) (detailsIn (q .args .text .now) (q .args .own)) (q .args .ids .now) (q .args .places .now)))
+    table-short (rowBy (q .args .floating) _ (q .args .instants .now) (q .args .offsets .now) (detailsBy (q .args .text .now) (detailsIn (q .args .text .now) (q .args .own)) (q .args .ids .now) (q .args .places .now))) (by-length (q .args .floating) _ (q .args .instants .now) (q .args .offsets .now) (detailsBy (q .args .text .now) (detailsIn (q .args .text .now) (q .args .own)) (q .args .ids .now) (q .args .places .now)))
     (isThere (q .args .hits .now) (q .args .first) (q .args .own .start) (q .args .ids .now) (q .args .gone .now)) _ _ _ (c .before .count-run .ensures) _ (omega (arith, c .if1 .taken))
 
 put-run-requires : tie.Need-put-run-requires
@@ -42,7 +42,7 @@ same-length c = search needs
 returns-2 : tie.Need-returns-2
 returns-2 c =
     let q = c .before .before .before .before .before .before .before .before .before .before .before .before .before in
-    sheet-fits (rowBy (q .args .floating) _ (q .args .instants .now) (q .args .offsets .now) (detailsBy (q .args .text .now) (detailsIn (q .args .text .now) (q .args .own)) (q .args .ids .now) (q .args .places .now))) (by-length (q .args .floating) _ (q .args .instants .now) (q .args .offsets .now) (detailsBy (q .args .text .now) (detailsIn (q .args .text .now) (q .args .own)) (q .args .ids .now) (q .args .places .now)))
+    table-fits (rowBy (q .args .floating) _ (q .args .instants .now) (q .args .offsets .now) (detailsBy (q .args .text .now) (detailsIn (q .args .text .now) (q .args .own)) (q .args .ids .now) (q .args .places .now))) (by-length (q .args .floating) _ (q .args .instants .now) (q .args .offsets .now) (detailsBy (q .args .text .now) (detailsIn (q .args .text .now) (q .args .own)) (q .args .ids .now) (q .args .places .now)))
     (isThere (q .args .hits .now) (q .args .first) (q .args .own .start) (q .args .ids .now) (q .args .gone .now)) _ _ _ (c .before .before .before .before .before .count-run .ensures) _ (omega (arith, c .before .before .before .before .if1 .left)) _ (rw (toZ-ofZ (q .fits .initial)) at (c .before .before .put-run .ensures))
 
 pub put-filled-spec : {M : Type 1} → statement M

@@ -3,9 +3,9 @@ use native.Mathlib.Omega.{arith}
 use mir.Facts.{toZ-ofZ}
 use Rattle.override_text.specs.Inner.Meaning.{detailsIn}
 use Rattle.dates.specs.Inner.Loaded.{loaded, isIn}
-use Rattle.writing.specs.Inner.Details.{detailsBy, rowBy}
-use Rattle.writing.proofs.WriteLaws.{by-length}
-use Rattle.tables.proofs.SheetLaws.{count-small, sheet-written}
+use Rattle.writer.specs.Inner.Details.{detailsBy, rowBy}
+use Rattle.writer.proofs.WriteLaws.{by-length}
+use Rattle.writer.proofs.TableLaws.{count-small, table-written}
 use borrow.Author.Needs.{needs}
 use Rattle.tables.proofs.whole.put_all.Statement.{statement}
 use Rattle.tables.proofs.whole.put_all.Tie as tie
@@ -38,7 +38,7 @@ same-length-2 c = search needs
 returns : tie.Need-returns
 returns c =
     let q = c .before .before .before .before .before .before .before .before .before .before .before .before .before .before .before .before .before .before .before .before in
-    sheet-written (rowBy (q .args .floating) _ (q .args .instants .now) (q .args .offsets .now) (detailsBy (q .args .text .now) (detailsIn (q .args .text .now) (q .args .own)) (q .args .ids .now) (q .args .places .now))) (by-length (q .args .floating) _ (q .args .instants .now) (q .args .offsets .now) (detailsBy (q .args .text .now) (detailsIn (q .args .text .now) (q .args .own)) (q .args .ids .now) (q .args .places .now)))
+    table-written (rowBy (q .args .floating) _ (q .args .instants .now) (q .args .offsets .now) (detailsBy (q .args .text .now) (detailsIn (q .args .text .now) (q .args .own)) (q .args .ids .now) (q .args .places .now))) (by-length (q .args .floating) _ (q .args .instants .now) (q .args .offsets .now) (detailsBy (q .args .text .now) (detailsIn (q .args .text .now) (q .args .own)) (q .args .ids .now) (q .args .places .now)))
     (isIn (loaded (q .args .own .start) (q .args .rules) (q .args .rulerows .now) (q .args .excluded) (q .args .excludedrows .now) (q .args .ids .now) (q .args .gone .now))) _ _ _ (q .pre .1 .1 .1 .1 .1 .0) _ _ _ _ (rw (toZ-ofZ (q .fits .initial)) at (c .before .before .before .before .before .before .before .before .write-ids .ensures)) (c .before .before .put-trailer .ensures)
 
 pub put-all-spec : {M : Type 1} → statement M

@@ -3,9 +3,9 @@ use native.Mathlib.Omega.{arith}
 use mir.Facts.{toZ-ofZ}
 use Rattle.override_text.specs.Inner.Meaning.{detailsIn}
 use Rattle.dates.specs.Inner.Loaded.{loaded, isIn}
-use Rattle.writing.specs.Inner.Details.{detailsBy, rowBy}
-use Rattle.writing.proofs.WriteLaws.{by-length}
-use Rattle.tables.proofs.SheetLaws.{count-small, sheet-short, sheet-fits}
+use Rattle.writer.specs.Inner.Details.{detailsBy, rowBy}
+use Rattle.writer.proofs.WriteLaws.{by-length}
+use Rattle.writer.proofs.TableLaws.{count-small, table-short, table-fits}
 use borrow.Author.Needs.{needs}
 use Rattle.tables.proofs.whole.put_chunks.Statement.{statement}
 use Rattle.tables.proofs.whole.put_chunks.Tie as tie
@@ -29,7 +29,7 @@ same-length c = search needs
 returns : tie.Need-returns
 returns c =
     let q = c .before .before .before .before .before .before .before .before .before .before .before .before .before .before in
-    sheet-short (rowBy (q .args .floating) _ (q .args .instants .now) (q .args .offsets .now) (detailsBy (q .args .text .now) (detailsIn (q .args .text .now) (q .args .own)) (q .args .ids .now) (q .args .places .now))) (by-length (q .args .floating) _ (q .args .instants .now) (q .args .offsets .now) (detailsBy (q .args .text .now) (detailsIn (q .args .text .now) (q .args .own)) (q .args .ids .now) (q .args .places .now)))
+    table-short (rowBy (q .args .floating) _ (q .args .instants .now) (q .args .offsets .now) (detailsBy (q .args .text .now) (detailsIn (q .args .text .now) (q .args .own)) (q .args .ids .now) (q .args .places .now))) (by-length (q .args .floating) _ (q .args .instants .now) (q .args .offsets .now) (detailsBy (q .args .text .now) (detailsIn (q .args .text .now) (q .args .own)) (q .args .ids .now) (q .args .places .now)))
     (isIn (loaded (q .args .own .start) (q .args .rules) (q .args .rulerows .now) (q .args .excluded) (q .args .excludedrows .now) (q .args .ids .now) (q .args .gone .now))) _ _ _ (c .before .before .before .count-ids .ensures) _ (omega (arith, c .if1 .taken))
 
 put-all-requires : tie.Need-put-all-requires
@@ -60,7 +60,7 @@ same-length-3 c = search needs
 returns-2 : tie.Need-returns-2
 returns-2 c =
     let q = c .before .before .before .before .before .before .before .before .before .before .before .before .before .before .before .before .before .before .before .before .before in
-    sheet-fits (rowBy (q .args .floating) _ (q .args .instants .now) (q .args .offsets .now) (detailsBy (q .args .text .now) (detailsIn (q .args .text .now) (q .args .own)) (q .args .ids .now) (q .args .places .now))) (by-length (q .args .floating) _ (q .args .instants .now) (q .args .offsets .now) (detailsBy (q .args .text .now) (detailsIn (q .args .text .now) (q .args .own)) (q .args .ids .now) (q .args .places .now)))
+    table-fits (rowBy (q .args .floating) _ (q .args .instants .now) (q .args .offsets .now) (detailsBy (q .args .text .now) (detailsIn (q .args .text .now) (q .args .own)) (q .args .ids .now) (q .args .places .now))) (by-length (q .args .floating) _ (q .args .instants .now) (q .args .offsets .now) (detailsBy (q .args .text .now) (detailsIn (q .args .text .now) (q .args .own)) (q .args .ids .now) (q .args .places .now)))
     (isIn (loaded (q .args .own .start) (q .args .rules) (q .args .rulerows .now) (q .args .excluded) (q .args .excludedrows .now) (q .args .ids .now) (q .args .gone .now))) _ _ _ (c .before .before .before .before .before .before .before .before .before .before .count-ids .ensures) _ (omega (arith, c .before .before .before .before .before .before .before .if1 .left)) _ (rw (toZ-ofZ (q .fits .initial)) at (c .before .before .before .before .put-all .ensures))
 
 pub put-chunks-spec : {M : Type 1} → statement M

@@ -1,6 +1,6 @@
 -- `texts::answered::told_json` meets its contract: 5 to 9, or what is found.
 use mathlib.Core.Path.{sym, _∙_}
-use Rattle.answers.proofs.TextLaws.{event-next}
+use Rattle.opening.proofs.TextLaws.{event-next}
 use Rattle.texts.proofs.CallLaws.{refused-placed, looked-placed}
 use borrow.Author.Needs.{needs}
 use Rattle.texts.proofs.answered.told_json.Statement.{statement}

@@ -1,6 +1,6 @@
 -- `texts::answered::told_with` meets its contract: 1 to 4, or what a text that is JSON answers.
 use mathlib.Core.Path.{sym, _∙_}
-use Rattle.answers.proofs.TextLaws.{answer-first}
+use Rattle.opening.proofs.TextLaws.{answer-first}
 use Rattle.texts.proofs.CallLaws.{refused-placed, date-passed}
 use borrow.Author.Needs.{needs}
 use Rattle.texts.proofs.answered.told_with.Statement.{statement}

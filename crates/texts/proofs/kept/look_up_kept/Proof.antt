@@ -1,7 +1,7 @@
 -- `texts::kept::look_up_kept` meets its contract.
 use mathlib.Core.Path.{ap}
 use borrow.Author.Tests.{not-true, not-false}
-use Rattle.table.specs.Call.{placeOf}
+use Rattle.call_definitions.specs.Call.{placeOf}
 use Rattle.texts.specs.Inner.Shown.{shownBy}
 use Rattle.texts.proofs.PartLaws.{empty-placed, placed-same, visible-placed}
 use borrow.Author.Needs.{needs}

@@ -1,6 +1,6 @@
 -- `texts::parts::part_at` meets its contract.
 use mathlib.Core.Path.{refl}
-use Rattle.table.specs.Call.{placeOf}
+use Rattle.call_definitions.specs.Call.{placeOf}
 use Rattle.texts.proofs.PartLaws.{none-placed}
 use borrow.Author.Needs.{needs}
 use Rattle.texts.proofs.parts.part_at.Statement.{statement}

@@ -4,7 +4,7 @@ use Prim.Native.Nat.{_-_}
 use native.Mathlib.Omega.{arith}
 use lib.ListN.{length}
 use Rattle.override_text.specs.Inner.Meaning.{detailsIn}
-use Rattle.writing.proofs.DetailsLaws.{Seen, seen-patch, seen-next, seen-own}
+use Rattle.writer.proofs.DetailsLaws.{Seen, seen-patch, seen-next, seen-own}
 use Rattle.texts.specs.Inner.Shown.{chosen}
 use Rattle.texts.proofs.TextLaws.{own-text}
 use borrow.Author.Needs.{needs}

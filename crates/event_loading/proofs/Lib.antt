@@ -1,5 +1,0 @@
-pub mod PlaceLaws
-pub mod PatchLaws
-pub mod WindowLaws
-pub mod YearLaws
-pub mod KeptLaws

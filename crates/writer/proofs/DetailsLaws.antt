@@ -1,0 +1,119 @@
+-- The details of an occurrence: by the override that names it, found by going through the ids.
+use Prim.Native.Nat.{ℕ, zero, suc, _+_, _*_, _<_, _≤_, _^_}
+use mathlib.Core.Bool.{Bool, true, false}
+use mathlib.Core.List.{List, [], _∷_}
+use mathlib.Core.Path.{_≡_, refl, sym, ap, subst, _∙_}
+use native.Mathlib.Numerals.{add-one}
+use native.Mathlib.Omega.{arith}
+use lib.Dec.{eqb}
+use lib.ListN.{length, getD, drop, drop-of-length-le}
+use lib.IntN.{ℤ}
+use lib.Seq.{drop-cons, sets}
+use mir.Syntax.{w64}
+use mir.Val.{SFits, toZ, ofZ}
+use mir.Facts.{toZ-ofZ}
+use borrow.Author.Tests.{eq-eqb, ne-eqb}
+use Rattle.event.specs.Types.{Details, Override}
+use Rattle.event.specs.Reading.{Reading}
+use Rattle.call_definitions.specs.Occurrence.{withStart}
+use Rattle.override_text.specs.declared.Patch.{Patch}
+use Rattle.override_text.specs.declared.Own.{Own}
+use Rattle.override_text.specs.Inner.Meaning.{overrideIn, detailsIn}
+use Rattle.override_text.specs.Inner.Patched.{patchAt}
+use Rattle.record.specs.declared.Times.{Times}
+use Rattle.record.specs.Inner.Occurrences.{occurrenceRow, Small}
+use Rattle.writer.proofs.WriteLaws.{row-length}
+use Rattle.writer.specs.Inner.Details.{patchDetails, detailsBy, Passed, timesFrom, timesIn, patchTimes, rowBy, ownRow}
+
+-- ---- a patch that was read
+
+module _ (s : List ℕ) (own : Details) (at id : ℕ) (p : Patch) (e : overrideIn s id p ≡ patchAt 13 own id s at) where
+  pub patch-times : timesFrom (p .start) (p .days) (p .seconds) (p .busy) (p .allday) ≡ patchTimes own s at id
+  unfolding patchTimes timesIn
+  patch-times = ap (λ (r : Reading Override). timesIn (r .value .details)) e
+
+  pub patch-small : patchTimes own s at id .seconds ≤ 2 ^ 40 → 86400 * p .days + p .seconds ≤ 2 ^ 40
+  unfolding timesFrom
+  patch-small h = subst (λ (t : Times). t .seconds ≤ 2 ^ 40) (sym patch-times) h
+
+-- ---- the loop
+
+abbrev pub Seen : List ℕ → Details → List ℕ → List ℕ → ℕ → ℕ → Type 0
+Seen s own ids places x i = (i ≤ length ids) × (detailsBy s own (drop i ids) (drop i places) x ≡ detailsBy s own ids places x)
+
+module _ (s : List ℕ) (own : Details) (ids places : List ℕ) (even : length ids ≡ length places) (x : ℕ) where
+  one : (i : ℕ) → i < length ids
+      → detailsBy s own (drop i ids) (drop i places) x
+      ≡ detailsBy s own (getD ids i 0 ∷ drop (suc i) ids) (getD places i 0 ∷ drop (suc i) places) x
+  one i h = rw (drop-cons ids i 0 h, drop-cons places i 0 (omega arith))
+
+  pub seen-patch : (i : ℕ) → i < length ids → Seen s own ids places x i → getD ids i 0 ≡ x → patchDetails own s (getD places i 0) x ≡ detailsBy s own ids places x
+  unfolding detailsBy
+  seen-patch i h seen e =
+      let found : detailsBy s own (getD ids i 0 ∷ drop (suc i) ids) (getD places i 0 ∷ drop (suc i) places) x ≡ patchDetails own s (getD places i 0) (getD ids i 0) =
+      rw (eq-eqb (getD ids i 0) x e) refl in
+      ap (patchDetails own s (getD places i 0)) (sym e) ∙ (sym found ∙ (sym (one i h) ∙ seen .1))
+
+  pub seen-here : (i : ℕ) → i < length ids → Seen s own ids places x i → getD ids i 0 ≡ x → patchTimes own s (getD places i 0) x ≡ timesIn (detailsBy s own ids places x)
+  unfolding patchTimes
+  seen-here i h seen e = ap timesIn (seen-patch i h seen e)
+
+  pub seen-next : (i : ℕ) → i < length ids → Seen s own ids places x i → (getD ids i 0 ≡ x → ⊥) → Seen s own ids places x (i + 1)
+  unfolding detailsBy
+  seen-next i h seen differ =
+      let passed : detailsBy s own (getD ids i 0 ∷ drop (suc i) ids) (getD places i 0 ∷ drop (suc i) places) x ≡ detailsBy s own (drop (suc i) ids) (drop (suc i) places) x =
+      rw (ne-eqb (getD ids i 0) x differ) refl in
+      (omega arith, rw (add-one i) (sym passed ∙ (sym (one i h) ∙ seen .1)))
+
+  pub seen-passed : (r : ℕ) → Passed ids x r → Seen s own ids places x r
+  seen-passed zero p = (omega arith, refl)
+  seen-passed (suc r) p =
+      let here : r + 1 ≡ suc r = omega arith in
+      let before : Passed ids x r = record { within = omega (arith, p .within); other = λ j h. p .other j (omega arith) } in
+      subst (Seen s own ids places x) here (seen-next r (omega (arith, p .within)) (seen-passed r before) (p .other r (omega arith)))
+
+  pub seen-own : (i : ℕ) → length ids ≤ i → Seen s own ids places x i → withStart own x ≡ detailsBy s own ids places x
+  unfolding detailsBy
+  seen-own i h seen =
+      let empty : drop i ids ≡ [] = drop-of-length-le ids h in
+      let own-details : detailsBy s own (drop i ids) (drop i places) x ≡ withStart own x = rw empty refl in
+      sym own-details ∙ seen .1
+
+  pub seen-none : (i : ℕ) → length ids ≤ i → Seen s own ids places x i → timesFrom x (own .length .days) (own .length .seconds) (own .busy) (own .allDay) ≡ timesIn (detailsBy s own ids places x)
+  unfolding timesIn withStart
+  seen-none i h seen = ap timesIn (seen-own i h seen)
+
+-- ---- the record: t the times that were found, the initial offset passed by its bits
+
+module _ (fl : Bool) (b : ℤ) (ts ns : List ℤ) (f : SFits w64 b) (x : ℕ) (details : ℕ → Details) (t : Times) (is : t ≡ timesIn (details x)) (at : ℕ) (before after : List ℕ) where
+  pub put-row : after ≡ sets before at (occurrenceRow fl (toZ w64 (ofZ w64 b)) ts ns x t) → after ≡ sets before at (rowBy fl b ts ns details x)
+  unfolding rowBy
+  put-row e = (rw (toZ-ofZ f) at e) ∙ ap (λ (u : Times). sets before at (occurrenceRow fl b ts ns x u)) is
+
+-- ---- where there is no override
+
+module _ (fl : Bool) (b : ℤ) (ts ns : List ℤ) (s : List ℕ) (own : Own) (ids places : List ℕ) (none : length ids ≡ 0) (even : length ids ≡ length places) where
+  own-times : (x : ℕ) → timesFrom x (own .days) (own .seconds) (own .busy) (own .allday) ≡ timesIn (detailsBy s (detailsIn s own) ids places x)
+  own-times x = seen-none s (detailsIn s own) ids places even x 0 (omega arith) (omega arith, refl)
+
+  pub own-row : (x : ℕ) → ownRow fl b ts ns own x ≡ rowBy fl b ts ns (detailsBy s (detailsIn s own) ids places) x
+  unfolding ownRow rowBy
+  own-row x = ap (occurrenceRow fl b ts ns x) (own-times x)
+
+  pub own-small : timesIn (detailsBy s (detailsIn s own) ids places 0) .seconds ≤ 2 ^ 40 → 86400 * own .days + own .seconds ≤ 2 ^ 40
+  unfolding timesFrom
+  own-small h = subst (λ (t : Times). t .seconds ≤ 2 ^ 40) (sym (own-times 0)) h
+
+pub own-length : (fl : Bool) (b : ℤ) (ts ns : List ℤ) (own : Own) (x : ℕ) → length (ownRow fl b ts ns own x) ≡ 28
+unfolding ownRow occurrenceRow
+own-length fl b ts ns own x = row-length _ _ _ _
+
+pub own-is-small : (own : Own) (x : ℕ) (t : Times) → x < 2 ^ 60 → 86400 * own .days + own .seconds ≤ 2 ^ 40 → t ≡ timesFrom x (own .days) (own .seconds) (own .busy) (own .allday) → Small x t
+unfolding timesFrom
+own-is-small own x t low short is = subst (Small x) (sym is) (record { id-small = low; start-small = low; length-small = short })
+
+-- the record that is put
+pub put-own : (fl : Bool) (b : ℤ) (ts ns : List ℤ) (own : Own) (x : ℕ) (t : Times) → t ≡ timesFrom x (own .days) (own .seconds) (own .busy) (own .allday) → (at : ℕ) (before after : List ℕ)
+    → after ≡ sets before at (occurrenceRow fl b ts ns x t) → after ≡ sets before at (ownRow fl b ts ns own x)
+unfolding ownRow
+put-own fl b ts ns own x t is at before after e = e ∙ ap (λ (u : Times). sets before at (occurrenceRow fl b ts ns x u)) is

@@ -1,0 +1,50 @@
+-- The details of an occurrence over the overrides' ids and the places of their patches, and its record.
+use Prim.Native.Nat.{ℕ, _+_, _*_, _<_, _≤_}
+use mathlib.Core.Bool.{Bool}
+use mathlib.Core.List.{List, [], _∷_}
+use mathlib.Core.Path.{_≡_}
+use lib.Dec.{eqb}
+use lib.IntN.{ℤ}
+use lib.ListN.{length, getD}
+use Rattle.signed.specs.Choose.{if_then_else_}
+use Rattle.event.specs.Types.{Details}
+use Rattle.call_definitions.specs.Bytes.{secondsIn}
+use Rattle.call_definitions.specs.Occurrence.{withStart}
+use Rattle.override_text.specs.declared.Own.{Own}
+use Rattle.override_text.specs.Inner.Patched.{patchAt}
+use Rattle.record.specs.declared.Times.{Times}
+use Rattle.record.specs.Inner.Occurrences.{occurrenceRow}
+
+-- A patch stands in the overrides, they in the event: its value has 13 levels left below it.
+abbrev pub patchDetails : Details → List ℕ → ℕ → ℕ → Details
+patchDetails own s at id = patchAt 13 own id s at .value .details
+
+unfoldable pub detailsBy : List ℕ → Details → List ℕ → List ℕ → ℕ → Details
+detailsBy s own [] places x = withStart own x
+detailsBy s own (i ∷ ids) [] x = withStart own x
+detailsBy s own (i ∷ ids) (p ∷ places) x =
+    let rest = detailsBy s own ids places x in
+    if eqb i x then patchDetails own s p i else rest
+
+-- None of the first r ids is x.
+pub record Passed (ids : List ℕ) (x r : ℕ) : Type 0 where
+  pub within : r ≤ length ids
+  pub other : (j : ℕ) → j < r → getD ids j 0 ≡ x → ⊥
+
+unfoldable pub timesFrom : ℕ → ℕ → ℕ → Bool → Bool → Times
+timesFrom start days seconds busy allDay = record { start = start; seconds = 86400 * days + seconds; busy = busy; allday = allDay }
+
+-- What a record says of an occurrence with these details.
+unfoldable pub timesIn : Details → Times
+timesIn d = timesFrom (d .start) (d .length .days) (d .length .seconds) (d .busy) (d .allDay)
+
+unfoldable pub patchTimes : Details → List ℕ → ℕ → ℕ → Times
+patchTimes own s at id = timesIn (patchDetails own s at id)
+
+unfoldable pub rowBy : Bool → ℤ → List ℤ → List ℤ → (ℕ → Details) → ℕ → List ℕ
+rowBy floating initial instants offsets details x = occurrenceRow floating initial instants offsets x (timesIn (details x))
+
+-- The same where no override names x: its details are the event's own.
+unfoldable pub ownRow : Bool → ℤ → List ℤ → List ℤ → Own → ℕ → List ℕ
+ownRow floating initial instants offsets own x =
+    occurrenceRow floating initial instants offsets x (timesFrom x (own .days) (own .seconds) (own .busy) (own .allday))

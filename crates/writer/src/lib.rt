@@ -1,0 +1,16 @@
+// The records of an event's occurrences, written one after the other. A patch is read from the text for each occurrence
+// that it changes, with a table of the ends of the text's values.
+use override_text::Own;
+
+pub mod listed;
+pub mod nothing;
+pub mod runs;
+mod times;
+pub mod whole;
+
+// What the records of an event are made from: its own details, whether it floats, and whether the ids of its overrides increase.
+pub struct Form {
+    pub own: Own,
+    pub floating: bool,
+    pub sorted: bool,
+}

@@ -1,0 +1,99 @@
+// The times of one occurrence, and its record.
+ghost use mathlib.Core.Bool.{true};
+ghost use mathlib.Core.Path.{_≡_};
+ghost use Prim.Native.Nat.{_+_, _*_, _≤_, _^_};
+ghost use lib.ListN.{length};
+ghost use lib.Seq.{sets};
+ghost use Rattle.zone.specs.Table.{validTable};
+ghost use Rattle.json_ends.specs.Inner.Ends.{Ends};
+ghost use Rattle.event.specs.Types.{Length};
+ghost use Rattle.override_text.specs.Inner.Meaning.{detailsIn};
+ghost use Rattle.record.specs.Inner.Occurrences.{Small};
+ghost use Rattle.window.specs.Inner.Sorted.{Ordered};
+ghost use Rattle.writer.specs.Inner.Details.{Passed, detailsBy, timesIn, rowBy, timesFrom, patchTimes};
+use override_text::Own;
+use override_text::patches::patch;
+use record::Times;
+use record::occurrences::put_occurrence;
+use window::sorted::below;
+
+pub(crate) fn times(start: u64, days: u64, seconds: u64, busy: bool, allday: bool) -> Times
+    requires { ⌜ 86400 * days + seconds ≤ 2 ^ 40 ⌝ }
+    ensures { λ r. ⌜ r ≡ timesFrom start days seconds busy allday ⌝ }
+{
+    Times {
+        start,
+        seconds: 86400 * days + seconds,
+        busy,
+        allday,
+    }
+}
+
+// The times of the occurrence `id` after the patch at a place.
+fn patched(text: &[u8], ends: &[u32], at: usize, own: Own, id: u64) -> Times
+    requires { ⌜ Ends (now text) (now ends) × (patchTimes (detailsIn (now text) own) (now text) at id .seconds ≤ 2 ^ 40) ⌝ }
+    ensures { λ r. ⌜ r ≡ patchTimes (detailsIn (now (text .entry)) own) (now (text .entry)) at id ⌝ }
+{
+    let p = patch(text, ends, at, own, id);
+    times(p.start, p.days, p.seconds, p.busy, p.allday)
+}
+
+// Where to look for the override of x: none before names it. Ids that increase need no look at all of them.
+fn look_from(ids: &[u64], sorted: bool, x: u64) -> usize
+    requires { ⌜ Ordered (now ids) sorted ⌝ }
+    ensures { λ r. ⌜ Passed (now (ids .entry)) x r ⌝ }
+{
+    if sorted {
+        return below(ids, x);
+    }
+    0
+}
+
+// The times of the occurrence x: after its patch where an override names it, else the event's own from x on.
+fn times_at(
+    text: &[u8],
+    ends: &[u32],
+    own: Own,
+    ids: &[u64],
+    sorted: bool,
+    places: &[usize],
+    x: u64,
+) -> Times
+    requires { ⌜ (Ends (now text) (now ends) × Ordered (now ids) sorted) × ((length (now ids) ≡ length (now places)) × Small x (timesIn (detailsBy (now text) (detailsIn (now text) own) (now ids) (now places) x))) ⌝ }
+    ensures { λ r. ⌜ r ≡ timesIn (detailsBy (now (text .entry)) (detailsIn (now (text .entry)) own) (now (ids .entry)) (now (places .entry)) x) ⌝ }
+{
+    let mut i = look_from(ids, sorted, x);
+    while i < ids.len() {
+        if ids[i] == x {
+            return patched(text, ends, places[i], own, x);
+        }
+        i += 1;
+    }
+    times(x, own.days, own.seconds, own.busy, own.allday)
+}
+
+// The record of the occurrence x, at a place of the buffer.
+pub(crate) fn put_at(
+    buf: &mut [u8],
+    at: usize,
+    text: &[u8],
+    ends: &[u32],
+    own: Own,
+    ids: &[u64],
+    sorted: bool,
+    places: &[usize],
+    floating: bool,
+    initial: i64,
+    instants: &[i64],
+    offsets: &[i64],
+    hint: &mut usize,
+    x: u64,
+)
+    requires { ⌜ (Ends (now text) (now ends) × Ordered (now ids) sorted) × ((at + 28 ≤ length (now buf)) × ((length (now ids) ≡ length (now places)) × ((validTable initial (now instants) (now offsets) ≡ true)
+        × Small x (timesIn (detailsBy (now text) (detailsIn (now text) own) (now ids) (now places) x))))) ⌝ }
+    ensures { λ _. ⌜ now (buf .exit) ≡ sets (now (buf .entry)) at (rowBy floating initial (now (instants .entry)) (now (offsets .entry))
+        (detailsBy (now (text .entry)) (detailsIn (now (text .entry)) own) (now (ids .entry)) (now (places .entry))) x) ⌝ }
+{
+    let t = times_at(text, ends, own, ids, sorted, places, x);
+    put_occurrence(buf, at, x, t, floating, initial, instants, offsets, hint);
+}

@@ -1,4 +1,0 @@
-pub mod DetailsLaws
-pub mod WriteLaws
-pub mod ChunkLaws
-pub mod ListedLaws

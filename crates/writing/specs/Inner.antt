@@ -1,3 +1,0 @@
-pub mod Details
-pub mod Rows
-pub mod Runs
