@@ -5,10 +5,12 @@ ghost use Rattle.json_text.specs.declared.Read.the-variants.{To};
 ghost use Rattle.json_value.specs.Values.{nameAt, valueAt};
 ghost use Rattle.json_ends.specs.Inner.Ends.{Ends};
 ghost use Rattle.json_ends.specs.Inner.Found.{Found};
-use crate::table::STEP;
 use json_text::Read;
 use json_text::strings::string;
 use json_value::items::colon;
+
+// An entry is an end times this, and the levels that the value was read with.
+pub(crate) const STEP: u32 = 32;
 
 // Keeps the end of the value at a place, which was read with so many levels.
 fn keep(text: &[u8], ends: &mut [u32], at: usize, left: usize, end: usize)

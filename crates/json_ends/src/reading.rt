@@ -1,4 +1,4 @@
-// The reading of a text, as `json_value::values` reads it, with the ends of all names and values kept on the way.
+// The cycle: a value may be an array or an object, and these hold values, one level deeper. All ends are kept on the way.
 ghost use mathlib.Core.Path.{_≡_};
 ghost use Prim.Native.Nat.{_<_};
 ghost use lib.ListN.{length};

@@ -5,13 +5,11 @@ ghost use lib.ListN.{getD};
 ghost use Rattle.json_text.specs.Strings.{stringAt};
 ghost use Rattle.json_value.specs.Values.{valueAt};
 ghost use Rattle.json_ends.specs.Inner.Ends.{Ends};
+use crate::keeping::STEP;
+use crate::reading::value;
 use json_text::Read;
 use json_text::bytes::byte;
 use json_text::strings::string;
-use json_value::values::value;
-
-// An entry is an end times this, and the levels that the value was read with.
-pub(crate) const STEP: u32 = 32;
 
 // The entry of a place; 0 past the end.
 fn entry(ends: &[u32], i: usize) -> u32
@@ -36,17 +34,25 @@ fn levels_of(entry: u32) -> usize
     (entry % STEP) as usize
 }
 
-// The value at a place, as `value` reads it; by one look where the table knows it.
+// The value at a place that the table does not know: it is read, with a table of its own that says nothing.
+fn unknown(text: &[u8], at: usize, left: usize) -> Read
+    ensures { λ r. ⌜ r ≡ valueAt left (now (text .entry)) at ⌝ }
+{
+    let mut none = [0u32; 1];
+    value(text, &mut none, at, left)
+}
+
+// The value at a place; by one look where the table knows it.
 pub(crate) fn past(text: &[u8], ends: &[u32], at: usize, left: usize) -> Read
     requires { ⌜ Ends (now text) (now ends) ⌝ }
     ensures { λ r. ⌜ r ≡ valueAt left (now (text .entry)) at ⌝ }
 {
     let e = entry(ends, at);
     if e < STEP {
-        return value(text, at, left);
+        return unknown(text, at, left);
     }
     if left < levels_of(e) {
-        return value(text, at, left);
+        return unknown(text, at, left);
     }
     Read::To(end_of(e))
 }

@@ -1,12 +1,11 @@
 // What stands between values: commas, colons and brackets, with the white space around them.
 ghost use mathlib.Core.Path.{_≡_};
 ghost use Prim.Native.Nat.{_<_};
-ghost use Rattle.json_value.specs.Values.{afterAt, firstAt, colonAt, nameAt};
+ghost use Rattle.json_value.specs.Values.{afterAt, firstAt, colonAt};
 use crate::Item;
 use json_text::Read;
 use json_text::bytes::byte;
 use json_text::bytes::space;
-use json_text::strings::string;
 
 // After an item: a comma and the next item, or the closing bracket.
 pub fn after(text: &[u8], at: usize, close: u8) -> Item
@@ -45,15 +44,4 @@ pub fn colon(text: &[u8], at: usize) -> Read
         return Read::To(space(text, k + 1));
     }
     Read::Bad
-}
-
-// A member's name and colon, and the place of its value.
-pub(crate) fn name(text: &[u8], at: usize) -> Read
-    ensures { λ r. ⌜ r ≡ nameAt (now (text .entry)) at ⌝ }
-{
-    match string(text, at) {
-        Read::To(j) => colon(text, j),
-        Read::Bad => Read::Bad,
-        Read::Deep => Read::Deep,
-    }
 }

@@ -1,7 +1,5 @@
-// Values of a JSON text: the readers of value, array and object call each other, with the levels that may still be
-// opened falling at each call.
+// Values of a JSON text: their grammar, and the readers of what stands between them.
 pub mod items;
-pub mod values;
 
 // How many levels of arrays and objects a text may open.
 pub const LEVELS: usize = 16;

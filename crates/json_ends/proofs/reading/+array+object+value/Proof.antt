@@ -1,3 +1,4 @@
+-- The cycle of readers: each reads as its definition says, and keeps the table of ends true.
 use Prim.Native.Nat.{_*_, _+_, _-_}
 use Rattle.json_ends.specs.Inner.Ends.{Ends}
 use Rattle.json_value.proofs.Laws.{array-none, array-step, elements-none, elements-step, members-none, members-step, object-none, object-step, value-step}
@@ -55,72 +56,67 @@ value-at t = and 2 value-kinds.ps (is 2 value-kinds.ps μ-value t) value.Pre
 abbrev value-below : ℕ → In 2 value-kinds.ps
 value-below t = and 2 value-kinds.ps (falls 2 value-kinds.ps _<_ μ-value t) value.Pre
 
+-- What each may ask of its callees, and what it learns of them.
+abbrev array-claims : ℕ → array-lts.Claims
+array-claims t = (
+  first-reads.Asked,
+  first-reads.Learnt,
+  value-below t,
+  value.Post,
+  after-reads.Asked,
+  after-reads.Learnt,
+)
+
+abbrev object-claims : ℕ → object-lts.Claims
+object-claims t = (
+  first-reads.Asked,
+  first-reads.Learnt,
+  name-reads.Asked,
+  name-reads.Learnt,
+  value-below t,
+  value.Post,
+  after-reads.Asked,
+  after-reads.Learnt,
+)
+
+abbrev value-claims : ℕ → value-lts.Claims
+value-claims t = (
+  byte-reads.Asked,
+  byte-reads.Learnt,
+  object-below t,
+  object.Post,
+  note-reads.Asked,
+  note-reads.Learnt,
+  array-below t,
+  array.Post,
+  scalar-reads.Asked,
+  scalar-reads.Learnt,
+)
+
 abbrev array-Inv-loop : array-lts.InvT-loop
 array-Inv-loop text ends₀ at left i₀ n₀ ends i n = (elementsAt (λ v. valueAt (left - 1) text v) n text i ≡ arrayAt left text at) × (length ends ≡ length ends₀) × Ends text ends
 
 abbrev array-μ-loop : array-lts.MeasureT-loop
 array-μ-loop text ends₀ at left i₀ n₀ ends i n = n
 
-array-returns : (t : ℕ) → array-lts.Need-returns (
-  first-reads.Asked,
-  first-reads.Learnt,
-  value-below t,
-  value.Post,
-  after-reads.Asked,
-  after-reads.Learnt,
-) (array-at t) array.Post array-Inv-loop array-μ-loop
+array-returns : (t : ℕ) → array-lts.Need-returns (array-claims t) (array-at t) array.Post array-Inv-loop array-μ-loop
 unfolding arrayAt arrayOf
 array-returns t c =
     record { is = rw (array-none _ (c .if1 .taken)); ends = search needs }
 
-array-add-i : (t : ℕ) → array-lts.Need-add-i (
-  first-reads.Asked,
-  first-reads.Learnt,
-  value-below t,
-  value.Post,
-  after-reads.Asked,
-  after-reads.Learnt,
-) (array-at t) array.Post array-Inv-loop array-μ-loop
+array-add-i : (t : ℕ) → array-lts.Need-add-i (array-claims t) (array-at t) array.Post array-Inv-loop array-μ-loop
 array-add-i t c = search needs
 
-array-first-requires : (t : ℕ) → array-lts.Need-first-requires (
-  first-reads.Asked,
-  first-reads.Learnt,
-  value-below t,
-  value.Post,
-  after-reads.Asked,
-  after-reads.Learnt,
-) (array-at t) array.Post array-Inv-loop array-μ-loop
+array-first-requires : (t : ℕ) → array-lts.Need-first-requires (array-claims t) (array-at t) array.Post array-Inv-loop array-μ-loop
 array-first-requires t c κs = search needs
 
-array-enum-known-k : (t : ℕ) → array-lts.Need-enum-known-k (
-  first-reads.Asked,
-  first-reads.Learnt,
-  value-below t,
-  value.Post,
-  after-reads.Asked,
-  after-reads.Learnt,
-) (array-at t) array.Post array-Inv-loop array-μ-loop
+array-enum-known-k : (t : ℕ) → array-lts.Need-enum-known-k (array-claims t) (array-at t) array.Post array-Inv-loop array-μ-loop
 array-enum-known-k t c = search needs
 
-array-enum-known-e : (t : ℕ) → array-lts.Need-enum-known-e (
-  first-reads.Asked,
-  first-reads.Learnt,
-  value-below t,
-  value.Post,
-  after-reads.Asked,
-  after-reads.Learnt,
-) (array-at t) array.Post array-Inv-loop array-μ-loop
+array-enum-known-e : (t : ℕ) → array-lts.Need-enum-known-e (array-claims t) (array-at t) array.Post array-Inv-loop array-μ-loop
 array-enum-known-e t c = search needs
 
-array-returns-2 : (t : ℕ) → array-lts.Need-returns-2 (
-  first-reads.Asked,
-  first-reads.Learnt,
-  value-below t,
-  value.Post,
-  after-reads.Asked,
-  after-reads.Learnt,
-) (array-at t) array.Post array-Inv-loop array-μ-loop
+array-returns-2 : (t : ℕ) → array-lts.Need-returns-2 (array-claims t) (array-at t) array.Post array-Inv-loop array-μ-loop
 unfolding arrayAt arrayOf
 array-returns-2 t c =
     record {
@@ -132,24 +128,10 @@ array-returns-2 t c =
       ends = search needs;
     }
 
-array-enum-told : (t : ℕ) → array-lts.Need-enum-told (
-  first-reads.Asked,
-  first-reads.Learnt,
-  value-below t,
-  value.Post,
-  after-reads.Asked,
-  after-reads.Learnt,
-) (array-at t) array.Post array-Inv-loop array-μ-loop
+array-enum-told : (t : ℕ) → array-lts.Need-enum-told (array-claims t) (array-at t) array.Post array-Inv-loop array-μ-loop
 array-enum-told t c = search needs
 
-array-returns-3 : (t : ℕ) → array-lts.Need-returns-3 (
-  first-reads.Asked,
-  first-reads.Learnt,
-  value-below t,
-  value.Post,
-  after-reads.Asked,
-  after-reads.Learnt,
-) (array-at t) array.Post array-Inv-loop array-μ-loop
+array-returns-3 : (t : ℕ) → array-lts.Need-returns-3 (array-claims t) (array-at t) array.Post array-Inv-loop array-μ-loop
 unfolding arrayAt arrayOf
 array-returns-3 t c =
     record {
@@ -161,14 +143,7 @@ array-returns-3 t c =
       ends = search needs;
     }
 
-array-loop-holds : (t : ℕ) → array-lts.Need-loop-holds (
-  first-reads.Asked,
-  first-reads.Learnt,
-  value-below t,
-  value.Post,
-  after-reads.Asked,
-  after-reads.Learnt,
-) (array-at t) array.Post array-Inv-loop array-μ-loop
+array-loop-holds : (t : ℕ) → array-lts.Need-loop-holds (array-claims t) (array-at t) array.Post array-Inv-loop array-μ-loop
 unfolding arrayAt arrayOf
 array-loop-holds t c = (
   rw (
@@ -180,64 +155,22 @@ array-loop-holds t c = (
   search needs,
 )
 
-array-sub-value : (t : ℕ) → array-lts.Need-sub-value (
-  first-reads.Asked,
-  first-reads.Learnt,
-  value-below t,
-  value.Post,
-  after-reads.Asked,
-  after-reads.Learnt,
-) (array-at t) array.Post array-Inv-loop array-μ-loop
+array-sub-value : (t : ℕ) → array-lts.Need-sub-value (array-claims t) (array-at t) array.Post array-Inv-loop array-μ-loop
 array-sub-value t c = search needs
 
-array-value-requires : (t : ℕ) → array-lts.Need-value-requires (
-  first-reads.Asked,
-  first-reads.Learnt,
-  value-below t,
-  value.Post,
-  after-reads.Asked,
-  after-reads.Learnt,
-) (array-at t) array.Post array-Inv-loop array-μ-loop
+array-value-requires : (t : ℕ) → array-lts.Need-value-requires (array-claims t) (array-at t) array.Post array-Inv-loop array-μ-loop
 array-value-requires t c κs = search needs
 
-array-enum-known-j : (t : ℕ) → array-lts.Need-enum-known-j (
-  first-reads.Asked,
-  first-reads.Learnt,
-  value-below t,
-  value.Post,
-  after-reads.Asked,
-  after-reads.Learnt,
-) (array-at t) array.Post array-Inv-loop array-μ-loop
+array-enum-known-j : (t : ℕ) → array-lts.Need-enum-known-j (array-claims t) (array-at t) array.Post array-Inv-loop array-μ-loop
 array-enum-known-j t c = search needs
 
-array-enum-told-2 : (t : ℕ) → array-lts.Need-enum-told-2 (
-  first-reads.Asked,
-  first-reads.Learnt,
-  value-below t,
-  value.Post,
-  after-reads.Asked,
-  after-reads.Learnt,
-) (array-at t) array.Post array-Inv-loop array-μ-loop
+array-enum-told-2 : (t : ℕ) → array-lts.Need-enum-told-2 (array-claims t) (array-at t) array.Post array-Inv-loop array-μ-loop
 array-enum-told-2 t c = search needs
 
-array-same-length : (t : ℕ) → array-lts.Need-same-length (
-  first-reads.Asked,
-  first-reads.Learnt,
-  value-below t,
-  value.Post,
-  after-reads.Asked,
-  after-reads.Learnt,
-) (array-at t) array.Post array-Inv-loop array-μ-loop
+array-same-length : (t : ℕ) → array-lts.Need-same-length (array-claims t) (array-at t) array.Post array-Inv-loop array-μ-loop
 array-same-length t c = search needs
 
-array-returns-4 : (t : ℕ) → array-lts.Need-returns-4 (
-  first-reads.Asked,
-  first-reads.Learnt,
-  value-below t,
-  value.Post,
-  after-reads.Asked,
-  after-reads.Learnt,
-) (array-at t) array.Post array-Inv-loop array-μ-loop
+array-returns-4 : (t : ℕ) → array-lts.Need-returns-4 (array-claims t) (array-at t) array.Post array-Inv-loop array-μ-loop
 unfolding arrayAt arrayOf
 array-returns-4 t c =
     record {
@@ -250,34 +183,13 @@ array-returns-4 t c =
       ends = search needs;
     }
 
-array-enum-told-3 : (t : ℕ) → array-lts.Need-enum-told-3 (
-  first-reads.Asked,
-  first-reads.Learnt,
-  value-below t,
-  value.Post,
-  after-reads.Asked,
-  after-reads.Learnt,
-) (array-at t) array.Post array-Inv-loop array-μ-loop
+array-enum-told-3 : (t : ℕ) → array-lts.Need-enum-told-3 (array-claims t) (array-at t) array.Post array-Inv-loop array-μ-loop
 array-enum-told-3 t c = search needs
 
-array-same-length-2 : (t : ℕ) → array-lts.Need-same-length-2 (
-  first-reads.Asked,
-  first-reads.Learnt,
-  value-below t,
-  value.Post,
-  after-reads.Asked,
-  after-reads.Learnt,
-) (array-at t) array.Post array-Inv-loop array-μ-loop
+array-same-length-2 : (t : ℕ) → array-lts.Need-same-length-2 (array-claims t) (array-at t) array.Post array-Inv-loop array-μ-loop
 array-same-length-2 t c = search needs
 
-array-returns-5 : (t : ℕ) → array-lts.Need-returns-5 (
-  first-reads.Asked,
-  first-reads.Learnt,
-  value-below t,
-  value.Post,
-  after-reads.Asked,
-  after-reads.Learnt,
-) (array-at t) array.Post array-Inv-loop array-μ-loop
+array-returns-5 : (t : ℕ) → array-lts.Need-returns-5 (array-claims t) (array-at t) array.Post array-Inv-loop array-μ-loop
 unfolding arrayAt arrayOf
 array-returns-5 t c =
     record {
@@ -290,54 +202,19 @@ array-returns-5 t c =
       ends = search needs;
     }
 
-array-after-requires : (t : ℕ) → array-lts.Need-after-requires (
-  first-reads.Asked,
-  first-reads.Learnt,
-  value-below t,
-  value.Post,
-  after-reads.Asked,
-  after-reads.Learnt,
-) (array-at t) array.Post array-Inv-loop array-μ-loop
+array-after-requires : (t : ℕ) → array-lts.Need-after-requires (array-claims t) (array-at t) array.Post array-Inv-loop array-μ-loop
 array-after-requires t c κs = search needs
 
-array-enum-known-k-2 : (t : ℕ) → array-lts.Need-enum-known-k-2 (
-  first-reads.Asked,
-  first-reads.Learnt,
-  value-below t,
-  value.Post,
-  after-reads.Asked,
-  after-reads.Learnt,
-) (array-at t) array.Post array-Inv-loop array-μ-loop
+array-enum-known-k-2 : (t : ℕ) → array-lts.Need-enum-known-k-2 (array-claims t) (array-at t) array.Post array-Inv-loop array-μ-loop
 array-enum-known-k-2 t c = search needs
 
-array-enum-known-e-2 : (t : ℕ) → array-lts.Need-enum-known-e-2 (
-  first-reads.Asked,
-  first-reads.Learnt,
-  value-below t,
-  value.Post,
-  after-reads.Asked,
-  after-reads.Learnt,
-) (array-at t) array.Post array-Inv-loop array-μ-loop
+array-enum-known-e-2 : (t : ℕ) → array-lts.Need-enum-known-e-2 (array-claims t) (array-at t) array.Post array-Inv-loop array-μ-loop
 array-enum-known-e-2 t c = search needs
 
-array-same-length-3 : (t : ℕ) → array-lts.Need-same-length-3 (
-  first-reads.Asked,
-  first-reads.Learnt,
-  value-below t,
-  value.Post,
-  after-reads.Asked,
-  after-reads.Learnt,
-) (array-at t) array.Post array-Inv-loop array-μ-loop
+array-same-length-3 : (t : ℕ) → array-lts.Need-same-length-3 (array-claims t) (array-at t) array.Post array-Inv-loop array-μ-loop
 array-same-length-3 t c = search needs
 
-array-returns-6 : (t : ℕ) → array-lts.Need-returns-6 (
-  first-reads.Asked,
-  first-reads.Learnt,
-  value-below t,
-  value.Post,
-  after-reads.Asked,
-  after-reads.Learnt,
-) (array-at t) array.Post array-Inv-loop array-μ-loop
+array-returns-6 : (t : ℕ) → array-lts.Need-returns-6 (array-claims t) (array-at t) array.Post array-Inv-loop array-μ-loop
 unfolding arrayAt arrayOf
 array-returns-6 t c =
     record {
@@ -352,34 +229,13 @@ array-returns-6 t c =
       ends = search needs;
     }
 
-array-enum-told-4 : (t : ℕ) → array-lts.Need-enum-told-4 (
-  first-reads.Asked,
-  first-reads.Learnt,
-  value-below t,
-  value.Post,
-  after-reads.Asked,
-  after-reads.Learnt,
-) (array-at t) array.Post array-Inv-loop array-μ-loop
+array-enum-told-4 : (t : ℕ) → array-lts.Need-enum-told-4 (array-claims t) (array-at t) array.Post array-Inv-loop array-μ-loop
 array-enum-told-4 t c = search needs
 
-array-same-length-4 : (t : ℕ) → array-lts.Need-same-length-4 (
-  first-reads.Asked,
-  first-reads.Learnt,
-  value-below t,
-  value.Post,
-  after-reads.Asked,
-  after-reads.Learnt,
-) (array-at t) array.Post array-Inv-loop array-μ-loop
+array-same-length-4 : (t : ℕ) → array-lts.Need-same-length-4 (array-claims t) (array-at t) array.Post array-Inv-loop array-μ-loop
 array-same-length-4 t c = search needs
 
-array-returns-7 : (t : ℕ) → array-lts.Need-returns-7 (
-  first-reads.Asked,
-  first-reads.Learnt,
-  value-below t,
-  value.Post,
-  after-reads.Asked,
-  after-reads.Learnt,
-) (array-at t) array.Post array-Inv-loop array-μ-loop
+array-returns-7 : (t : ℕ) → array-lts.Need-returns-7 (array-claims t) (array-at t) array.Post array-Inv-loop array-μ-loop
 unfolding arrayAt arrayOf
 array-returns-7 t c =
     record {
@@ -394,34 +250,13 @@ array-returns-7 t c =
       ends = search needs;
     }
 
-array-sub-n : (t : ℕ) → array-lts.Need-sub-n (
-  first-reads.Asked,
-  first-reads.Learnt,
-  value-below t,
-  value.Post,
-  after-reads.Asked,
-  after-reads.Learnt,
-) (array-at t) array.Post array-Inv-loop array-μ-loop
+array-sub-n : (t : ℕ) → array-lts.Need-sub-n (array-claims t) (array-at t) array.Post array-Inv-loop array-μ-loop
 array-sub-n t c = search needs
 
-array-loop-less : (t : ℕ) → array-lts.Need-loop-less (
-  first-reads.Asked,
-  first-reads.Learnt,
-  value-below t,
-  value.Post,
-  after-reads.Asked,
-  after-reads.Learnt,
-) (array-at t) array.Post array-Inv-loop array-μ-loop
+array-loop-less : (t : ℕ) → array-lts.Need-loop-less (array-claims t) (array-at t) array.Post array-Inv-loop array-μ-loop
 array-loop-less t c = search needs
 
-array-loop-again : (t : ℕ) → array-lts.Need-loop-again (
-  first-reads.Asked,
-  first-reads.Learnt,
-  value-below t,
-  value.Post,
-  after-reads.Asked,
-  after-reads.Learnt,
-) (array-at t) array.Post array-Inv-loop array-μ-loop
+array-loop-again : (t : ℕ) → array-lts.Need-loop-again (array-claims t) (array-at t) array.Post array-Inv-loop array-μ-loop
 unfolding arrayAt arrayOf
 array-loop-again t c = (
   rw (
@@ -436,24 +271,10 @@ array-loop-again t c = (
   search needs,
 )
 
-array-same-length-5 : (t : ℕ) → array-lts.Need-same-length-5 (
-  first-reads.Asked,
-  first-reads.Learnt,
-  value-below t,
-  value.Post,
-  after-reads.Asked,
-  after-reads.Learnt,
-) (array-at t) array.Post array-Inv-loop array-μ-loop
+array-same-length-5 : (t : ℕ) → array-lts.Need-same-length-5 (array-claims t) (array-at t) array.Post array-Inv-loop array-μ-loop
 array-same-length-5 t c = search needs
 
-array-returns-8 : (t : ℕ) → array-lts.Need-returns-8 (
-  first-reads.Asked,
-  first-reads.Learnt,
-  value-below t,
-  value.Post,
-  after-reads.Asked,
-  after-reads.Learnt,
-) (array-at t) array.Post array-Inv-loop array-μ-loop
+array-returns-8 : (t : ℕ) → array-lts.Need-returns-8 (array-claims t) (array-at t) array.Post array-Inv-loop array-μ-loop
 unfolding arrayAt arrayOf
 array-returns-8 t c =
     record {
@@ -470,78 +291,24 @@ object-Inv-loop text ends₀ at left i₀ n₀ ends i n = (membersAt (λ v. valu
 abbrev object-μ-loop : object-lts.MeasureT-loop
 object-μ-loop text ends₀ at left i₀ n₀ ends i n = n
 
-object-returns : (t : ℕ) → object-lts.Need-returns (
-  first-reads.Asked,
-  first-reads.Learnt,
-  name-reads.Asked,
-  name-reads.Learnt,
-  value-below t,
-  value.Post,
-  after-reads.Asked,
-  after-reads.Learnt,
-) (object-at t) object.Post object-Inv-loop object-μ-loop
+object-returns : (t : ℕ) → object-lts.Need-returns (object-claims t) (object-at t) object.Post object-Inv-loop object-μ-loop
 unfolding objectAt objectOf
 object-returns t c =
     record { is = rw (object-none _ (c .if1 .taken)); ends = search needs }
 
-object-add-i : (t : ℕ) → object-lts.Need-add-i (
-  first-reads.Asked,
-  first-reads.Learnt,
-  name-reads.Asked,
-  name-reads.Learnt,
-  value-below t,
-  value.Post,
-  after-reads.Asked,
-  after-reads.Learnt,
-) (object-at t) object.Post object-Inv-loop object-μ-loop
+object-add-i : (t : ℕ) → object-lts.Need-add-i (object-claims t) (object-at t) object.Post object-Inv-loop object-μ-loop
 object-add-i t c = search needs
 
-object-first-requires : (t : ℕ) → object-lts.Need-first-requires (
-  first-reads.Asked,
-  first-reads.Learnt,
-  name-reads.Asked,
-  name-reads.Learnt,
-  value-below t,
-  value.Post,
-  after-reads.Asked,
-  after-reads.Learnt,
-) (object-at t) object.Post object-Inv-loop object-μ-loop
+object-first-requires : (t : ℕ) → object-lts.Need-first-requires (object-claims t) (object-at t) object.Post object-Inv-loop object-μ-loop
 object-first-requires t c κs = search needs
 
-object-enum-known-k : (t : ℕ) → object-lts.Need-enum-known-k (
-  first-reads.Asked,
-  first-reads.Learnt,
-  name-reads.Asked,
-  name-reads.Learnt,
-  value-below t,
-  value.Post,
-  after-reads.Asked,
-  after-reads.Learnt,
-) (object-at t) object.Post object-Inv-loop object-μ-loop
+object-enum-known-k : (t : ℕ) → object-lts.Need-enum-known-k (object-claims t) (object-at t) object.Post object-Inv-loop object-μ-loop
 object-enum-known-k t c = search needs
 
-object-enum-known-e : (t : ℕ) → object-lts.Need-enum-known-e (
-  first-reads.Asked,
-  first-reads.Learnt,
-  name-reads.Asked,
-  name-reads.Learnt,
-  value-below t,
-  value.Post,
-  after-reads.Asked,
-  after-reads.Learnt,
-) (object-at t) object.Post object-Inv-loop object-μ-loop
+object-enum-known-e : (t : ℕ) → object-lts.Need-enum-known-e (object-claims t) (object-at t) object.Post object-Inv-loop object-μ-loop
 object-enum-known-e t c = search needs
 
-object-returns-2 : (t : ℕ) → object-lts.Need-returns-2 (
-  first-reads.Asked,
-  first-reads.Learnt,
-  name-reads.Asked,
-  name-reads.Learnt,
-  value-below t,
-  value.Post,
-  after-reads.Asked,
-  after-reads.Learnt,
-) (object-at t) object.Post object-Inv-loop object-μ-loop
+object-returns-2 : (t : ℕ) → object-lts.Need-returns-2 (object-claims t) (object-at t) object.Post object-Inv-loop object-μ-loop
 unfolding objectAt objectOf
 object-returns-2 t c =
     record {
@@ -553,28 +320,10 @@ object-returns-2 t c =
       ends = search needs;
     }
 
-object-enum-told : (t : ℕ) → object-lts.Need-enum-told (
-  first-reads.Asked,
-  first-reads.Learnt,
-  name-reads.Asked,
-  name-reads.Learnt,
-  value-below t,
-  value.Post,
-  after-reads.Asked,
-  after-reads.Learnt,
-) (object-at t) object.Post object-Inv-loop object-μ-loop
+object-enum-told : (t : ℕ) → object-lts.Need-enum-told (object-claims t) (object-at t) object.Post object-Inv-loop object-μ-loop
 object-enum-told t c = search needs
 
-object-returns-3 : (t : ℕ) → object-lts.Need-returns-3 (
-  first-reads.Asked,
-  first-reads.Learnt,
-  name-reads.Asked,
-  name-reads.Learnt,
-  value-below t,
-  value.Post,
-  after-reads.Asked,
-  after-reads.Learnt,
-) (object-at t) object.Post object-Inv-loop object-μ-loop
+object-returns-3 : (t : ℕ) → object-lts.Need-returns-3 (object-claims t) (object-at t) object.Post object-Inv-loop object-μ-loop
 unfolding objectAt objectOf
 object-returns-3 t c =
     record {
@@ -586,16 +335,7 @@ object-returns-3 t c =
       ends = search needs;
     }
 
-object-loop-holds : (t : ℕ) → object-lts.Need-loop-holds (
-  first-reads.Asked,
-  first-reads.Learnt,
-  name-reads.Asked,
-  name-reads.Learnt,
-  value-below t,
-  value.Post,
-  after-reads.Asked,
-  after-reads.Learnt,
-) (object-at t) object.Post object-Inv-loop object-μ-loop
+object-loop-holds : (t : ℕ) → object-lts.Need-loop-holds (object-claims t) (object-at t) object.Post object-Inv-loop object-μ-loop
 unfolding objectAt objectOf
 object-loop-holds t c = (
   rw (
@@ -607,64 +347,19 @@ object-loop-holds t c = (
   search needs,
 )
 
-object-name-requires : (t : ℕ) → object-lts.Need-name-requires (
-  first-reads.Asked,
-  first-reads.Learnt,
-  name-reads.Asked,
-  name-reads.Learnt,
-  value-below t,
-  value.Post,
-  after-reads.Asked,
-  after-reads.Learnt,
-) (object-at t) object.Post object-Inv-loop object-μ-loop
+object-name-requires : (t : ℕ) → object-lts.Need-name-requires (object-claims t) (object-at t) object.Post object-Inv-loop object-μ-loop
 object-name-requires t c κs = search needs
 
-object-enum-known-v : (t : ℕ) → object-lts.Need-enum-known-v (
-  first-reads.Asked,
-  first-reads.Learnt,
-  name-reads.Asked,
-  name-reads.Learnt,
-  value-below t,
-  value.Post,
-  after-reads.Asked,
-  after-reads.Learnt,
-) (object-at t) object.Post object-Inv-loop object-μ-loop
+object-enum-known-v : (t : ℕ) → object-lts.Need-enum-known-v (object-claims t) (object-at t) object.Post object-Inv-loop object-μ-loop
 object-enum-known-v t c = search needs
 
-object-enum-told-2 : (t : ℕ) → object-lts.Need-enum-told-2 (
-  first-reads.Asked,
-  first-reads.Learnt,
-  name-reads.Asked,
-  name-reads.Learnt,
-  value-below t,
-  value.Post,
-  after-reads.Asked,
-  after-reads.Learnt,
-) (object-at t) object.Post object-Inv-loop object-μ-loop
+object-enum-told-2 : (t : ℕ) → object-lts.Need-enum-told-2 (object-claims t) (object-at t) object.Post object-Inv-loop object-μ-loop
 object-enum-told-2 t c = search needs
 
-object-same-length : (t : ℕ) → object-lts.Need-same-length (
-  first-reads.Asked,
-  first-reads.Learnt,
-  name-reads.Asked,
-  name-reads.Learnt,
-  value-below t,
-  value.Post,
-  after-reads.Asked,
-  after-reads.Learnt,
-) (object-at t) object.Post object-Inv-loop object-μ-loop
+object-same-length : (t : ℕ) → object-lts.Need-same-length (object-claims t) (object-at t) object.Post object-Inv-loop object-μ-loop
 object-same-length t c = search needs
 
-object-returns-4 : (t : ℕ) → object-lts.Need-returns-4 (
-  first-reads.Asked,
-  first-reads.Learnt,
-  name-reads.Asked,
-  name-reads.Learnt,
-  value-below t,
-  value.Post,
-  after-reads.Asked,
-  after-reads.Learnt,
-) (object-at t) object.Post object-Inv-loop object-μ-loop
+object-returns-4 : (t : ℕ) → object-lts.Need-returns-4 (object-claims t) (object-at t) object.Post object-Inv-loop object-μ-loop
 unfolding objectAt objectOf
 object-returns-4 t c =
     record {
@@ -677,40 +372,13 @@ object-returns-4 t c =
       ends = search needs;
     }
 
-object-enum-told-3 : (t : ℕ) → object-lts.Need-enum-told-3 (
-  first-reads.Asked,
-  first-reads.Learnt,
-  name-reads.Asked,
-  name-reads.Learnt,
-  value-below t,
-  value.Post,
-  after-reads.Asked,
-  after-reads.Learnt,
-) (object-at t) object.Post object-Inv-loop object-μ-loop
+object-enum-told-3 : (t : ℕ) → object-lts.Need-enum-told-3 (object-claims t) (object-at t) object.Post object-Inv-loop object-μ-loop
 object-enum-told-3 t c = search needs
 
-object-same-length-2 : (t : ℕ) → object-lts.Need-same-length-2 (
-  first-reads.Asked,
-  first-reads.Learnt,
-  name-reads.Asked,
-  name-reads.Learnt,
-  value-below t,
-  value.Post,
-  after-reads.Asked,
-  after-reads.Learnt,
-) (object-at t) object.Post object-Inv-loop object-μ-loop
+object-same-length-2 : (t : ℕ) → object-lts.Need-same-length-2 (object-claims t) (object-at t) object.Post object-Inv-loop object-μ-loop
 object-same-length-2 t c = search needs
 
-object-returns-5 : (t : ℕ) → object-lts.Need-returns-5 (
-  first-reads.Asked,
-  first-reads.Learnt,
-  name-reads.Asked,
-  name-reads.Learnt,
-  value-below t,
-  value.Post,
-  after-reads.Asked,
-  after-reads.Learnt,
-) (object-at t) object.Post object-Inv-loop object-μ-loop
+object-returns-5 : (t : ℕ) → object-lts.Need-returns-5 (object-claims t) (object-at t) object.Post object-Inv-loop object-μ-loop
 unfolding objectAt objectOf
 object-returns-5 t c =
     record {
@@ -723,76 +391,22 @@ object-returns-5 t c =
       ends = search needs;
     }
 
-object-sub-value : (t : ℕ) → object-lts.Need-sub-value (
-  first-reads.Asked,
-  first-reads.Learnt,
-  name-reads.Asked,
-  name-reads.Learnt,
-  value-below t,
-  value.Post,
-  after-reads.Asked,
-  after-reads.Learnt,
-) (object-at t) object.Post object-Inv-loop object-μ-loop
+object-sub-value : (t : ℕ) → object-lts.Need-sub-value (object-claims t) (object-at t) object.Post object-Inv-loop object-μ-loop
 object-sub-value t c = search needs
 
-object-value-requires : (t : ℕ) → object-lts.Need-value-requires (
-  first-reads.Asked,
-  first-reads.Learnt,
-  name-reads.Asked,
-  name-reads.Learnt,
-  value-below t,
-  value.Post,
-  after-reads.Asked,
-  after-reads.Learnt,
-) (object-at t) object.Post object-Inv-loop object-μ-loop
+object-value-requires : (t : ℕ) → object-lts.Need-value-requires (object-claims t) (object-at t) object.Post object-Inv-loop object-μ-loop
 object-value-requires t c κs = search needs
 
-object-enum-known-j : (t : ℕ) → object-lts.Need-enum-known-j (
-  first-reads.Asked,
-  first-reads.Learnt,
-  name-reads.Asked,
-  name-reads.Learnt,
-  value-below t,
-  value.Post,
-  after-reads.Asked,
-  after-reads.Learnt,
-) (object-at t) object.Post object-Inv-loop object-μ-loop
+object-enum-known-j : (t : ℕ) → object-lts.Need-enum-known-j (object-claims t) (object-at t) object.Post object-Inv-loop object-μ-loop
 object-enum-known-j t c = search needs
 
-object-enum-told-4 : (t : ℕ) → object-lts.Need-enum-told-4 (
-  first-reads.Asked,
-  first-reads.Learnt,
-  name-reads.Asked,
-  name-reads.Learnt,
-  value-below t,
-  value.Post,
-  after-reads.Asked,
-  after-reads.Learnt,
-) (object-at t) object.Post object-Inv-loop object-μ-loop
+object-enum-told-4 : (t : ℕ) → object-lts.Need-enum-told-4 (object-claims t) (object-at t) object.Post object-Inv-loop object-μ-loop
 object-enum-told-4 t c = search needs
 
-object-same-length-3 : (t : ℕ) → object-lts.Need-same-length-3 (
-  first-reads.Asked,
-  first-reads.Learnt,
-  name-reads.Asked,
-  name-reads.Learnt,
-  value-below t,
-  value.Post,
-  after-reads.Asked,
-  after-reads.Learnt,
-) (object-at t) object.Post object-Inv-loop object-μ-loop
+object-same-length-3 : (t : ℕ) → object-lts.Need-same-length-3 (object-claims t) (object-at t) object.Post object-Inv-loop object-μ-loop
 object-same-length-3 t c = search needs
 
-object-returns-6 : (t : ℕ) → object-lts.Need-returns-6 (
-  first-reads.Asked,
-  first-reads.Learnt,
-  name-reads.Asked,
-  name-reads.Learnt,
-  value-below t,
-  value.Post,
-  after-reads.Asked,
-  after-reads.Learnt,
-) (object-at t) object.Post object-Inv-loop object-μ-loop
+object-returns-6 : (t : ℕ) → object-lts.Need-returns-6 (object-claims t) (object-at t) object.Post object-Inv-loop object-μ-loop
 unfolding objectAt objectOf
 object-returns-6 t c =
     record {
@@ -807,40 +421,13 @@ object-returns-6 t c =
       ends = search needs;
     }
 
-object-enum-told-5 : (t : ℕ) → object-lts.Need-enum-told-5 (
-  first-reads.Asked,
-  first-reads.Learnt,
-  name-reads.Asked,
-  name-reads.Learnt,
-  value-below t,
-  value.Post,
-  after-reads.Asked,
-  after-reads.Learnt,
-) (object-at t) object.Post object-Inv-loop object-μ-loop
+object-enum-told-5 : (t : ℕ) → object-lts.Need-enum-told-5 (object-claims t) (object-at t) object.Post object-Inv-loop object-μ-loop
 object-enum-told-5 t c = search needs
 
-object-same-length-4 : (t : ℕ) → object-lts.Need-same-length-4 (
-  first-reads.Asked,
-  first-reads.Learnt,
-  name-reads.Asked,
-  name-reads.Learnt,
-  value-below t,
-  value.Post,
-  after-reads.Asked,
-  after-reads.Learnt,
-) (object-at t) object.Post object-Inv-loop object-μ-loop
+object-same-length-4 : (t : ℕ) → object-lts.Need-same-length-4 (object-claims t) (object-at t) object.Post object-Inv-loop object-μ-loop
 object-same-length-4 t c = search needs
 
-object-returns-7 : (t : ℕ) → object-lts.Need-returns-7 (
-  first-reads.Asked,
-  first-reads.Learnt,
-  name-reads.Asked,
-  name-reads.Learnt,
-  value-below t,
-  value.Post,
-  after-reads.Asked,
-  after-reads.Learnt,
-) (object-at t) object.Post object-Inv-loop object-μ-loop
+object-returns-7 : (t : ℕ) → object-lts.Need-returns-7 (object-claims t) (object-at t) object.Post object-Inv-loop object-μ-loop
 unfolding objectAt objectOf
 object-returns-7 t c =
     record {
@@ -855,64 +442,19 @@ object-returns-7 t c =
       ends = search needs;
     }
 
-object-after-requires : (t : ℕ) → object-lts.Need-after-requires (
-  first-reads.Asked,
-  first-reads.Learnt,
-  name-reads.Asked,
-  name-reads.Learnt,
-  value-below t,
-  value.Post,
-  after-reads.Asked,
-  after-reads.Learnt,
-) (object-at t) object.Post object-Inv-loop object-μ-loop
+object-after-requires : (t : ℕ) → object-lts.Need-after-requires (object-claims t) (object-at t) object.Post object-Inv-loop object-μ-loop
 object-after-requires t c κs = search needs
 
-object-enum-known-k-2 : (t : ℕ) → object-lts.Need-enum-known-k-2 (
-  first-reads.Asked,
-  first-reads.Learnt,
-  name-reads.Asked,
-  name-reads.Learnt,
-  value-below t,
-  value.Post,
-  after-reads.Asked,
-  after-reads.Learnt,
-) (object-at t) object.Post object-Inv-loop object-μ-loop
+object-enum-known-k-2 : (t : ℕ) → object-lts.Need-enum-known-k-2 (object-claims t) (object-at t) object.Post object-Inv-loop object-μ-loop
 object-enum-known-k-2 t c = search needs
 
-object-enum-known-e-2 : (t : ℕ) → object-lts.Need-enum-known-e-2 (
-  first-reads.Asked,
-  first-reads.Learnt,
-  name-reads.Asked,
-  name-reads.Learnt,
-  value-below t,
-  value.Post,
-  after-reads.Asked,
-  after-reads.Learnt,
-) (object-at t) object.Post object-Inv-loop object-μ-loop
+object-enum-known-e-2 : (t : ℕ) → object-lts.Need-enum-known-e-2 (object-claims t) (object-at t) object.Post object-Inv-loop object-μ-loop
 object-enum-known-e-2 t c = search needs
 
-object-same-length-5 : (t : ℕ) → object-lts.Need-same-length-5 (
-  first-reads.Asked,
-  first-reads.Learnt,
-  name-reads.Asked,
-  name-reads.Learnt,
-  value-below t,
-  value.Post,
-  after-reads.Asked,
-  after-reads.Learnt,
-) (object-at t) object.Post object-Inv-loop object-μ-loop
+object-same-length-5 : (t : ℕ) → object-lts.Need-same-length-5 (object-claims t) (object-at t) object.Post object-Inv-loop object-μ-loop
 object-same-length-5 t c = search needs
 
-object-returns-8 : (t : ℕ) → object-lts.Need-returns-8 (
-  first-reads.Asked,
-  first-reads.Learnt,
-  name-reads.Asked,
-  name-reads.Learnt,
-  value-below t,
-  value.Post,
-  after-reads.Asked,
-  after-reads.Learnt,
-) (object-at t) object.Post object-Inv-loop object-μ-loop
+object-returns-8 : (t : ℕ) → object-lts.Need-returns-8 (object-claims t) (object-at t) object.Post object-Inv-loop object-μ-loop
 unfolding objectAt objectOf
 object-returns-8 t c =
     record {
@@ -929,40 +471,13 @@ object-returns-8 t c =
       ends = search needs;
     }
 
-object-enum-told-6 : (t : ℕ) → object-lts.Need-enum-told-6 (
-  first-reads.Asked,
-  first-reads.Learnt,
-  name-reads.Asked,
-  name-reads.Learnt,
-  value-below t,
-  value.Post,
-  after-reads.Asked,
-  after-reads.Learnt,
-) (object-at t) object.Post object-Inv-loop object-μ-loop
+object-enum-told-6 : (t : ℕ) → object-lts.Need-enum-told-6 (object-claims t) (object-at t) object.Post object-Inv-loop object-μ-loop
 object-enum-told-6 t c = search needs
 
-object-same-length-6 : (t : ℕ) → object-lts.Need-same-length-6 (
-  first-reads.Asked,
-  first-reads.Learnt,
-  name-reads.Asked,
-  name-reads.Learnt,
-  value-below t,
-  value.Post,
-  after-reads.Asked,
-  after-reads.Learnt,
-) (object-at t) object.Post object-Inv-loop object-μ-loop
+object-same-length-6 : (t : ℕ) → object-lts.Need-same-length-6 (object-claims t) (object-at t) object.Post object-Inv-loop object-μ-loop
 object-same-length-6 t c = search needs
 
-object-returns-9 : (t : ℕ) → object-lts.Need-returns-9 (
-  first-reads.Asked,
-  first-reads.Learnt,
-  name-reads.Asked,
-  name-reads.Learnt,
-  value-below t,
-  value.Post,
-  after-reads.Asked,
-  after-reads.Learnt,
-) (object-at t) object.Post object-Inv-loop object-μ-loop
+object-returns-9 : (t : ℕ) → object-lts.Need-returns-9 (object-claims t) (object-at t) object.Post object-Inv-loop object-μ-loop
 unfolding objectAt objectOf
 object-returns-9 t c =
     record {
@@ -979,40 +494,13 @@ object-returns-9 t c =
       ends = search needs;
     }
 
-object-sub-n : (t : ℕ) → object-lts.Need-sub-n (
-  first-reads.Asked,
-  first-reads.Learnt,
-  name-reads.Asked,
-  name-reads.Learnt,
-  value-below t,
-  value.Post,
-  after-reads.Asked,
-  after-reads.Learnt,
-) (object-at t) object.Post object-Inv-loop object-μ-loop
+object-sub-n : (t : ℕ) → object-lts.Need-sub-n (object-claims t) (object-at t) object.Post object-Inv-loop object-μ-loop
 object-sub-n t c = search needs
 
-object-loop-less : (t : ℕ) → object-lts.Need-loop-less (
-  first-reads.Asked,
-  first-reads.Learnt,
-  name-reads.Asked,
-  name-reads.Learnt,
-  value-below t,
-  value.Post,
-  after-reads.Asked,
-  after-reads.Learnt,
-) (object-at t) object.Post object-Inv-loop object-μ-loop
+object-loop-less : (t : ℕ) → object-lts.Need-loop-less (object-claims t) (object-at t) object.Post object-Inv-loop object-μ-loop
 object-loop-less t c = search needs
 
-object-loop-again : (t : ℕ) → object-lts.Need-loop-again (
-  first-reads.Asked,
-  first-reads.Learnt,
-  name-reads.Asked,
-  name-reads.Learnt,
-  value-below t,
-  value.Post,
-  after-reads.Asked,
-  after-reads.Learnt,
-) (object-at t) object.Post object-Inv-loop object-μ-loop
+object-loop-again : (t : ℕ) → object-lts.Need-loop-again (object-claims t) (object-at t) object.Post object-Inv-loop object-μ-loop
 unfolding objectAt objectOf
 object-loop-again t c = (
   rw (
@@ -1029,28 +517,10 @@ object-loop-again t c = (
   search needs,
 )
 
-object-same-length-7 : (t : ℕ) → object-lts.Need-same-length-7 (
-  first-reads.Asked,
-  first-reads.Learnt,
-  name-reads.Asked,
-  name-reads.Learnt,
-  value-below t,
-  value.Post,
-  after-reads.Asked,
-  after-reads.Learnt,
-) (object-at t) object.Post object-Inv-loop object-μ-loop
+object-same-length-7 : (t : ℕ) → object-lts.Need-same-length-7 (object-claims t) (object-at t) object.Post object-Inv-loop object-μ-loop
 object-same-length-7 t c = search needs
 
-object-returns-10 : (t : ℕ) → object-lts.Need-returns-10 (
-  first-reads.Asked,
-  first-reads.Learnt,
-  name-reads.Asked,
-  name-reads.Learnt,
-  value-below t,
-  value.Post,
-  after-reads.Asked,
-  after-reads.Learnt,
-) (object-at t) object.Post object-Inv-loop object-μ-loop
+object-returns-10 : (t : ℕ) → object-lts.Need-returns-10 (object-claims t) (object-at t) object.Post object-Inv-loop object-μ-loop
 unfolding objectAt objectOf
 object-returns-10 t c =
     record {
@@ -1061,200 +531,50 @@ object-returns-10 t c =
       ends = search needs;
     }
 
-value-byte-requires : (t : ℕ) → value-lts.Need-byte-requires (
-  byte-reads.Asked,
-  byte-reads.Learnt,
-  object-below t,
-  object.Post,
-  note-reads.Asked,
-  note-reads.Learnt,
-  array-below t,
-  array.Post,
-  scalar-reads.Asked,
-  scalar-reads.Learnt,
-) (value-at t) value.Post
+value-byte-requires : (t : ℕ) → value-lts.Need-byte-requires (value-claims t) (value-at t) value.Post
 value-byte-requires t c κs = search needs
 
-value-object-requires : (t : ℕ) → value-lts.Need-object-requires (
-  byte-reads.Asked,
-  byte-reads.Learnt,
-  object-below t,
-  object.Post,
-  note-reads.Asked,
-  note-reads.Learnt,
-  array-below t,
-  array.Post,
-  scalar-reads.Asked,
-  scalar-reads.Learnt,
-) (value-at t) value.Post
+value-object-requires : (t : ℕ) → value-lts.Need-object-requires (value-claims t) (value-at t) value.Post
 value-object-requires t c κs = (search needs, (search needs, search needs))
 
-value-note-requires : (t : ℕ) → value-lts.Need-note-requires (
-  byte-reads.Asked,
-  byte-reads.Learnt,
-  object-below t,
-  object.Post,
-  note-reads.Asked,
-  note-reads.Learnt,
-  array-below t,
-  array.Post,
-  scalar-reads.Asked,
-  scalar-reads.Learnt,
-) (value-at t) value.Post
+value-note-requires : (t : ℕ) → value-lts.Need-note-requires (value-claims t) (value-at t) value.Post
 unfolding valueOf
 value-note-requires t c κs = (rw (value-step, ← (c .before .before .before .before .before .before .byte .ensures .is), eq-eqb _ _ (c .before .before .before .before .before .if1 .taken), ← (c .before .before .before .object .ensures .is)), search needs)
 
-value-same-length : (t : ℕ) → value-lts.Need-same-length (
-  byte-reads.Asked,
-  byte-reads.Learnt,
-  object-below t,
-  object.Post,
-  note-reads.Asked,
-  note-reads.Learnt,
-  array-below t,
-  array.Post,
-  scalar-reads.Asked,
-  scalar-reads.Learnt,
-) (value-at t) value.Post
+value-same-length : (t : ℕ) → value-lts.Need-same-length (value-claims t) (value-at t) value.Post
 value-same-length t c = search needs
 
-value-returns : (t : ℕ) → value-lts.Need-returns (
-  byte-reads.Asked,
-  byte-reads.Learnt,
-  object-below t,
-  object.Post,
-  note-reads.Asked,
-  note-reads.Learnt,
-  array-below t,
-  array.Post,
-  scalar-reads.Asked,
-  scalar-reads.Learnt,
-) (value-at t) value.Post
+value-returns : (t : ℕ) → value-lts.Need-returns (value-claims t) (value-at t) value.Post
 value-returns t c = search needs
 
-value-array-requires : (t : ℕ) → value-lts.Need-array-requires (
-  byte-reads.Asked,
-  byte-reads.Learnt,
-  object-below t,
-  object.Post,
-  note-reads.Asked,
-  note-reads.Learnt,
-  array-below t,
-  array.Post,
-  scalar-reads.Asked,
-  scalar-reads.Learnt,
-) (value-at t) value.Post
+value-array-requires : (t : ℕ) → value-lts.Need-array-requires (value-claims t) (value-at t) value.Post
 value-array-requires t c κs = (search needs, (search needs, search needs))
 
-value-note-requires-2 : (t : ℕ) → value-lts.Need-note-requires-2 (
-  byte-reads.Asked,
-  byte-reads.Learnt,
-  object-below t,
-  object.Post,
-  note-reads.Asked,
-  note-reads.Learnt,
-  array-below t,
-  array.Post,
-  scalar-reads.Asked,
-  scalar-reads.Learnt,
-) (value-at t) value.Post
+value-note-requires-2 : (t : ℕ) → value-lts.Need-note-requires-2 (value-claims t) (value-at t) value.Post
 unfolding valueOf
 value-note-requires-2 t c κs = (rw (value-step, ← (c .before .before .before .before .before .before .before .byte .ensures .is), ne-eqb _ _ (c .before .before .before .before .before .before .if1 .left), eq-eqb _ _ (c .before .before .before .before .before .if2 .taken), ← (c .before .before .before .array .ensures .is)), search needs)
 
-value-same-length-2 : (t : ℕ) → value-lts.Need-same-length-2 (
-  byte-reads.Asked,
-  byte-reads.Learnt,
-  object-below t,
-  object.Post,
-  note-reads.Asked,
-  note-reads.Learnt,
-  array-below t,
-  array.Post,
-  scalar-reads.Asked,
-  scalar-reads.Learnt,
-) (value-at t) value.Post
+value-same-length-2 : (t : ℕ) → value-lts.Need-same-length-2 (value-claims t) (value-at t) value.Post
 value-same-length-2 t c = search needs
 
-value-returns-2 : (t : ℕ) → value-lts.Need-returns-2 (
-  byte-reads.Asked,
-  byte-reads.Learnt,
-  object-below t,
-  object.Post,
-  note-reads.Asked,
-  note-reads.Learnt,
-  array-below t,
-  array.Post,
-  scalar-reads.Asked,
-  scalar-reads.Learnt,
-) (value-at t) value.Post
+value-returns-2 : (t : ℕ) → value-lts.Need-returns-2 (value-claims t) (value-at t) value.Post
 value-returns-2 t c = search needs
 
-value-scalar-requires : (t : ℕ) → value-lts.Need-scalar-requires (
-  byte-reads.Asked,
-  byte-reads.Learnt,
-  object-below t,
-  object.Post,
-  note-reads.Asked,
-  note-reads.Learnt,
-  array-below t,
-  array.Post,
-  scalar-reads.Asked,
-  scalar-reads.Learnt,
-) (value-at t) value.Post
+value-scalar-requires : (t : ℕ) → value-lts.Need-scalar-requires (value-claims t) (value-at t) value.Post
 value-scalar-requires t c κs = search needs
 
-value-note-requires-3 : (t : ℕ) → value-lts.Need-note-requires-3 (
-  byte-reads.Asked,
-  byte-reads.Learnt,
-  object-below t,
-  object.Post,
-  note-reads.Asked,
-  note-reads.Learnt,
-  array-below t,
-  array.Post,
-  scalar-reads.Asked,
-  scalar-reads.Learnt,
-) (value-at t) value.Post
+value-note-requires-3 : (t : ℕ) → value-lts.Need-note-requires-3 (value-claims t) (value-at t) value.Post
 unfolding valueOf
 value-note-requires-3 t c κs = (rw (value-step, ← (c .before .before .before .before .byte .ensures .is), ne-eqb _ _ (c .before .before .before .if1 .left), ne-eqb _ _ (c .before .before .if2 .left), ← (c .before .scalar .ensures)), search needs)
 
-value-same-length-3 : (t : ℕ) → value-lts.Need-same-length-3 (
-  byte-reads.Asked,
-  byte-reads.Learnt,
-  object-below t,
-  object.Post,
-  note-reads.Asked,
-  note-reads.Learnt,
-  array-below t,
-  array.Post,
-  scalar-reads.Asked,
-  scalar-reads.Learnt,
-) (value-at t) value.Post
+value-same-length-3 : (t : ℕ) → value-lts.Need-same-length-3 (value-claims t) (value-at t) value.Post
 value-same-length-3 t c = search needs
 
-value-returns-3 : (t : ℕ) → value-lts.Need-returns-3 (
-  byte-reads.Asked,
-  byte-reads.Learnt,
-  object-below t,
-  object.Post,
-  note-reads.Asked,
-  note-reads.Learnt,
-  array-below t,
-  array.Post,
-  scalar-reads.Asked,
-  scalar-reads.Learnt,
-) (value-at t) value.Post
+value-returns-3 : (t : ℕ) → value-lts.Need-returns-3 (value-claims t) (value-at t) value.Post
 value-returns-3 t c = search needs
 
 pub +array+object+value-spec : {M : Type 1} → statement M
-+array+object+value-spec = close μ-array μ-object μ-value (λ t. array-lts.spec (
-  first-reads.Asked,
-  first-reads.Learnt,
-  value-below t,
-  value.Post,
-  after-reads.Asked,
-  after-reads.Learnt,
-)
++array+object+value-spec = close μ-array μ-object μ-value (λ t. array-lts.spec (array-claims t)
     (array-at t)
     array.Post
     array-Inv-loop
@@ -1290,16 +610,7 @@ pub +array+object+value-spec : {M : Type 1} → statement M
     (array-loop-again t)
     (array-same-length-5 t)
     (array-returns-8 t))
-    (λ t. object-lts.spec (
-      first-reads.Asked,
-      first-reads.Learnt,
-      name-reads.Asked,
-      name-reads.Learnt,
-      value-below t,
-      value.Post,
-      after-reads.Asked,
-      after-reads.Learnt,
-    )
+    (λ t. object-lts.spec (object-claims t)
     (object-at t)
     object.Post
     object-Inv-loop
@@ -1343,18 +654,7 @@ pub +array+object+value-spec : {M : Type 1} → statement M
     (object-loop-again t)
     (object-same-length-7 t)
     (object-returns-10 t))
-    λ t. value-lts.spec (
-      byte-reads.Asked,
-      byte-reads.Learnt,
-      object-below t,
-      object.Post,
-      note-reads.Asked,
-      note-reads.Learnt,
-      array-below t,
-      array.Post,
-      scalar-reads.Asked,
-      scalar-reads.Learnt,
-    )
+    λ t. value-lts.spec (value-claims t)
     (value-at t)
     value.Post
     (value-byte-requires t)

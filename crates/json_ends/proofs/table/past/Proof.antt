@@ -1,3 +1,4 @@
+-- A value that the table knows ends where the table says.
 use borrow.Author.Needs.{needs}
 use Rattle.json_ends.proofs.Laws.{ends-say}
 use Rattle.json_ends.proofs.table.past.Statement.{statement}
@@ -6,8 +7,8 @@ use Rattle.json_ends.proofs.table.past.Tie as tie
 entry-requires : tie.Need-entry-requires
 entry-requires c κs = search needs
 
-value-requires : tie.Need-value-requires
-value-requires c κs = search needs
+unknown-requires : tie.Need-unknown-requires
+unknown-requires c κs = search needs
 
 returns : tie.Need-returns
 returns c = search needs
@@ -15,8 +16,8 @@ returns c = search needs
 levels-of-requires : tie.Need-levels-of-requires
 levels-of-requires c κs = search needs
 
-value-requires-2 : tie.Need-value-requires-2
-value-requires-2 c κs = search needs
+unknown-requires-2 : tie.Need-unknown-requires-2
+unknown-requires-2 c κs = search needs
 
 returns-2 : tie.Need-returns-2
 returns-2 c = search needs
@@ -38,10 +39,10 @@ past-spec =
     tie.close
     (tie.spec
     entry-requires
-    value-requires
+    unknown-requires
     returns
     levels-of-requires
-    value-requires-2
+    unknown-requires-2
     returns-2
     end-of-requires
     returns-3)

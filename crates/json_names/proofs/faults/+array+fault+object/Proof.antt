@@ -1,3 +1,4 @@
+-- The cycle of walks: each finds a fault exactly where its definition does.
 use Prim.Native.Nat.{_*_, _+_, _≤_}
 use Rattle.json_names.specs.Inner.Names.{anyElement, faultAt}
 use Rattle.json_names.specs.Inner.Walked.{anyFault}
@@ -62,398 +63,161 @@ object-at t = and 4 object-kinds.ps (is 4 object-kinds.ps μ-object t) object.Pr
 abbrev object-below : ℕ → In 4 object-kinds.ps
 object-below t = and 4 object-kinds.ps (falls 4 object-kinds.ps _<_ μ-object t) object.Pre
 
+-- What each may ask of its callees, and what it learns of them.
+abbrev array-claims : ℕ → array-lts.Claims
+array-claims t = (
+  first-element-reads.Asked,
+  first-element-reads.Learnt,
+  next-element-reads.Asked,
+  next-element-reads.Learnt,
+  opens-reads.Asked,
+  opens-reads.Learnt,
+  fault-below t,
+  fault.Post,
+)
+
+abbrev fault-claims : ℕ → fault-lts.Claims
+fault-claims t = (
+  byte-reads.Asked,
+  byte-reads.Learnt,
+  object-below t,
+  object.Post,
+  array-below t,
+  array.Post,
+)
+
+abbrev object-claims : ℕ → object-lts.Claims
+object-claims t = (
+  first-member-reads.Asked,
+  first-member-reads.Learnt,
+  slash-named-reads.Asked,
+  slash-named-reads.Learnt,
+  pack-reads.Asked,
+  pack-reads.Learnt,
+  append-reads.Asked,
+  append-reads.Learnt,
+  next-member-reads.Asked,
+  next-member-reads.Learnt,
+  opens-reads.Asked,
+  opens-reads.Learnt,
+  fault-below t,
+  fault.Post,
+  repeated-from-reads.Asked,
+  repeated-from-reads.Learnt,
+)
+
 abbrev array-Inv-loop : array-lts.InvT-loop
 array-Inv-loop text ends at left clean base order₀ spare₀ step₀ n₀ order spare step n = (anyElement (λ v. faultAt left text v) (elementsFrom n text step) ≡ anyElement (λ v. faultAt left text v) (elementsOf text at)) × (length order ≡ length order₀) × (length spare ≡ length spare₀)
 
 abbrev array-μ-loop : array-lts.MeasureT-loop
 array-μ-loop text ends at left clean base order₀ spare₀ step₀ n₀ order spare step n = n
 
-array-first-element-requires : (t : ℕ) → array-lts.Need-first-element-requires (
-  first-element-reads.Asked,
-  first-element-reads.Learnt,
-  next-element-reads.Asked,
-  next-element-reads.Learnt,
-  opens-reads.Asked,
-  opens-reads.Learnt,
-  fault-below t,
-  fault.Post,
-) (array-at t) array.Post array-Inv-loop array-μ-loop
+array-first-element-requires : (t : ℕ) → array-lts.Need-first-element-requires (array-claims t) (array-at t) array.Post array-Inv-loop array-μ-loop
 array-first-element-requires t c κs = search needs
 
-array-loop-holds : (t : ℕ) → array-lts.Need-loop-holds (
-  first-element-reads.Asked,
-  first-element-reads.Learnt,
-  next-element-reads.Asked,
-  next-element-reads.Learnt,
-  opens-reads.Asked,
-  opens-reads.Learnt,
-  fault-below t,
-  fault.Post,
-) (array-at t) array.Post array-Inv-loop array-μ-loop
+array-loop-holds : (t : ℕ) → array-lts.Need-loop-holds (array-claims t) (array-at t) array.Post array-Inv-loop array-μ-loop
 unfolding anyElement elementsOf
 array-loop-holds t c = (rw (← (c .first-element .ensures)), search needs, search needs)
 
-array-sub-n : (t : ℕ) → array-lts.Need-sub-n (
-  first-element-reads.Asked,
-  first-element-reads.Learnt,
-  next-element-reads.Asked,
-  next-element-reads.Learnt,
-  opens-reads.Asked,
-  opens-reads.Learnt,
-  fault-below t,
-  fault.Post,
-) (array-at t) array.Post array-Inv-loop array-μ-loop
+array-sub-n : (t : ℕ) → array-lts.Need-sub-n (array-claims t) (array-at t) array.Post array-Inv-loop array-μ-loop
 array-sub-n t c = search needs
 
-array-enum-known-step : (t : ℕ) → array-lts.Need-enum-known-step (
-  first-element-reads.Asked,
-  first-element-reads.Learnt,
-  next-element-reads.Asked,
-  next-element-reads.Learnt,
-  opens-reads.Asked,
-  opens-reads.Learnt,
-  fault-below t,
-  fault.Post,
-) (array-at t) array.Post array-Inv-loop array-μ-loop
+array-enum-known-step : (t : ℕ) → array-lts.Need-enum-known-step (array-claims t) (array-at t) array.Post array-Inv-loop array-μ-loop
 array-enum-known-step t c = search needs
 
-array-next-element-requires : (t : ℕ) → array-lts.Need-next-element-requires (
-  first-element-reads.Asked,
-  first-element-reads.Learnt,
-  next-element-reads.Asked,
-  next-element-reads.Learnt,
-  opens-reads.Asked,
-  opens-reads.Learnt,
-  fault-below t,
-  fault.Post,
-) (array-at t) array.Post array-Inv-loop array-μ-loop
+array-next-element-requires : (t : ℕ) → array-lts.Need-next-element-requires (array-claims t) (array-at t) array.Post array-Inv-loop array-μ-loop
 array-next-element-requires t c κs = search needs
 
-array-opens-requires : (t : ℕ) → array-lts.Need-opens-requires (
-  first-element-reads.Asked,
-  first-element-reads.Learnt,
-  next-element-reads.Asked,
-  next-element-reads.Learnt,
-  opens-reads.Asked,
-  opens-reads.Learnt,
-  fault-below t,
-  fault.Post,
-) (array-at t) array.Post array-Inv-loop array-μ-loop
+array-opens-requires : (t : ℕ) → array-lts.Need-opens-requires (array-claims t) (array-at t) array.Post array-Inv-loop array-μ-loop
 array-opens-requires t c κs = search needs
 
-array-fault-requires : (t : ℕ) → array-lts.Need-fault-requires (
-  first-element-reads.Asked,
-  first-element-reads.Learnt,
-  next-element-reads.Asked,
-  next-element-reads.Learnt,
-  opens-reads.Asked,
-  opens-reads.Learnt,
-  fault-below t,
-  fault.Post,
-) (array-at t) array.Post array-Inv-loop array-μ-loop
+array-fault-requires : (t : ℕ) → array-lts.Need-fault-requires (array-claims t) (array-at t) array.Post array-Inv-loop array-μ-loop
 array-fault-requires t c κs = (search needs, (search needs, search needs, search needs, search needs, search needs))
 
-array-same-length : (t : ℕ) → array-lts.Need-same-length (
-  first-element-reads.Asked,
-  first-element-reads.Learnt,
-  next-element-reads.Asked,
-  next-element-reads.Learnt,
-  opens-reads.Asked,
-  opens-reads.Learnt,
-  fault-below t,
-  fault.Post,
-) (array-at t) array.Post array-Inv-loop array-μ-loop
+array-same-length : (t : ℕ) → array-lts.Need-same-length (array-claims t) (array-at t) array.Post array-Inv-loop array-μ-loop
 array-same-length t c = search needs
 
-array-same-length-2 : (t : ℕ) → array-lts.Need-same-length-2 (
-  first-element-reads.Asked,
-  first-element-reads.Learnt,
-  next-element-reads.Asked,
-  next-element-reads.Learnt,
-  opens-reads.Asked,
-  opens-reads.Learnt,
-  fault-below t,
-  fault.Post,
-) (array-at t) array.Post array-Inv-loop array-μ-loop
+array-same-length-2 : (t : ℕ) → array-lts.Need-same-length-2 (array-claims t) (array-at t) array.Post array-Inv-loop array-μ-loop
 array-same-length-2 t c = search needs
 
-array-returns : (t : ℕ) → array-lts.Need-returns (
-  first-element-reads.Asked,
-  first-element-reads.Learnt,
-  next-element-reads.Asked,
-  next-element-reads.Learnt,
-  opens-reads.Asked,
-  opens-reads.Learnt,
-  fault-below t,
-  fault.Post,
-) (array-at t) array.Post array-Inv-loop array-μ-loop
+array-returns : (t : ℕ) → array-lts.Need-returns (array-claims t) (array-at t) array.Post array-Inv-loop array-μ-loop
 unfolding anyElement
 array-returns t c = rw (← (c .before .before .before .before .before .before .before .before .before .before .before .before .before .before .before .loop .inv .0), c .before .before .before .before .before .before .before .before .before .before .before .before .step .given .1, elements-one _ (c .before .before .before .before .before .before .before .before .before .before .before .before .before .before .loop-test .taken), ← (c .before .before .before .before .before .fault .ensures), c .if2 .taken)
 
-array-loop-less : (t : ℕ) → array-lts.Need-loop-less (
-  first-element-reads.Asked,
-  first-element-reads.Learnt,
-  next-element-reads.Asked,
-  next-element-reads.Learnt,
-  opens-reads.Asked,
-  opens-reads.Learnt,
-  fault-below t,
-  fault.Post,
-) (array-at t) array.Post array-Inv-loop array-μ-loop
+array-loop-less : (t : ℕ) → array-lts.Need-loop-less (array-claims t) (array-at t) array.Post array-Inv-loop array-μ-loop
 array-loop-less t c = search needs
 
-array-loop-again : (t : ℕ) → array-lts.Need-loop-again (
-  first-element-reads.Asked,
-  first-element-reads.Learnt,
-  next-element-reads.Asked,
-  next-element-reads.Learnt,
-  opens-reads.Asked,
-  opens-reads.Learnt,
-  fault-below t,
-  fault.Post,
-) (array-at t) array.Post array-Inv-loop array-μ-loop
+array-loop-again : (t : ℕ) → array-lts.Need-loop-again (array-claims t) (array-at t) array.Post array-Inv-loop array-μ-loop
 unfolding anyElement
 array-loop-again t c = (rw (← (c .before .before .before .before .before .before .before .before .before .before .before .before .before .before .before .loop .inv .0), c .before .before .before .before .before .before .before .before .before .before .before .before .step .given .1, elements-one _ (c .before .before .before .before .before .before .before .before .before .before .before .before .before .before .loop-test .taken), ← (c .before .before .before .before .before .fault .ensures), c .if2 .left, ← (c .before .before .before .before .before .before .before .before .before .before .next-element .ensures)), search needs, search needs)
 
-array-loop-less-2 : (t : ℕ) → array-lts.Need-loop-less-2 (
-  first-element-reads.Asked,
-  first-element-reads.Learnt,
-  next-element-reads.Asked,
-  next-element-reads.Learnt,
-  opens-reads.Asked,
-  opens-reads.Learnt,
-  fault-below t,
-  fault.Post,
-) (array-at t) array.Post array-Inv-loop array-μ-loop
+array-loop-less-2 : (t : ℕ) → array-lts.Need-loop-less-2 (array-claims t) (array-at t) array.Post array-Inv-loop array-μ-loop
 array-loop-less-2 t c = search needs
 
-array-loop-again-2 : (t : ℕ) → array-lts.Need-loop-again-2 (
-  first-element-reads.Asked,
-  first-element-reads.Learnt,
-  next-element-reads.Asked,
-  next-element-reads.Learnt,
-  opens-reads.Asked,
-  opens-reads.Learnt,
-  fault-below t,
-  fault.Post,
-) (array-at t) array.Post array-Inv-loop array-μ-loop
+array-loop-again-2 : (t : ℕ) → array-lts.Need-loop-again-2 (array-claims t) (array-at t) array.Post array-Inv-loop array-μ-loop
 unfolding anyElement
 array-loop-again-2 t c = (rw (← (c .before .before .before .before .before .before .before .loop .inv .0), c .before .before .before .before .step .given .1, elements-one _ (c .before .before .before .before .before .before .loop-test .taken), closed _ _ (sym (c .before .opens .ensures) ∙ c .if1 .left), ← (c .before .before .next-element .ensures)), search needs, search needs)
 
-array-enum-told : (t : ℕ) → array-lts.Need-enum-told (
-  first-element-reads.Asked,
-  first-element-reads.Learnt,
-  next-element-reads.Asked,
-  next-element-reads.Learnt,
-  opens-reads.Asked,
-  opens-reads.Learnt,
-  fault-below t,
-  fault.Post,
-) (array-at t) array.Post array-Inv-loop array-μ-loop
+array-enum-told : (t : ℕ) → array-lts.Need-enum-told (array-claims t) (array-at t) array.Post array-Inv-loop array-μ-loop
 array-enum-told t c = search needs
 
-array-same-length-3 : (t : ℕ) → array-lts.Need-same-length-3 (
-  first-element-reads.Asked,
-  first-element-reads.Learnt,
-  next-element-reads.Asked,
-  next-element-reads.Learnt,
-  opens-reads.Asked,
-  opens-reads.Learnt,
-  fault-below t,
-  fault.Post,
-) (array-at t) array.Post array-Inv-loop array-μ-loop
+array-same-length-3 : (t : ℕ) → array-lts.Need-same-length-3 (array-claims t) (array-at t) array.Post array-Inv-loop array-μ-loop
 array-same-length-3 t c = search needs
 
-array-same-length-4 : (t : ℕ) → array-lts.Need-same-length-4 (
-  first-element-reads.Asked,
-  first-element-reads.Learnt,
-  next-element-reads.Asked,
-  next-element-reads.Learnt,
-  opens-reads.Asked,
-  opens-reads.Learnt,
-  fault-below t,
-  fault.Post,
-) (array-at t) array.Post array-Inv-loop array-μ-loop
+array-same-length-4 : (t : ℕ) → array-lts.Need-same-length-4 (array-claims t) (array-at t) array.Post array-Inv-loop array-μ-loop
 array-same-length-4 t c = search needs
 
-array-returns-2 : (t : ℕ) → array-lts.Need-returns-2 (
-  first-element-reads.Asked,
-  first-element-reads.Learnt,
-  next-element-reads.Asked,
-  next-element-reads.Learnt,
-  opens-reads.Asked,
-  opens-reads.Learnt,
-  fault-below t,
-  fault.Post,
-) (array-at t) array.Post array-Inv-loop array-μ-loop
+array-returns-2 : (t : ℕ) → array-lts.Need-returns-2 (array-claims t) (array-at t) array.Post array-Inv-loop array-μ-loop
 unfolding anyElement
 array-returns-2 t c = rw (← (c .before .before .before .loop .inv .0), c .enum-told .given .1, elements-end)
 
-array-same-length-5 : (t : ℕ) → array-lts.Need-same-length-5 (
-  first-element-reads.Asked,
-  first-element-reads.Learnt,
-  next-element-reads.Asked,
-  next-element-reads.Learnt,
-  opens-reads.Asked,
-  opens-reads.Learnt,
-  fault-below t,
-  fault.Post,
-) (array-at t) array.Post array-Inv-loop array-μ-loop
+array-same-length-5 : (t : ℕ) → array-lts.Need-same-length-5 (array-claims t) (array-at t) array.Post array-Inv-loop array-μ-loop
 array-same-length-5 t c = search needs
 
-array-same-length-6 : (t : ℕ) → array-lts.Need-same-length-6 (
-  first-element-reads.Asked,
-  first-element-reads.Learnt,
-  next-element-reads.Asked,
-  next-element-reads.Learnt,
-  opens-reads.Asked,
-  opens-reads.Learnt,
-  fault-below t,
-  fault.Post,
-) (array-at t) array.Post array-Inv-loop array-μ-loop
+array-same-length-6 : (t : ℕ) → array-lts.Need-same-length-6 (array-claims t) (array-at t) array.Post array-Inv-loop array-μ-loop
 array-same-length-6 t c = search needs
 
-array-returns-3 : (t : ℕ) → array-lts.Need-returns-3 (
-  first-element-reads.Asked,
-  first-element-reads.Learnt,
-  next-element-reads.Asked,
-  next-element-reads.Learnt,
-  opens-reads.Asked,
-  opens-reads.Learnt,
-  fault-below t,
-  fault.Post,
-) (array-at t) array.Post array-Inv-loop array-μ-loop
+array-returns-3 : (t : ℕ) → array-lts.Need-returns-3 (array-claims t) (array-at t) array.Post array-Inv-loop array-μ-loop
 unfolding anyElement
 array-returns-3 t c = rw (← (c .before .loop .inv .0), elements-none _ (c .loop-test .left))
 
-fault-returns : (t : ℕ) → fault-lts.Need-returns (
-  byte-reads.Asked,
-  byte-reads.Learnt,
-  object-below t,
-  object.Post,
-  array-below t,
-  array.Post,
-) (fault-at t) fault.Post
+fault-returns : (t : ℕ) → fault-lts.Need-returns (fault-claims t) (fault-at t) fault.Post
 fault-returns t c = rw (fault-none _ (c .if1 .taken))
 
-fault-byte-requires : (t : ℕ) → fault-lts.Need-byte-requires (
-  byte-reads.Asked,
-  byte-reads.Learnt,
-  object-below t,
-  object.Post,
-  array-below t,
-  array.Post,
-) (fault-at t) fault.Post
+fault-byte-requires : (t : ℕ) → fault-lts.Need-byte-requires (fault-claims t) (fault-at t) fault.Post
 fault-byte-requires t c κs = search needs
 
-fault-sub-object : (t : ℕ) → fault-lts.Need-sub-object (
-  byte-reads.Asked,
-  byte-reads.Learnt,
-  object-below t,
-  object.Post,
-  array-below t,
-  array.Post,
-) (fault-at t) fault.Post
+fault-sub-object : (t : ℕ) → fault-lts.Need-sub-object (fault-claims t) (fault-at t) fault.Post
 fault-sub-object t c = search needs
 
-fault-object-requires : (t : ℕ) → fault-lts.Need-object-requires (
-  byte-reads.Asked,
-  byte-reads.Learnt,
-  object-below t,
-  object.Post,
-  array-below t,
-  array.Post,
-) (fault-at t) fault.Post
+fault-object-requires : (t : ℕ) → fault-lts.Need-object-requires (fault-claims t) (fault-at t) fault.Post
 fault-object-requires t c κs = (search needs, (search needs, search needs, search needs, search needs, search needs, search needs))
 
-fault-same-length : (t : ℕ) → fault-lts.Need-same-length (
-  byte-reads.Asked,
-  byte-reads.Learnt,
-  object-below t,
-  object.Post,
-  array-below t,
-  array.Post,
-) (fault-at t) fault.Post
+fault-same-length : (t : ℕ) → fault-lts.Need-same-length (fault-claims t) (fault-at t) fault.Post
 fault-same-length t c = search needs
 
-fault-same-length-2 : (t : ℕ) → fault-lts.Need-same-length-2 (
-  byte-reads.Asked,
-  byte-reads.Learnt,
-  object-below t,
-  object.Post,
-  array-below t,
-  array.Post,
-) (fault-at t) fault.Post
+fault-same-length-2 : (t : ℕ) → fault-lts.Need-same-length-2 (fault-claims t) (fault-at t) fault.Post
 fault-same-length-2 t c = search needs
 
-fault-returns-2 : (t : ℕ) → fault-lts.Need-returns-2 (
-  byte-reads.Asked,
-  byte-reads.Learnt,
-  object-below t,
-  object.Post,
-  array-below t,
-  array.Post,
-) (fault-at t) fault.Post
+fault-returns-2 : (t : ℕ) → fault-lts.Need-returns-2 (fault-claims t) (fault-at t) fault.Post
 fault-returns-2 t c = rw (fault-step _ (c .before .before .before .before .before .before .before .before .before .if1 .left), ← (c .before .before .before .before .before .before .before .before .byte .ensures .is), eq-eqb _ _ (c .before .before .before .before .before .before .before .if2 .taken), ← (c .before .before .before .before .object .ensures))
 
-fault-sub-array : (t : ℕ) → fault-lts.Need-sub-array (
-  byte-reads.Asked,
-  byte-reads.Learnt,
-  object-below t,
-  object.Post,
-  array-below t,
-  array.Post,
-) (fault-at t) fault.Post
+fault-sub-array : (t : ℕ) → fault-lts.Need-sub-array (fault-claims t) (fault-at t) fault.Post
 fault-sub-array t c = search needs
 
-fault-array-requires : (t : ℕ) → fault-lts.Need-array-requires (
-  byte-reads.Asked,
-  byte-reads.Learnt,
-  object-below t,
-  object.Post,
-  array-below t,
-  array.Post,
-) (fault-at t) fault.Post
+fault-array-requires : (t : ℕ) → fault-lts.Need-array-requires (fault-claims t) (fault-at t) fault.Post
 fault-array-requires t c κs = (search needs, (search needs, search needs, search needs, search needs, search needs, search needs))
 
-fault-same-length-3 : (t : ℕ) → fault-lts.Need-same-length-3 (
-  byte-reads.Asked,
-  byte-reads.Learnt,
-  object-below t,
-  object.Post,
-  array-below t,
-  array.Post,
-) (fault-at t) fault.Post
+fault-same-length-3 : (t : ℕ) → fault-lts.Need-same-length-3 (fault-claims t) (fault-at t) fault.Post
 fault-same-length-3 t c = search needs
 
-fault-same-length-4 : (t : ℕ) → fault-lts.Need-same-length-4 (
-  byte-reads.Asked,
-  byte-reads.Learnt,
-  object-below t,
-  object.Post,
-  array-below t,
-  array.Post,
-) (fault-at t) fault.Post
+fault-same-length-4 : (t : ℕ) → fault-lts.Need-same-length-4 (fault-claims t) (fault-at t) fault.Post
 fault-same-length-4 t c = search needs
 
-fault-returns-3 : (t : ℕ) → fault-lts.Need-returns-3 (
-  byte-reads.Asked,
-  byte-reads.Learnt,
-  object-below t,
-  object.Post,
-  array-below t,
-  array.Post,
-) (fault-at t) fault.Post
+fault-returns-3 : (t : ℕ) → fault-lts.Need-returns-3 (fault-claims t) (fault-at t) fault.Post
 fault-returns-3 t c = rw (fault-step _ (c .before .before .before .before .before .before .before .before .before .before .if1 .left), ← (c .before .before .before .before .before .before .before .before .before .byte .ensures .is), ne-eqb _ _ (c .before .before .before .before .before .before .before .before .if2 .left), eq-eqb _ _ (c .before .before .before .before .before .before .before .if3 .taken), ← (c .before .before .before .before .array .ensures))
 
-fault-returns-4 : (t : ℕ) → fault-lts.Need-returns-4 (
-  byte-reads.Asked,
-  byte-reads.Learnt,
-  object-below t,
-  object.Post,
-  array-below t,
-  array.Post,
-) (fault-at t) fault.Post
+fault-returns-4 : (t : ℕ) → fault-lts.Need-returns-4 (fault-claims t) (fault-at t) fault.Post
 fault-returns-4 t c = rw (fault-step _ (c .before .before .before .if1 .left), ← (c .before .before .byte .ensures .is), ne-eqb _ _ (c .before .if2 .left), ne-eqb _ _ (c .if3 .left))
 
 abbrev object-Inv-loop : object-lts.InvT-loop
@@ -462,266 +226,45 @@ object-Inv-loop text ends at left clean base order₀ spare₀ step₀ k₀ n₀
 abbrev object-μ-loop : object-lts.MeasureT-loop
 object-μ-loop text ends at left clean base order₀ spare₀ step₀ k₀ n₀ order spare step k n = n
 
-object-first-member-requires : (t : ℕ) → object-lts.Need-first-member-requires (
-  first-member-reads.Asked,
-  first-member-reads.Learnt,
-  slash-named-reads.Asked,
-  slash-named-reads.Learnt,
-  pack-reads.Asked,
-  pack-reads.Learnt,
-  append-reads.Asked,
-  append-reads.Learnt,
-  next-member-reads.Asked,
-  next-member-reads.Learnt,
-  opens-reads.Asked,
-  opens-reads.Learnt,
-  fault-below t,
-  fault.Post,
-  repeated-from-reads.Asked,
-  repeated-from-reads.Learnt,
-) (object-at t) object.Post object-Inv-loop object-μ-loop
+object-first-member-requires : (t : ℕ) → object-lts.Need-first-member-requires (object-claims t) (object-at t) object.Post object-Inv-loop object-μ-loop
 object-first-member-requires t c κs = search needs
 
-object-loop-holds : (t : ℕ) → object-lts.Need-loop-holds (
-  first-member-reads.Asked,
-  first-member-reads.Learnt,
-  slash-named-reads.Asked,
-  slash-named-reads.Learnt,
-  pack-reads.Asked,
-  pack-reads.Learnt,
-  append-reads.Asked,
-  append-reads.Learnt,
-  next-member-reads.Asked,
-  next-member-reads.Learnt,
-  opens-reads.Asked,
-  opens-reads.Learnt,
-  fault-below t,
-  fault.Post,
-  repeated-from-reads.Asked,
-  repeated-from-reads.Learnt,
-) (object-at t) object.Post object-Inv-loop object-μ-loop
+object-loop-holds : (t : ℕ) → object-lts.Need-loop-holds (object-claims t) (object-at t) object.Post object-Inv-loop object-μ-loop
 unfolding anyFault membersOf
 object-loop-holds t c = (rw (← (c .first-member .ensures)), search needs, search needs, search needs, search needs)
 
-object-sub-n : (t : ℕ) → object-lts.Need-sub-n (
-  first-member-reads.Asked,
-  first-member-reads.Learnt,
-  slash-named-reads.Asked,
-  slash-named-reads.Learnt,
-  pack-reads.Asked,
-  pack-reads.Learnt,
-  append-reads.Asked,
-  append-reads.Learnt,
-  next-member-reads.Asked,
-  next-member-reads.Learnt,
-  opens-reads.Asked,
-  opens-reads.Learnt,
-  fault-below t,
-  fault.Post,
-  repeated-from-reads.Asked,
-  repeated-from-reads.Learnt,
-) (object-at t) object.Post object-Inv-loop object-μ-loop
+object-sub-n : (t : ℕ) → object-lts.Need-sub-n (object-claims t) (object-at t) object.Post object-Inv-loop object-μ-loop
 object-sub-n t c = search needs
 
-object-enum-known-step : (t : ℕ) → object-lts.Need-enum-known-step (
-  first-member-reads.Asked,
-  first-member-reads.Learnt,
-  slash-named-reads.Asked,
-  slash-named-reads.Learnt,
-  pack-reads.Asked,
-  pack-reads.Learnt,
-  append-reads.Asked,
-  append-reads.Learnt,
-  next-member-reads.Asked,
-  next-member-reads.Learnt,
-  opens-reads.Asked,
-  opens-reads.Learnt,
-  fault-below t,
-  fault.Post,
-  repeated-from-reads.Asked,
-  repeated-from-reads.Learnt,
-) (object-at t) object.Post object-Inv-loop object-μ-loop
+object-enum-known-step : (t : ℕ) → object-lts.Need-enum-known-step (object-claims t) (object-at t) object.Post object-Inv-loop object-μ-loop
 object-enum-known-step t c = search needs
 
-object-slash-named-requires : (t : ℕ) → object-lts.Need-slash-named-requires (
-  first-member-reads.Asked,
-  first-member-reads.Learnt,
-  slash-named-reads.Asked,
-  slash-named-reads.Learnt,
-  pack-reads.Asked,
-  pack-reads.Learnt,
-  append-reads.Asked,
-  append-reads.Learnt,
-  next-member-reads.Asked,
-  next-member-reads.Learnt,
-  opens-reads.Asked,
-  opens-reads.Learnt,
-  fault-below t,
-  fault.Post,
-  repeated-from-reads.Asked,
-  repeated-from-reads.Learnt,
-) (object-at t) object.Post object-Inv-loop object-μ-loop
+object-slash-named-requires : (t : ℕ) → object-lts.Need-slash-named-requires (object-claims t) (object-at t) object.Post object-Inv-loop object-μ-loop
 object-slash-named-requires t c κs = search needs
 
-object-same-length : (t : ℕ) → object-lts.Need-same-length (
-  first-member-reads.Asked,
-  first-member-reads.Learnt,
-  slash-named-reads.Asked,
-  slash-named-reads.Learnt,
-  pack-reads.Asked,
-  pack-reads.Learnt,
-  append-reads.Asked,
-  append-reads.Learnt,
-  next-member-reads.Asked,
-  next-member-reads.Learnt,
-  opens-reads.Asked,
-  opens-reads.Learnt,
-  fault-below t,
-  fault.Post,
-  repeated-from-reads.Asked,
-  repeated-from-reads.Learnt,
-) (object-at t) object.Post object-Inv-loop object-μ-loop
+object-same-length : (t : ℕ) → object-lts.Need-same-length (object-claims t) (object-at t) object.Post object-Inv-loop object-μ-loop
 object-same-length t c = search needs
 
-object-same-length-2 : (t : ℕ) → object-lts.Need-same-length-2 (
-  first-member-reads.Asked,
-  first-member-reads.Learnt,
-  slash-named-reads.Asked,
-  slash-named-reads.Learnt,
-  pack-reads.Asked,
-  pack-reads.Learnt,
-  append-reads.Asked,
-  append-reads.Learnt,
-  next-member-reads.Asked,
-  next-member-reads.Learnt,
-  opens-reads.Asked,
-  opens-reads.Learnt,
-  fault-below t,
-  fault.Post,
-  repeated-from-reads.Asked,
-  repeated-from-reads.Learnt,
-) (object-at t) object.Post object-Inv-loop object-μ-loop
+object-same-length-2 : (t : ℕ) → object-lts.Need-same-length-2 (object-claims t) (object-at t) object.Post object-Inv-loop object-μ-loop
 object-same-length-2 t c = search needs
 
-object-returns : (t : ℕ) → object-lts.Need-returns (
-  first-member-reads.Asked,
-  first-member-reads.Learnt,
-  slash-named-reads.Asked,
-  slash-named-reads.Learnt,
-  pack-reads.Asked,
-  pack-reads.Learnt,
-  append-reads.Asked,
-  append-reads.Learnt,
-  next-member-reads.Asked,
-  next-member-reads.Learnt,
-  opens-reads.Asked,
-  opens-reads.Learnt,
-  fault-below t,
-  fault.Post,
-  repeated-from-reads.Asked,
-  repeated-from-reads.Learnt,
-) (object-at t) object.Post object-Inv-loop object-μ-loop
+object-returns : (t : ℕ) → object-lts.Need-returns (object-claims t) (object-at t) object.Post object-Inv-loop object-μ-loop
 unfolding anyFault
 object-returns t c = rw (object-fault, ← (c .before .before .before .before .before .before .loop .inv .0), c .before .before .before .step .given .1, members-one _ (c .before .before .before .before .before .loop-test .taken), ← (c .before .slash-named .ensures), c .if1 .taken)
 
-object-pack-requires : (t : ℕ) → object-lts.Need-pack-requires (
-  first-member-reads.Asked,
-  first-member-reads.Learnt,
-  slash-named-reads.Asked,
-  slash-named-reads.Learnt,
-  pack-reads.Asked,
-  pack-reads.Learnt,
-  append-reads.Asked,
-  append-reads.Learnt,
-  next-member-reads.Asked,
-  next-member-reads.Learnt,
-  opens-reads.Asked,
-  opens-reads.Learnt,
-  fault-below t,
-  fault.Post,
-  repeated-from-reads.Asked,
-  repeated-from-reads.Learnt,
-) (object-at t) object.Post object-Inv-loop object-μ-loop
+object-pack-requires : (t : ℕ) → object-lts.Need-pack-requires (object-claims t) (object-at t) object.Post object-Inv-loop object-μ-loop
 object-pack-requires t c κs = search needs
 
-object-append-requires : (t : ℕ) → object-lts.Need-append-requires (
-  first-member-reads.Asked,
-  first-member-reads.Learnt,
-  slash-named-reads.Asked,
-  slash-named-reads.Learnt,
-  pack-reads.Asked,
-  pack-reads.Learnt,
-  append-reads.Asked,
-  append-reads.Learnt,
-  next-member-reads.Asked,
-  next-member-reads.Learnt,
-  opens-reads.Asked,
-  opens-reads.Learnt,
-  fault-below t,
-  fault.Post,
-  repeated-from-reads.Asked,
-  repeated-from-reads.Learnt,
-) (object-at t) object.Post object-Inv-loop object-μ-loop
+object-append-requires : (t : ℕ) → object-lts.Need-append-requires (object-claims t) (object-at t) object.Post object-Inv-loop object-μ-loop
 object-append-requires t c κs = search needs
 
-object-next-member-requires : (t : ℕ) → object-lts.Need-next-member-requires (
-  first-member-reads.Asked,
-  first-member-reads.Learnt,
-  slash-named-reads.Asked,
-  slash-named-reads.Learnt,
-  pack-reads.Asked,
-  pack-reads.Learnt,
-  append-reads.Asked,
-  append-reads.Learnt,
-  next-member-reads.Asked,
-  next-member-reads.Learnt,
-  opens-reads.Asked,
-  opens-reads.Learnt,
-  fault-below t,
-  fault.Post,
-  repeated-from-reads.Asked,
-  repeated-from-reads.Learnt,
-) (object-at t) object.Post object-Inv-loop object-μ-loop
+object-next-member-requires : (t : ℕ) → object-lts.Need-next-member-requires (object-claims t) (object-at t) object.Post object-Inv-loop object-μ-loop
 object-next-member-requires t c κs = search needs
 
-object-opens-requires : (t : ℕ) → object-lts.Need-opens-requires (
-  first-member-reads.Asked,
-  first-member-reads.Learnt,
-  slash-named-reads.Asked,
-  slash-named-reads.Learnt,
-  pack-reads.Asked,
-  pack-reads.Learnt,
-  append-reads.Asked,
-  append-reads.Learnt,
-  next-member-reads.Asked,
-  next-member-reads.Learnt,
-  opens-reads.Asked,
-  opens-reads.Learnt,
-  fault-below t,
-  fault.Post,
-  repeated-from-reads.Asked,
-  repeated-from-reads.Learnt,
-) (object-at t) object.Post object-Inv-loop object-μ-loop
+object-opens-requires : (t : ℕ) → object-lts.Need-opens-requires (object-claims t) (object-at t) object.Post object-Inv-loop object-μ-loop
 object-opens-requires t c κs = search needs
 
-object-fault-requires : (t : ℕ) → object-lts.Need-fault-requires (
-  first-member-reads.Asked,
-  first-member-reads.Learnt,
-  slash-named-reads.Asked,
-  slash-named-reads.Learnt,
-  pack-reads.Asked,
-  pack-reads.Learnt,
-  append-reads.Asked,
-  append-reads.Learnt,
-  next-member-reads.Asked,
-  next-member-reads.Learnt,
-  opens-reads.Asked,
-  opens-reads.Learnt,
-  fault-below t,
-  fault.Post,
-  repeated-from-reads.Asked,
-  repeated-from-reads.Learnt,
-) (object-at t) object.Post object-Inv-loop object-μ-loop
+object-fault-requires : (t : ℕ) → object-lts.Need-fault-requires (object-claims t) (object-at t) object.Post object-Inv-loop object-μ-loop
 object-fault-requires t c κs = (
   search needs,
   (
@@ -733,342 +276,61 @@ object-fault-requires t c κs = (
   ),
 )
 
-object-same-length-3 : (t : ℕ) → object-lts.Need-same-length-3 (
-  first-member-reads.Asked,
-  first-member-reads.Learnt,
-  slash-named-reads.Asked,
-  slash-named-reads.Learnt,
-  pack-reads.Asked,
-  pack-reads.Learnt,
-  append-reads.Asked,
-  append-reads.Learnt,
-  next-member-reads.Asked,
-  next-member-reads.Learnt,
-  opens-reads.Asked,
-  opens-reads.Learnt,
-  fault-below t,
-  fault.Post,
-  repeated-from-reads.Asked,
-  repeated-from-reads.Learnt,
-) (object-at t) object.Post object-Inv-loop object-μ-loop
+object-same-length-3 : (t : ℕ) → object-lts.Need-same-length-3 (object-claims t) (object-at t) object.Post object-Inv-loop object-μ-loop
 object-same-length-3 t c = search needs
 
-object-same-length-4 : (t : ℕ) → object-lts.Need-same-length-4 (
-  first-member-reads.Asked,
-  first-member-reads.Learnt,
-  slash-named-reads.Asked,
-  slash-named-reads.Learnt,
-  pack-reads.Asked,
-  pack-reads.Learnt,
-  append-reads.Asked,
-  append-reads.Learnt,
-  next-member-reads.Asked,
-  next-member-reads.Learnt,
-  opens-reads.Asked,
-  opens-reads.Learnt,
-  fault-below t,
-  fault.Post,
-  repeated-from-reads.Asked,
-  repeated-from-reads.Learnt,
-) (object-at t) object.Post object-Inv-loop object-μ-loop
+object-same-length-4 : (t : ℕ) → object-lts.Need-same-length-4 (object-claims t) (object-at t) object.Post object-Inv-loop object-μ-loop
 object-same-length-4 t c = search needs
 
-object-returns-2 : (t : ℕ) → object-lts.Need-returns-2 (
-  first-member-reads.Asked,
-  first-member-reads.Learnt,
-  slash-named-reads.Asked,
-  slash-named-reads.Learnt,
-  pack-reads.Asked,
-  pack-reads.Learnt,
-  append-reads.Asked,
-  append-reads.Learnt,
-  next-member-reads.Asked,
-  next-member-reads.Learnt,
-  opens-reads.Asked,
-  opens-reads.Learnt,
-  fault-below t,
-  fault.Post,
-  repeated-from-reads.Asked,
-  repeated-from-reads.Learnt,
-) (object-at t) object.Post object-Inv-loop object-μ-loop
+object-returns-2 : (t : ℕ) → object-lts.Need-returns-2 (object-claims t) (object-at t) object.Post object-Inv-loop object-μ-loop
 unfolding anyFault
 object-returns-2 t c = rw (object-fault, ← (c .before .before .before .before .before .before .before .before .before .before .before .before .before .before .before .before .before .before .before .before .before .before .loop .inv .0), c .before .before .before .before .before .before .before .before .before .before .before .before .before .before .before .before .before .before .before .step .given .1, members-one _ (c .before .before .before .before .before .before .before .before .before .before .before .before .before .before .before .before .before .before .before .before .before .loop-test .taken), ← (c .before .before .before .before .before .before .before .before .before .before .before .before .before .before .before .before .before .slash-named .ensures), c .before .before .before .before .before .before .before .before .before .before .before .before .before .before .before .before .if1 .left, ← (c .before .before .before .before .before .fault .ensures), c .if3 .taken)
 
-object-loop-less : (t : ℕ) → object-lts.Need-loop-less (
-  first-member-reads.Asked,
-  first-member-reads.Learnt,
-  slash-named-reads.Asked,
-  slash-named-reads.Learnt,
-  pack-reads.Asked,
-  pack-reads.Learnt,
-  append-reads.Asked,
-  append-reads.Learnt,
-  next-member-reads.Asked,
-  next-member-reads.Learnt,
-  opens-reads.Asked,
-  opens-reads.Learnt,
-  fault-below t,
-  fault.Post,
-  repeated-from-reads.Asked,
-  repeated-from-reads.Learnt,
-) (object-at t) object.Post object-Inv-loop object-μ-loop
+object-loop-less : (t : ℕ) → object-lts.Need-loop-less (object-claims t) (object-at t) object.Post object-Inv-loop object-μ-loop
 object-loop-less t c = search needs
 
-object-loop-again : (t : ℕ) → object-lts.Need-loop-again (
-  first-member-reads.Asked,
-  first-member-reads.Learnt,
-  slash-named-reads.Asked,
-  slash-named-reads.Learnt,
-  pack-reads.Asked,
-  pack-reads.Learnt,
-  append-reads.Asked,
-  append-reads.Learnt,
-  next-member-reads.Asked,
-  next-member-reads.Learnt,
-  opens-reads.Asked,
-  opens-reads.Learnt,
-  fault-below t,
-  fault.Post,
-  repeated-from-reads.Asked,
-  repeated-from-reads.Learnt,
-) (object-at t) object.Post object-Inv-loop object-μ-loop
+object-loop-again : (t : ℕ) → object-lts.Need-loop-again (object-claims t) (object-at t) object.Post object-Inv-loop object-μ-loop
 unfolding anyFault
 object-loop-again t c = (rw (← (c .before .before .before .before .before .before .before .before .before .before .before .before .before .before .before .before .before .before .before .before .before .before .loop .inv .0), c .before .before .before .before .before .before .before .before .before .before .before .before .before .before .before .before .before .before .before .step .given .1, members-one _ (c .before .before .before .before .before .before .before .before .before .before .before .before .before .before .before .before .before .before .before .before .before .loop-test .taken), ← (c .before .before .before .before .before .before .before .before .before .before .before .before .before .before .before .before .before .slash-named .ensures), c .before .before .before .before .before .before .before .before .before .before .before .before .before .before .before .before .if1 .left, ← (c .before .before .before .before .before .fault .ensures), c .if3 .left, ← (c .before .before .before .before .before .before .before .before .before .before .next-member .ensures)), search needs, search needs, search needs, search needs)
 
-object-loop-less-2 : (t : ℕ) → object-lts.Need-loop-less-2 (
-  first-member-reads.Asked,
-  first-member-reads.Learnt,
-  slash-named-reads.Asked,
-  slash-named-reads.Learnt,
-  pack-reads.Asked,
-  pack-reads.Learnt,
-  append-reads.Asked,
-  append-reads.Learnt,
-  next-member-reads.Asked,
-  next-member-reads.Learnt,
-  opens-reads.Asked,
-  opens-reads.Learnt,
-  fault-below t,
-  fault.Post,
-  repeated-from-reads.Asked,
-  repeated-from-reads.Learnt,
-) (object-at t) object.Post object-Inv-loop object-μ-loop
+object-loop-less-2 : (t : ℕ) → object-lts.Need-loop-less-2 (object-claims t) (object-at t) object.Post object-Inv-loop object-μ-loop
 object-loop-less-2 t c = search needs
 
-object-loop-again-2 : (t : ℕ) → object-lts.Need-loop-again-2 (
-  first-member-reads.Asked,
-  first-member-reads.Learnt,
-  slash-named-reads.Asked,
-  slash-named-reads.Learnt,
-  pack-reads.Asked,
-  pack-reads.Learnt,
-  append-reads.Asked,
-  append-reads.Learnt,
-  next-member-reads.Asked,
-  next-member-reads.Learnt,
-  opens-reads.Asked,
-  opens-reads.Learnt,
-  fault-below t,
-  fault.Post,
-  repeated-from-reads.Asked,
-  repeated-from-reads.Learnt,
-) (object-at t) object.Post object-Inv-loop object-μ-loop
+object-loop-again-2 : (t : ℕ) → object-lts.Need-loop-again-2 (object-claims t) (object-at t) object.Post object-Inv-loop object-μ-loop
 unfolding anyFault
 object-loop-again-2 t c = (rw (← (c .before .before .before .before .before .before .before .before .before .before .before .before .before .before .loop .inv .0), c .before .before .before .before .before .before .before .before .before .before .before .step .given .1, members-one _ (c .before .before .before .before .before .before .before .before .before .before .before .before .before .loop-test .taken), ← (c .before .before .before .before .before .before .before .before .before .slash-named .ensures), c .before .before .before .before .before .before .before .before .if1 .left, closed _ _ (sym (c .before .opens .ensures) ∙ c .if2 .left), ← (c .before .before .next-member .ensures)), search needs, search needs, search needs, search needs)
 
-object-enum-told : (t : ℕ) → object-lts.Need-enum-told (
-  first-member-reads.Asked,
-  first-member-reads.Learnt,
-  slash-named-reads.Asked,
-  slash-named-reads.Learnt,
-  pack-reads.Asked,
-  pack-reads.Learnt,
-  append-reads.Asked,
-  append-reads.Learnt,
-  next-member-reads.Asked,
-  next-member-reads.Learnt,
-  opens-reads.Asked,
-  opens-reads.Learnt,
-  fault-below t,
-  fault.Post,
-  repeated-from-reads.Asked,
-  repeated-from-reads.Learnt,
-) (object-at t) object.Post object-Inv-loop object-μ-loop
+object-enum-told : (t : ℕ) → object-lts.Need-enum-told (object-claims t) (object-at t) object.Post object-Inv-loop object-μ-loop
 object-enum-told t c = search needs
 
-object-repeated-from-requires : (t : ℕ) → object-lts.Need-repeated-from-requires (
-  first-member-reads.Asked,
-  first-member-reads.Learnt,
-  slash-named-reads.Asked,
-  slash-named-reads.Learnt,
-  pack-reads.Asked,
-  pack-reads.Learnt,
-  append-reads.Asked,
-  append-reads.Learnt,
-  next-member-reads.Asked,
-  next-member-reads.Learnt,
-  opens-reads.Asked,
-  opens-reads.Learnt,
-  fault-below t,
-  fault.Post,
-  repeated-from-reads.Asked,
-  repeated-from-reads.Learnt,
-) (object-at t) object.Post object-Inv-loop object-μ-loop
+object-repeated-from-requires : (t : ℕ) → object-lts.Need-repeated-from-requires (object-claims t) (object-at t) object.Post object-Inv-loop object-μ-loop
 object-repeated-from-requires t c κs = search needs
 
-object-same-length-5 : (t : ℕ) → object-lts.Need-same-length-5 (
-  first-member-reads.Asked,
-  first-member-reads.Learnt,
-  slash-named-reads.Asked,
-  slash-named-reads.Learnt,
-  pack-reads.Asked,
-  pack-reads.Learnt,
-  append-reads.Asked,
-  append-reads.Learnt,
-  next-member-reads.Asked,
-  next-member-reads.Learnt,
-  opens-reads.Asked,
-  opens-reads.Learnt,
-  fault-below t,
-  fault.Post,
-  repeated-from-reads.Asked,
-  repeated-from-reads.Learnt,
-) (object-at t) object.Post object-Inv-loop object-μ-loop
+object-same-length-5 : (t : ℕ) → object-lts.Need-same-length-5 (object-claims t) (object-at t) object.Post object-Inv-loop object-μ-loop
 object-same-length-5 t c = search needs
 
-object-same-length-6 : (t : ℕ) → object-lts.Need-same-length-6 (
-  first-member-reads.Asked,
-  first-member-reads.Learnt,
-  slash-named-reads.Asked,
-  slash-named-reads.Learnt,
-  pack-reads.Asked,
-  pack-reads.Learnt,
-  append-reads.Asked,
-  append-reads.Learnt,
-  next-member-reads.Asked,
-  next-member-reads.Learnt,
-  opens-reads.Asked,
-  opens-reads.Learnt,
-  fault-below t,
-  fault.Post,
-  repeated-from-reads.Asked,
-  repeated-from-reads.Learnt,
-) (object-at t) object.Post object-Inv-loop object-μ-loop
+object-same-length-6 : (t : ℕ) → object-lts.Need-same-length-6 (object-claims t) (object-at t) object.Post object-Inv-loop object-μ-loop
 object-same-length-6 t c = search needs
 
-object-returns-3 : (t : ℕ) → object-lts.Need-returns-3 (
-  first-member-reads.Asked,
-  first-member-reads.Learnt,
-  slash-named-reads.Asked,
-  slash-named-reads.Learnt,
-  pack-reads.Asked,
-  pack-reads.Learnt,
-  append-reads.Asked,
-  append-reads.Learnt,
-  next-member-reads.Asked,
-  next-member-reads.Learnt,
-  opens-reads.Asked,
-  opens-reads.Learnt,
-  fault-below t,
-  fault.Post,
-  repeated-from-reads.Asked,
-  repeated-from-reads.Learnt,
-) (object-at t) object.Post object-Inv-loop object-μ-loop
+object-returns-3 : (t : ℕ) → object-lts.Need-returns-3 (object-claims t) (object-at t) object.Post object-Inv-loop object-μ-loop
 unfolding anyFault
 object-returns-3 t c = rw (object-fault, ← (c .before .before .before .before .before .before .before .before .before .before .loop .inv .0), c .before .before .before .before .before .before .before .enum-told .given .1, members-end, ← (c .before .before .before .before .repeated-from .ensures))
 
-object-repeated-from-requires-2 : (t : ℕ) → object-lts.Need-repeated-from-requires-2 (
-  first-member-reads.Asked,
-  first-member-reads.Learnt,
-  slash-named-reads.Asked,
-  slash-named-reads.Learnt,
-  pack-reads.Asked,
-  pack-reads.Learnt,
-  append-reads.Asked,
-  append-reads.Learnt,
-  next-member-reads.Asked,
-  next-member-reads.Learnt,
-  opens-reads.Asked,
-  opens-reads.Learnt,
-  fault-below t,
-  fault.Post,
-  repeated-from-reads.Asked,
-  repeated-from-reads.Learnt,
-) (object-at t) object.Post object-Inv-loop object-μ-loop
+object-repeated-from-requires-2 : (t : ℕ) → object-lts.Need-repeated-from-requires-2 (object-claims t) (object-at t) object.Post object-Inv-loop object-μ-loop
 object-repeated-from-requires-2 t c κs = search needs
 
-object-same-length-7 : (t : ℕ) → object-lts.Need-same-length-7 (
-  first-member-reads.Asked,
-  first-member-reads.Learnt,
-  slash-named-reads.Asked,
-  slash-named-reads.Learnt,
-  pack-reads.Asked,
-  pack-reads.Learnt,
-  append-reads.Asked,
-  append-reads.Learnt,
-  next-member-reads.Asked,
-  next-member-reads.Learnt,
-  opens-reads.Asked,
-  opens-reads.Learnt,
-  fault-below t,
-  fault.Post,
-  repeated-from-reads.Asked,
-  repeated-from-reads.Learnt,
-) (object-at t) object.Post object-Inv-loop object-μ-loop
+object-same-length-7 : (t : ℕ) → object-lts.Need-same-length-7 (object-claims t) (object-at t) object.Post object-Inv-loop object-μ-loop
 object-same-length-7 t c = search needs
 
-object-same-length-8 : (t : ℕ) → object-lts.Need-same-length-8 (
-  first-member-reads.Asked,
-  first-member-reads.Learnt,
-  slash-named-reads.Asked,
-  slash-named-reads.Learnt,
-  pack-reads.Asked,
-  pack-reads.Learnt,
-  append-reads.Asked,
-  append-reads.Learnt,
-  next-member-reads.Asked,
-  next-member-reads.Learnt,
-  opens-reads.Asked,
-  opens-reads.Learnt,
-  fault-below t,
-  fault.Post,
-  repeated-from-reads.Asked,
-  repeated-from-reads.Learnt,
-) (object-at t) object.Post object-Inv-loop object-μ-loop
+object-same-length-8 : (t : ℕ) → object-lts.Need-same-length-8 (object-claims t) (object-at t) object.Post object-Inv-loop object-μ-loop
 object-same-length-8 t c = search needs
 
-object-returns-4 : (t : ℕ) → object-lts.Need-returns-4 (
-  first-member-reads.Asked,
-  first-member-reads.Learnt,
-  slash-named-reads.Asked,
-  slash-named-reads.Learnt,
-  pack-reads.Asked,
-  pack-reads.Learnt,
-  append-reads.Asked,
-  append-reads.Learnt,
-  next-member-reads.Asked,
-  next-member-reads.Learnt,
-  opens-reads.Asked,
-  opens-reads.Learnt,
-  fault-below t,
-  fault.Post,
-  repeated-from-reads.Asked,
-  repeated-from-reads.Learnt,
-) (object-at t) object.Post object-Inv-loop object-μ-loop
+object-returns-4 : (t : ℕ) → object-lts.Need-returns-4 (object-claims t) (object-at t) object.Post object-Inv-loop object-μ-loop
 unfolding anyFault
 object-returns-4 t c = rw (object-fault, ← (c .before .before .before .before .before .before .before .before .loop .inv .0), members-none _ (c .before .before .before .before .before .before .before .loop-test .left), ← (c .before .before .before .before .repeated-from2 .ensures))
 
 pub +array+fault+object-spec : {M : Type 1} → statement M
-+array+fault+object-spec = close μ-array μ-fault μ-object (λ t. array-lts.spec (
-  first-element-reads.Asked,
-  first-element-reads.Learnt,
-  next-element-reads.Asked,
-  next-element-reads.Learnt,
-  opens-reads.Asked,
-  opens-reads.Learnt,
-  fault-below t,
-  fault.Post,
-)
++array+fault+object-spec = close μ-array μ-fault μ-object (λ t. array-lts.spec (array-claims t)
     (array-at t)
     array.Post
     array-Inv-loop
@@ -1094,14 +356,7 @@ pub +array+fault+object-spec : {M : Type 1} → statement M
     (array-same-length-5 t)
     (array-same-length-6 t)
     (array-returns-3 t))
-    (λ t. fault-lts.spec (
-      byte-reads.Asked,
-      byte-reads.Learnt,
-      object-below t,
-      object.Post,
-      array-below t,
-      array.Post,
-    )
+    (λ t. fault-lts.spec (fault-claims t)
     (fault-at t)
     fault.Post
     (fault-returns t)
@@ -1117,24 +372,7 @@ pub +array+fault+object-spec : {M : Type 1} → statement M
     (fault-same-length-4 t)
     (fault-returns-3 t)
     (fault-returns-4 t))
-    λ t. object-lts.spec (
-      first-member-reads.Asked,
-      first-member-reads.Learnt,
-      slash-named-reads.Asked,
-      slash-named-reads.Learnt,
-      pack-reads.Asked,
-      pack-reads.Learnt,
-      append-reads.Asked,
-      append-reads.Learnt,
-      next-member-reads.Asked,
-      next-member-reads.Learnt,
-      opens-reads.Asked,
-      opens-reads.Learnt,
-      fault-below t,
-      fault.Post,
-      repeated-from-reads.Asked,
-      repeated-from-reads.Learnt,
-    )
+    λ t. object-lts.spec (object-claims t)
     (object-at t)
     object.Post
     object-Inv-loop
