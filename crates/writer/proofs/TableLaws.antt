@@ -21,7 +21,7 @@ use Rattle.window.specs.Inner.Chunks.{Window}
 use Rattle.window.proofs.ListLaws.{list-length}
 use Rattle.writer.specs.Inner.Rows.{rowsOf}
 use Rattle.writer.specs.Inner.Runs.{Written}
-use Rattle.writer.proofs.ChunkLaws.{rows-length}
+use Rattle.writer.proofs.RowsLaws.{rows-length}
 use Rattle.writer.specs.Inner.Table.{tableBy, fitted}
 
 -- ---- what a call leaves
