@@ -1,6 +1,6 @@
 -- The loop that writes: what is left to write here makes the whole.
-use Prim.Native.Nat.{ℕ, zero, suc, _+_, _-_, _*_, _<_, _≤_, _^_}
-use mathlib.Core.Bool.{Bool, true, false}
+use Prim.Native.Nat.{ℕ, suc, _+_, _-_, _*_, _<_, _≤_}
+use mathlib.Core.Bool.{Bool}
 use mathlib.Core.List.{List, [], _∷_, _++_}
 use mathlib.Core.Path.{_≡_, refl, sym, ap, _∙_, subst}
 use native.Mathlib.Omega.{arith}
@@ -10,9 +10,9 @@ use Rattle.rule.specs.Lists.{countIn}
 use Rattle.rule.proofs.Counting.{count-most}
 use Rattle.record.proofs.RowLaws.{sets-append}
 use Rattle.dates.specs.Inner.Overrides.{isKept}
-use Rattle.window.specs.Inner.Next.{nextOf, isHit, isThere, lower, renewed}
+use Rattle.window.specs.Inner.Next.{nextOf, isHit, isThere, lower}
 use Rattle.window.proofs.NextLaws.{Next, next-is, count-next, count-over}
-use Rattle.window.proofs.RunLaws.{there-next, renewed-is}
+use Rattle.window.proofs.RunLaws.{there-next}
 use Rattle.window.specs.Inner.Lists.{listIn}
 use Rattle.writer.specs.Inner.Rows.{rowsOf}
 use Rattle.writer.specs.Inner.Runs.{Written}

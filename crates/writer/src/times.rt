@@ -6,7 +6,6 @@ ghost use lib.ListN.{length};
 ghost use lib.Seq.{sets};
 ghost use Rattle.zone.specs.Table.{validTable};
 ghost use Rattle.json_ends.specs.Inner.Ends.{Ends};
-ghost use Rattle.event.specs.Types.{Length};
 ghost use Rattle.override_text.specs.Inner.Meaning.{detailsIn};
 ghost use Rattle.record.specs.Inner.Occurrences.{Small};
 ghost use Rattle.window.specs.Inner.Sorted.{Ordered};

@@ -1,8 +1,8 @@
 -- `writer::times::times_at` meets its contract: the first override that names the occurrence decides.
-use mathlib.Core.Path.{_≡_, refl, _∙_, sym, subst}
+use mathlib.Core.Path.{refl, _∙_, sym, subst}
 use Rattle.override_text.specs.Inner.Meaning.{detailsIn}
 use Rattle.record.specs.declared.Times.{Times}
-use Rattle.writer.specs.Inner.Details.{timesFrom, timesIn, detailsBy}
+use Rattle.writer.specs.Inner.Details.{timesFrom}
 use Rattle.writer.proofs.DetailsLaws.{Seen, seen-here, seen-next, seen-passed, seen-none}
 use Prim.Native.Nat.{_-_, _≤_, _^_}
 use native.Mathlib.Omega.{arith}
