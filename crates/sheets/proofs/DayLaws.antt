@@ -23,7 +23,7 @@ use Rattle.window.proofs.HitLaws.{from-day}
 use Rattle.listing.specs.Inner.Lists.{Tried, Listing, startOr}
 use Rattle.listing.proofs.SecondLaws.{event-listed}
 use Rattle.writer.specs.Inner.Rows.{rowsOf}
-use Rattle.writer.proofs.ChunkLaws.{rows-length}
+use Rattle.writer.proofs.RowsLaws.{rows-length}
 use Rattle.writer.specs.Inner.Table.{tableBy, fitted}
 use Rattle.writer.proofs.TableLaws.{too-long, fits}
 use Rattle.sheets.specs.Inner.Days.{sheetOn}

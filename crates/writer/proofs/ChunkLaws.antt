@@ -1,10 +1,10 @@
 -- A run that is filled has the set of the event: what is written for the one is written for the other.
 use Prim.Native.Nat.{ℕ, _+_, _-_, _*_, _/_, _<_, _≤_}
 use mathlib.Core.Bool.{Bool}
-use mathlib.Core.List.{List, [], _∷_, _++_}
-use mathlib.Core.Path.{_≡_, refl, sym, ap, _∙_, subst}
+use mathlib.Core.List.{List, _++_}
+use mathlib.Core.Path.{_≡_, sym, ap, _∙_, subst}
 use native.Mathlib.Omega.{arith}
-use lib.ListN.{length, length-append}
+use lib.ListN.{length}
 use lib.Seq.{sets, length-sets}
 use Rattle.rule.specs.Lists.{countIn}
 use Rattle.rule.proofs.Counting.{count-same, count-split}
@@ -17,6 +17,7 @@ use Rattle.window.specs.Inner.Lists.{listIn}
 use Rattle.writer.specs.Inner.Rows.{rowsOf}
 use Rattle.writer.specs.Inner.Runs.{Written}
 use Rattle.window.proofs.ListLaws.{list-same, list-split, list-length}
+use Rattle.writer.proofs.RowsLaws.{rows-append, rows-length}
 use Rattle.writer.proofs.WriteLaws.{WriteAt}
 
 module _ (l : Loaded) (hits : List Bool) (first n : ℕ) (is : hits ≡ run (isOn l) first n) (from to : ℕ) (s : Stretch first n from to) where
@@ -39,20 +40,6 @@ module _ (l : Loaded) (hits : List Bool) (first n : ℕ) (is : hits ≡ run (isO
       }
 
 -- ---- one chunk after the other
-
-rows-append : (row : ℕ → List ℕ) (a b : List ℕ) → rowsOf row (a ++ b) ≡ rowsOf row a ++ rowsOf row b
-unfolding rowsOf
-rows-append row [] b = refl
-rows-append row (x ∷ a) b = rw (rows-append row a b) (sym (append-assoc (row x) (rowsOf row a) (rowsOf row b)))
-  where
-    append-assoc : (p q r : List ℕ) → (p ++ q) ++ r ≡ p ++ (q ++ r)
-    append-assoc [] q r = refl
-    append-assoc (y ∷ p) q r = ap (λ (t : List ℕ). y ∷ t) (append-assoc p q r)
-
-pub rows-length : (row : ℕ → List ℕ) → ((x : ℕ) → length (row x) ≡ 28) → (xs : List ℕ) → length (rowsOf row xs) ≡ 28 * length xs
-unfolding rowsOf
-rows-length row size [] = refl
-rows-length row size (x ∷ xs) = length-append (row x) (rowsOf row xs) ∙ (omega (arith, size x, rows-length row size xs))
 
 module _ (row : ℕ → List ℕ) (size : (x : ℕ) → length (row x) ≡ 28) (p : ℕ → Bool) (from to at : ℕ) (before : List ℕ)
     (second place : ℕ) (buf : List ℕ) (w : WriteAt row p from to at before second place buf) (end : ℕ) (low : second ≤ end) (high : end ≤ to) where

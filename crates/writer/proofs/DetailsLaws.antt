@@ -22,7 +22,7 @@ use Rattle.override_text.specs.Inner.Meaning.{overrideIn, detailsIn}
 use Rattle.override_text.specs.Inner.Patched.{patchAt}
 use Rattle.record.specs.declared.Times.{Times}
 use Rattle.record.specs.Inner.Occurrences.{occurrenceRow, Small}
-use Rattle.writer.proofs.WriteLaws.{row-length}
+use Rattle.writer.proofs.RowsLaws.{row-length}
 use Rattle.writer.specs.Inner.Details.{patchDetails, detailsBy, Passed, timesFrom, timesIn, patchTimes, rowBy, ownRow}
 
 -- ---- a patch that was read

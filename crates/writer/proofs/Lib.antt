@@ -1,6 +1,10 @@
+pub mod RowsLaws
 pub mod DetailsLaws
 pub mod WriteLaws
 pub mod ChunkLaws
 pub mod ListedLaws
 pub mod TableLaws
 pub mod EventLaws
+pub mod WritesLaws
+pub mod RecordsLaws
+pub mod WroteLaws

@@ -1,14 +1,12 @@
 -- The table of a window: its length, its bytes as they are written one part after the other, and what a call leaves of it.
-use Prim.Native.Nat.{ℕ, _+_, _-_, _*_, _<_, _≤_, _^_}
+use Prim.Native.Nat.{ℕ, _+_, _-_, _*_, _/_, _<_, _≤_, _^_}
 use mathlib.Core.Bool.{Bool}
 use mathlib.Core.List.{List, _++_}
 use mathlib.Core.Path.{_≡_, refl, sym, ap, ap₂, _∙_}
 use native.Mathlib.Omega.{arith}
-use lib.Dec.{ltb}
 use lib.ListN.{length, length-append}
-use lib.Seq.{sets}
+use lib.Seq.{sets, length-sets}
 use borrow.Author.Tests.{lt-ltb, le-ltb}
-use Rattle.signed.specs.Choose.{if_then_else_}
 use Rattle.rule.specs.Lists.{countIn}
 use Rattle.rule.proofs.Counting.{count-most}
 use Rattle.call_definitions.specs.Bytes.{trailerOf}
@@ -18,11 +16,13 @@ use Rattle.call_definitions.proofs.DemandTwo.{trailer-length}
 use Rattle.record.proofs.RowLaws.{sets-append}
 use Rattle.window.specs.Inner.Lists.{listIn}
 use Rattle.window.specs.Inner.Chunks.{Window}
+use Rattle.window.specs.Inner.Handed.{Span}
 use Rattle.window.proofs.ListLaws.{list-length}
 use Rattle.writer.specs.Inner.Rows.{rowsOf}
 use Rattle.writer.specs.Inner.Runs.{Written}
-use Rattle.writer.proofs.ChunkLaws.{rows-length}
 use Rattle.writer.specs.Inner.Table.{tableBy, fitted}
+use Rattle.writer.specs.Inner.Writes.{WroteChunk}
+use Rattle.writer.proofs.RowsLaws.{rows-length}
 
 -- ---- what a call leaves
 
@@ -36,10 +36,10 @@ module _ (table buffer : List ℕ) where
   unfolding fitted outcomeBy
   fits h n long after is = rw (le-ltb (length buffer) (length table) h) (record { answer-is = refl; length-is = long; buffer-is = is })
 
--- ---- the seconds of a window are few
+-- ---- the ids of a window are few
 
-pub count-small : (p : ℕ → Bool) (start from to : ℕ) → Window start from to → 28 * countIn p from (to - from) + 12 < 2 ^ 63
-count-small p start from to w = omega (arith, count-most p from (to - from), w .high)
+pub ids-few : (p : ℕ → Bool) (from to : ℕ) → Span from to → 28 * length (listIn p from (to - from)) + 12 < 2 ^ 63
+ids-few p from to s = omega (arith, list-length p from (to - from), count-most p from (to - from), s .high)
 
 -- ---- the records, then the trailer
 
@@ -47,40 +47,65 @@ module _ (row : ℕ → List ℕ) (size : (x : ℕ) → length (row x) ≡ 28) (
   records : List ℕ
   records = rowsOf row (listIn p from (to - from))
 
-  counted : length (listIn p from (to - from)) ≡ countIn p from (to - from)
-  counted = list-length p from (to - from)
-
-  long : length records ≡ 28 * countIn p from (to - from)
+  long : length records ≡ 28 * length (listIn p from (to - from))
   unfolding records
-  long = rows-length row size (listIn p from (to - from)) ∙ ap (λ (k : ℕ). 28 * k) counted
+  long = rows-length row size (listIn p from (to - from))
 
-  table-parts : tableBy row p from to ≡ records ++ trailerOf (countIn p from (to - from))
+  pub table-long : length (tableBy row p from to) ≡ 28 * length (listIn p from (to - from)) + 12
   unfolding tableBy records
-  table-parts = ap (λ (k : ℕ). rowsOf row (listIn p from (to - from)) ++ trailerOf k) counted
+  table-long =
+      length-append records (trailerOf (length (listIn p from (to - from))))
+      ∙ ap₂ (λ (a b : ℕ). a + b) long (trailer-length (length (listIn p from (to - from))))
 
-  pub table-length : length (tableBy row p from to) ≡ 28 * countIn p from (to - from) + 12
-  table-length =
-      ap length table-parts
-      ∙ (length-append records (trailerOf (countIn p from (to - from)))
-      ∙ ap₂ (λ (a b : ℕ). a + b) long (trailer-length (countIn p from (to - from))))
+  module _ (before : List ℕ) where
+    pub table-refused : length before < 28 * length (listIn p from (to - from)) + 12 → Gives (fitted (tableBy row p from to) before) 13 0 before
+    table-refused h = too-long (tableBy row p from to) before (omega (arith, table-long))
 
-  module _ (count : ℕ) (is : count ≡ countIn p from (to - from)) (before : List ℕ) where
-    sized : 28 * count + 12 ≡ length (tableBy row p from to)
-    sized = ap (λ (k : ℕ). 28 * k + 12) is ∙ sym table-length
+    module _ (buf : List ℕ) (place : ℕ) (w : WroteChunk row (listIn p from (to - from)) 0 before buf place) where
+      -- what the trailer asks for
+      pub trailer-fits : Span from to → 28 * length (listIn p from (to - from)) + 12 ≤ length before → (place + 12 ≤ length buf) × (28 * (place / 28) < 2 ^ 64)
+      unfolding records
+      trailer-fits s enough =
+          let same : length buf ≡ length before = ap length (w .bytes) ∙ length-sets before 0 records in
+          (omega (arith, w .place), omega (arith, w .place, ids-few p from to s))
 
-    pub table-short : length before < 28 * count + 12 → Gives (fitted (tableBy row p from to) before) 13 0 before
-    table-short h = too-long (tableBy row p from to) before (omega (arith, sized))
+      joined : (after : List ℕ) → after ≡ sets buf place (trailerOf (length (listIn p from (to - from)))) → after ≡ sets before 0 (tableBy row p from to)
+      unfolding tableBy records
+      joined after last =
+          let trailer = trailerOf (length (listIn p from (to - from))) in
+          last
+          ∙ (ap (λ (l : List ℕ). sets l place trailer) (w .bytes)
+          ∙ (ap (λ (k : ℕ). sets (sets before 0 records) k trailer) (w .place ∙ sym (ap (λ (k : ℕ). 0 + k) long)) ∙ sym (sets-append records trailer before 0)))
 
-    pub table-fits : 28 * count + 12 ≤ length before → (after : List ℕ) → after ≡ sets before 0 (tableBy row p from to)
-        → Gives (fitted (tableBy row p from to) before) 0 (28 * count + 12) after
-    table-fits h after filled = fits (tableBy row p from to) before (omega (arith, sized)) _ sized after filled
+      pub table-given : 28 * length (listIn p from (to - from)) + 12 ≤ length before → (after : List ℕ) → after ≡ sets buf place (trailerOf (place / 28))
+          → Gives (fitted (tableBy row p from to) before) 0 (place + 12) after
+      table-given enough after last =
+          let count : place / 28 ≡ length (listIn p from (to - from)) = omega (arith, w .place) in
+          fits (tableBy row p from to) before (omega (arith, table-long)) (place + 12) (omega (arith, w .place, table-long)) after
+          (joined after (last ∙ ap (λ (k : ℕ). sets buf place (trailerOf k)) count))
 
-    pub table-written : (written after : List ℕ) (behind : ℕ) → Written row p from to 0 before written behind → after ≡ sets written behind (trailerOf count)
-        → after ≡ sets before 0 (tableBy row p from to)
-    unfolding records
-    table-written written after behind w last =
-        last
-        ∙ (ap (λ (k : ℕ). sets written behind (trailerOf k)) is
-        ∙ (ap (λ (l : List ℕ). sets l behind (trailerOf (countIn p from (to - from)))) (w .bytes)
-        ∙ (ap (λ (k : ℕ). sets (sets before 0 records) k (trailerOf (countIn p from (to - from)))) (w .place ∙ sym (ap (λ (k : ℕ). 0 + k) long))
-        ∙ (sym (sets-append records (trailerOf (countIn p from (to - from))) before 0) ∙ ap (sets before 0) (sym table-parts)))))
+-- ---- the same by the number that was counted
+
+pub count-small : (p : ℕ → Bool) (start from to : ℕ) → Window start from to → 28 * countIn p from (to - from) + 12 < 2 ^ 63
+count-small p start from to w = omega (arith, count-most p from (to - from), w .high)
+
+module _ (row : ℕ → List ℕ) (size : (x : ℕ) → length (row x) ≡ 28) (p : ℕ → Bool) (from to count : ℕ) (is : count ≡ countIn p from (to - from)) (before : List ℕ) where
+  counted : count ≡ length (listIn p from (to - from))
+  counted = is ∙ sym (list-length p from (to - from))
+
+  sized : 28 * count + 12 ≡ length (tableBy row p from to)
+  sized = ap (λ (k : ℕ). 28 * k + 12) counted ∙ sym (table-long row size p from to)
+
+  pub table-short : length before < 28 * count + 12 → Gives (fitted (tableBy row p from to) before) 13 0 before
+  table-short h = too-long (tableBy row p from to) before (omega (arith, sized))
+
+  pub table-fits : 28 * count + 12 ≤ length before → (after : List ℕ) → after ≡ sets before 0 (tableBy row p from to)
+      → Gives (fitted (tableBy row p from to) before) 0 (28 * count + 12) after
+  table-fits h after filled = fits (tableBy row p from to) before (omega (arith, sized)) _ sized after filled
+
+  pub table-written : (written after : List ℕ) (behind : ℕ) → Written row p from to 0 before written behind → after ≡ sets written behind (trailerOf count)
+      → after ≡ sets before 0 (tableBy row p from to)
+  table-written written after behind w last =
+      let chunk : WroteChunk row (listIn p from (to - from)) 0 before written behind =
+      record { bytes = w .bytes; place = w .place ∙ ap (λ (k : ℕ). 0 + 28 * k) (sym (list-length p from (to - from))) } in
+      joined row size p from to before written behind chunk after (last ∙ ap (λ (k : ℕ). sets written behind (trailerOf k)) counted)

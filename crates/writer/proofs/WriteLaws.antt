@@ -1,55 +1,23 @@
 -- The loop that writes: what is left to write here makes the whole.
-use Prim.Native.Nat.{ℕ, zero, suc, _+_, _-_, _*_, _<_, _≤_, _^_}
-use mathlib.Core.Bool.{Bool, true, false}
+use Prim.Native.Nat.{ℕ, suc, _+_, _-_, _*_, _<_, _≤_}
+use mathlib.Core.Bool.{Bool}
 use mathlib.Core.List.{List, [], _∷_, _++_}
 use mathlib.Core.Path.{_≡_, refl, sym, ap, _∙_, subst}
 use native.Mathlib.Omega.{arith}
-use lib.IntN.{ℤ}
-use lib.ListN.{length, length-append}
+use lib.ListN.{length}
 use lib.Seq.{sets, length-sets}
 use Rattle.rule.specs.Lists.{countIn}
 use Rattle.rule.proofs.Counting.{count-most}
-use Rattle.little_endian.specs.Bytes.{bytesOf, twos}
-use Rattle.little_endian.proofs.ByteLaws.{bytes-length}
-use Rattle.record.specs.Inner.Rows.{rowOf}
-use Rattle.record.specs.Inner.Occurrences.{occurrenceRow}
 use Rattle.record.proofs.RowLaws.{sets-append}
-use Rattle.event.specs.Types.{Details}
 use Rattle.dates.specs.Inner.Overrides.{isKept}
-use Rattle.window.specs.Inner.Next.{nextOf, isHit, isThere, lower, renewed}
+use Rattle.window.specs.Inner.Next.{nextOf, isHit, isThere, lower}
 use Rattle.window.proofs.NextLaws.{Next, next-is, count-next, count-over}
-use Rattle.window.proofs.RunLaws.{there-next, renewed-is}
+use Rattle.window.proofs.RunLaws.{there-next}
 use Rattle.window.specs.Inner.Lists.{listIn}
 use Rattle.writer.specs.Inner.Rows.{rowsOf}
-use Rattle.writer.specs.Inner.Details.{rowBy}
 use Rattle.writer.specs.Inner.Runs.{Written}
 use Rattle.window.proofs.ListLaws.{list-length, list-next, list-over}
-
--- ---- a row has 28 bytes
-
-pub row-length : (id start end : ℤ) (marks : ℕ) → length (rowOf id start end marks) ≡ 28
-unfolding rowOf
-row-length id start end marks =
-    length-append (bytesOf 8 (twos id)) _
-    ∙ (rw (
-      bytes-length 8 (twos id),
-      length-append (bytesOf 8 (twos start)) (bytesOf 8 (twos end) ++ (marks ∷ 0 ∷ 0 ∷ 0 ∷ [])),
-      bytes-length 8 (twos start),
-      length-append (bytesOf 8 (twos end)) (marks ∷ 0 ∷ 0 ∷ 0 ∷ []),
-      bytes-length 8 (twos end),
-    ) refl)
-
-pub by-length : (fl : Bool) (b : ℤ) (ts ns : List ℤ) (details : ℕ → Details) (x : ℕ) → length (rowBy fl b ts ns details x) ≡ 28
-unfolding rowBy occurrenceRow
-by-length fl b ts ns details x = row-length _ _ _ _
-
-rows-more : (row : ℕ → List ℕ) (x : ℕ) (xs : List ℕ) → rowsOf row (x ∷ xs) ≡ row x ++ rowsOf row xs
-unfolding rowsOf
-rows-more row x xs = refl
-
-rows-none : (row : ℕ → List ℕ) → rowsOf row [] ≡ []
-unfolding rowsOf
-rows-none row = refl
+use Rattle.writer.proofs.RowsLaws.{rows-more, rows-none}
 
 -- From the second `second` on, with the buffer `buf` and the place `place`.
 pub record WriteAt (row : ℕ → List ℕ) (p : ℕ → Bool) (from to at : ℕ) (before : List ℕ) (second place : ℕ) (buf : List ℕ) : Type 0 where

@@ -4,6 +4,7 @@ use override_text::Own;
 
 pub mod listed;
 pub mod nothing;
+pub mod records;
 pub mod runs;
 mod times;
 pub mod whole;

@@ -6,11 +6,12 @@ ghost use lib.ListN.{length};
 ghost use lib.Seq.{sets};
 ghost use Rattle.zone.specs.Table.{validTable};
 ghost use Rattle.json_ends.specs.Inner.Ends.{Ends};
-ghost use Rattle.event.specs.Types.{Length};
 ghost use Rattle.override_text.specs.Inner.Meaning.{detailsIn};
 ghost use Rattle.record.specs.Inner.Occurrences.{Small};
 ghost use Rattle.window.specs.Inner.Sorted.{Ordered};
 ghost use Rattle.writer.specs.Inner.Details.{Passed, detailsBy, timesIn, rowBy, timesFrom, patchTimes};
+ghost use Rattle.writer.specs.Inner.Writes.{LooksUp};
+use crate::Form;
 use override_text::Own;
 use override_text::patches::patch;
 use record::Times;
@@ -50,19 +51,22 @@ fn look_from(ids: &[u64], sorted: bool, x: u64) -> usize
 }
 
 // The times of the occurrence x: after its patch where an override names it, else the event's own from x on.
-fn times_at(
+pub(crate) fn times_at(
     text: &[u8],
     ends: &[u32],
-    own: Own,
+    form: Form,
     ids: &[u64],
-    sorted: bool,
     places: &[usize],
     x: u64,
 ) -> Times
-    requires { ⌜ (Ends (now text) (now ends) × Ordered (now ids) sorted) × ((length (now ids) ≡ length (now places)) × Small x (timesIn (detailsBy (now text) (detailsIn (now text) own) (now ids) (now places) x))) ⌝ }
-    ensures { λ r. ⌜ r ≡ timesIn (detailsBy (now (text .entry)) (detailsIn (now (text .entry)) own) (now (ids .entry)) (now (places .entry)) x) ⌝ }
+    requires { ⌜ LooksUp (now text) (now ends) form (now ids) (now places) x ⌝ }
+    ensures { λ r. ⌜ r ≡ timesIn (detailsBy (now (text .entry)) (detailsIn (now (text .entry)) (form .own)) (now (ids .entry)) (now (places .entry)) x) ⌝ }
 {
-    let mut i = look_from(ids, sorted, x);
+    let own = form.own;
+    if ids.len() == 0 {
+        return times(x, own.days, own.seconds, own.busy, own.allday);
+    }
+    let mut i = look_from(ids, form.sorted, x);
     while i < ids.len() {
         if ids[i] == x {
             return patched(text, ends, places[i], own, x);
@@ -94,6 +98,11 @@ pub(crate) fn put_at(
     ensures { λ _. ⌜ now (buf .exit) ≡ sets (now (buf .entry)) at (rowBy floating initial (now (instants .entry)) (now (offsets .entry))
         (detailsBy (now (text .entry)) (detailsIn (now (text .entry)) own) (now (ids .entry)) (now (places .entry))) x) ⌝ }
 {
-    let t = times_at(text, ends, own, ids, sorted, places, x);
+    let form = Form {
+        own,
+        floating,
+        sorted,
+    };
+    let t = times_at(text, ends, form, ids, places, x);
     put_occurrence(buf, at, x, t, floating, initial, instants, offsets, hint);
 }

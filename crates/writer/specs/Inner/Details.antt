@@ -8,7 +8,6 @@ use lib.IntN.{ℤ}
 use lib.ListN.{length, getD}
 use Rattle.signed.specs.Choose.{if_then_else_}
 use Rattle.event.specs.Types.{Details}
-use Rattle.call_definitions.specs.Bytes.{secondsIn}
 use Rattle.call_definitions.specs.Occurrence.{withStart}
 use Rattle.override_text.specs.declared.Own.{Own}
 use Rattle.override_text.specs.Inner.Patched.{patchAt}

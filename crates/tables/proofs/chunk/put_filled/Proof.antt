@@ -4,7 +4,7 @@ use mir.Facts.{toZ-ofZ}
 use Rattle.override_text.specs.Inner.Meaning.{detailsIn}
 use Rattle.window.specs.Inner.Next.{isThere}
 use Rattle.writer.specs.Inner.Details.{detailsBy, rowBy}
-use Rattle.writer.proofs.WriteLaws.{by-length}
+use Rattle.writer.proofs.RowsLaws.{by-length}
 use Rattle.writer.proofs.TableLaws.{table-short, table-fits}
 use Rattle.tables.proofs.ChunkLaws.{run-small}
 use borrow.Author.Needs.{needs}

@@ -10,7 +10,8 @@ use Rattle.dates.specs.Inner.Overrides.{isKept}
 use Rattle.window.specs.Inner.Next.{nextOf, isThere}
 use Rattle.window.proofs.RunLaws.{renewed-is}
 use Rattle.writer.specs.Inner.Details.{detailsBy, rowBy}
-use Rattle.writer.proofs.WriteLaws.{WriteAt, by-length, there-is, write-starts, write-none, write-one, write-room, write-ends}
+use Rattle.writer.proofs.RowsLaws.{by-length}
+use Rattle.writer.proofs.WriteLaws.{WriteAt, there-is, write-starts, write-none, write-one, write-room, write-ends}
 use borrow.Author.Needs.{needs}
 use Rattle.writer.proofs.runs.write_run.Statement.{statement}
 use Rattle.writer.proofs.runs.write_run.Tie as tie

@@ -10,7 +10,9 @@ use Rattle.writer.proofs.times.put_at.Statement.{statement}
 use Rattle.writer.proofs.times.put_at.Tie as tie
 
 times-at-requires : tie.Need-times-at-requires
-times-at-requires c κs = search needs
+times-at-requires c κs =
+    let q = c .before .before .before .before .before in
+    record { ends = q .pre .0 .0; sorted = q .pre .0 .1; even = q .pre .1 .1 .0; small = q .pre .1 .1 .1 .1 }
 
 put-occurrence-requires : tie.Need-put-occurrence-requires
 put-occurrence-requires c κs =

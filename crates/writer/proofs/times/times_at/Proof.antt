@@ -12,24 +12,36 @@ use Rattle.writer.proofs.times.times_at.Statement.{statement}
 use Rattle.writer.proofs.times.times_at.Tie as tie
 
 abbrev Inv-loop : tie.InvT-loop
-Inv-loop text ends own ids sorted places x i₀ i = Seen text (detailsIn text own) ids places x i
+Inv-loop text ends ids places x own i₀ i = Seen text (detailsIn text own) ids places x i
 
 abbrev μ-loop : tie.MeasureT-loop
-μ-loop text ends own ids sorted places x i₀ i = length ids - i
+μ-loop text ends ids places x own i₀ i = length ids - i
+
+times-requires : tie.Need-times-requires Inv-loop μ-loop
+unfolding timesFrom
+times-requires c κs =
+    let q = c .before .before .before .before .before .before in
+    let none = seen-none (q .args .text .now) _ (q .args .ids .now) (q .args .places .now) (q .pre .even) _ 0 (omega (arith, c .if1 .taken)) (omega arith, refl) in
+    subst (λ (t : Times). t .seconds ≤ 2 ^ 40) (sym none) (q .pre .small .length-small)
+
+returns : tie.Need-returns Inv-loop μ-loop
+returns c =
+    let q = c .before .before .before .before .before .before .before in
+    c .times .ensures ∙ seen-none (q .args .text .now) _ (q .args .ids .now) (q .args .places .now) (q .pre .even) _ 0 (omega (arith, c .before .if1 .taken)) (omega arith, refl)
 
 look-from-requires : tie.Need-look-from-requires Inv-loop μ-loop
-look-from-requires c κs = search needs
+look-from-requires c κs = c .before .before .before .before .before .before .pre .sorted
 
 loop-holds : tie.Need-loop-holds Inv-loop μ-loop
 loop-holds c =
-    let q = c .before .before .before .before .before in
-    seen-passed (q .args .text .now) _ (q .args .ids .now) (q .args .places .now) (q .pre .1 .0) _ _ (c .look-from .ensures)
+    let q = c .before .before .before .before .before .before .before in
+    seen-passed (q .args .text .now) _ (q .args .ids .now) (q .args .places .now) (q .pre .even) _ _ (c .look-from .ensures)
 
-mul-if1 : tie.Need-mul-if1 Inv-loop μ-loop
-mul-if1 c = search needs
+mul-if2 : tie.Need-mul-if2 Inv-loop μ-loop
+mul-if2 c = search needs
 
-shared-slice-read-if1 : tie.Need-shared-slice-read-if1 Inv-loop μ-loop
-shared-slice-read-if1 c = search needs
+shared-slice-read-if2 : tie.Need-shared-slice-read-if2 Inv-loop μ-loop
+shared-slice-read-if2 c = search needs
 
 mul-patched : tie.Need-mul-patched Inv-loop μ-loop
 mul-patched c = search needs
@@ -39,14 +51,14 @@ shared-slice-read-patched c = search needs
 
 patched-requires : tie.Need-patched-requires Inv-loop μ-loop
 patched-requires c κs =
-    let q = c .before .before .before .before .before .before .before .before .before .before in
-    let found = seen-here (q .args .text .now) _ (q .args .ids .now) (q .args .places .now) (q .pre .1 .0) _ (c .before .before .before .before .loop .i) (c .before .before .before .loop-test .taken) (c .before .before .before .before .loop .inv) (c .before .if1 .taken) in
-    (q .pre .0 .0, subst (λ (t : Times). t .seconds ≤ 2 ^ 40) (sym found) (q .pre .1 .1 .length-small))
+    let q = c .before .before .before .before .before .before .before .before .before .before .before .before in
+    let found = seen-here (q .args .text .now) _ (q .args .ids .now) (q .args .places .now) (q .pre .even) _ (c .before .before .before .before .loop .i) (c .before .before .before .loop-test .taken) (c .before .before .before .before .loop .inv) (c .before .if2 .taken) in
+    (q .pre .ends, subst (λ (t : Times). t .seconds ≤ 2 ^ 40) (sym found) (q .pre .small .length-small))
 
-returns : tie.Need-returns Inv-loop μ-loop
-returns c =
-    let q = c .before .before .before .before .before .before .before .before .before .before .before in
-    c .patched .ensures ∙ seen-here (q .args .text .now) _ (q .args .ids .now) (q .args .places .now) (q .pre .1 .0) _ (c .before .before .before .before .before .loop .i) (c .before .before .before .before .loop-test .taken) (c .before .before .before .before .before .loop .inv) (c .before .before .if1 .taken)
+returns-2 : tie.Need-returns-2 Inv-loop μ-loop
+returns-2 c =
+    let q = c .before .before .before .before .before .before .before .before .before .before .before .before .before in
+    c .patched .ensures ∙ seen-here (q .args .text .now) _ (q .args .ids .now) (q .args .places .now) (q .pre .even) _ (c .before .before .before .before .before .loop .i) (c .before .before .before .before .loop-test .taken) (c .before .before .before .before .before .loop .inv) (c .before .before .if2 .taken)
 
 add-i : tie.Need-add-i Inv-loop μ-loop
 add-i c = search needs
@@ -56,20 +68,20 @@ loop-less c = search needs
 
 loop-again : tie.Need-loop-again Inv-loop μ-loop
 loop-again c =
-    let q = c .before .before .before .before .before .before .before .before .before in
-    seen-next (q .args .text .now) _ (q .args .ids .now) (q .args .places .now) (q .pre .1 .0) _ (c .before .before .before .loop .i) (c .before .before .loop-test .taken) (c .before .before .before .loop .inv) (c .if1 .left)
+    let q = c .before .before .before .before .before .before .before .before .before .before .before in
+    seen-next (q .args .text .now) _ (q .args .ids .now) (q .args .places .now) (q .pre .even) _ (c .before .before .before .loop .i) (c .before .before .loop-test .taken) (c .before .before .before .loop .inv) (c .if2 .left)
 
-times-requires : tie.Need-times-requires Inv-loop μ-loop
+times-requires-2 : tie.Need-times-requires-2 Inv-loop μ-loop
 unfolding timesFrom
-times-requires c κs =
-    let q = c .before .before .before .before .before .before .before in
-    let none = seen-none (q .args .text .now) _ (q .args .ids .now) (q .args .places .now) (q .pre .1 .0) _ (c .before .loop .i) (c .loop-test .left) (c .before .loop .inv) in
-    subst (λ (t : Times). t .seconds ≤ 2 ^ 40) (sym none) (q .pre .1 .1 .length-small)
+times-requires-2 c κs =
+    let q = c .before .before .before .before .before .before .before .before .before in
+    let none = seen-none (q .args .text .now) _ (q .args .ids .now) (q .args .places .now) (q .pre .even) _ (c .before .loop .i) (c .loop-test .left) (c .before .loop .inv) in
+    subst (λ (t : Times). t .seconds ≤ 2 ^ 40) (sym none) (q .pre .small .length-small)
 
-returns-2 : tie.Need-returns-2 Inv-loop μ-loop
-returns-2 c =
-    let q = c .before .before .before .before .before .before .before .before in
-    c .times .ensures ∙ seen-none (q .args .text .now) _ (q .args .ids .now) (q .args .places .now) (q .pre .1 .0) _ (c .before .before .loop .i) (c .before .loop-test .left) (c .before .before .loop .inv)
+returns-3 : tie.Need-returns-3 Inv-loop μ-loop
+returns-3 c =
+    let q = c .before .before .before .before .before .before .before .before .before .before in
+    c .times2 .ensures ∙ seen-none (q .args .text .now) _ (q .args .ids .now) (q .args .places .now) (q .pre .even) _ (c .before .before .loop .i) (c .before .loop-test .left) (c .before .before .loop .inv)
 
 pub times-at-spec : {M : Type 1} → statement M
 times-at-spec =
@@ -77,16 +89,18 @@ times-at-spec =
     (tie.spec
     Inv-loop
     μ-loop
+    times-requires
+    returns
     look-from-requires
     loop-holds
-    mul-if1
-    shared-slice-read-if1
+    mul-if2
+    shared-slice-read-if2
     mul-patched
     shared-slice-read-patched
     patched-requires
-    returns
+    returns-2
     add-i
     loop-less
     loop-again
-    times-requires
-    returns-2)
+    times-requires-2
+    returns-3)

@@ -11,7 +11,8 @@ use Rattle.override_text.specs.Inner.Meaning.{detailsIn}
 use Rattle.dates.specs.Inner.Loaded.{loaded, isIn}
 use Rattle.window.proofs.ChunkLaws.{chunk-lent, chunk-some, chunk-within, chunk-later, chunk-ends, chunk-stretch, chunk-window}
 use Rattle.writer.specs.Inner.Details.{detailsBy, rowBy}
-use Rattle.writer.proofs.WriteLaws.{WriteAt, by-length, write-starts, some-left, none-left}
+use Rattle.writer.proofs.RowsLaws.{by-length}
+use Rattle.writer.proofs.WriteLaws.{WriteAt, write-starts, some-left, none-left}
 use Rattle.writer.proofs.ChunkLaws.{next-room, next-chunk}
 use borrow.Author.Needs.{needs}
 use Rattle.writer.proofs.whole.write_ids.Statement.{statement}
