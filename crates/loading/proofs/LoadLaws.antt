@@ -2,7 +2,7 @@
 use Prim.Native.Nat.{ℕ, _+_, _-_, _≤_}
 use mathlib.Core.Bool.{Bool, true, false}
 use mathlib.Core.List.{List, [], _++_, map, append-nil}
-use mathlib.Core.Path.{_≡_, refl, sym, ap, subst, _∙_}
+use mathlib.Core.Path.{_≡_, sym, ap, subst, _∙_}
 use native.Mathlib.Omega.{arith}
 use lib.ListN.{length, take, drop, length-append, length-drop, drop-of-length-le}
 use lib.Seq.{length-sets, length-take-le, take-at, drop-at, drop-drop}
@@ -25,7 +25,6 @@ use Rattle.window.specs.Inner.Sorted.{Ordered}
 use Rattle.loading.specs.Inner.Loads.{Loadable, Loads}
 use Rattle.loading.specs.Inner.Patches.{patchesIn}
 use Rattle.loading.specs.Inner.Rules.{Season, SettledRules}
-use Rattle.loading.specs.declared.Kept.{Kept}
 use Rattle.loading.proofs.KeptLaws.{kept-season, kept-bounds, kept-even, kept-details, kept-small, kept-stands}
 
 -- ---- the two halves of the rows, lent one after the other
@@ -71,8 +70,9 @@ module _ (overrides : List Override) (patches : List ℕ) (ids₀ ids₁ : List 
   places-long : length places₁ ≡ length places₀
   places-long = ap length (w .places) ∙ length-sets places₀ 0 (take 256 patches)
 
-module _ (s t : List ℕ) (h : Head) (limit : ℕ) (rows₀ : List Bool) (ids₀ : List ℕ) (gone₀ : List Bool) (places₀ : List ℕ)
-    (p : Loadable s t h limit (length rows₀) (length ids₀) (length gone₀) (length places₀)) where
+-- ---- the event
+
+module _ (s t : List ℕ) (h : Head) (limit rows ids gone places : ℕ) (p : Loadable s t h limit rows ids gone places) where
   season : Season (h .start) limit
   season = kept-season s h (p .taken .head) (p .taken .accepted) limit (p .within)
 
@@ -83,58 +83,59 @@ module _ (s t : List ℕ) (h : Head) (limit : ℕ) (rows₀ : List Bool) (ids₀
   pub excluded-need : (optional [] readRules (valueIn inner s (h .excluded)) .fault ≡ 0) × Season (h .start) limit
   excluded-need = (head-accepted s h (p .taken .head) (p .taken .accepted) .excluded, season)
 
-  module _ (o : Own) (own : (text : List ℕ) → detailsIn text o ≡ fromHead inner text h .details) (ids₁ : List ℕ) (gone₁ : List Bool) (places₁ : List ℕ) (n : ℕ)
-      (filled : (d : Details)
-      → Filled (optional [] (readOverrides d) (valueIn inner s (h .overrides)) .value) (patchesIn s (h .overrides)) ids₀ ids₁ gone₀ gone₁ places₀ places₁ n)
+module _ (s t : List ℕ) (h : Head) (limit rows : ℕ) (ids₀ : List ℕ) (gone₀ : List Bool) (places₀ : List ℕ)
+    (p : Loadable s t h limit rows (length ids₀) (length gone₀) (length places₀))
+    (o : Own) (own : (text : List ℕ) → detailsIn text o ≡ fromHead inner text h .details) (ids₁ : List ℕ) (gone₁ : List Bool) (places₁ : List ℕ) (n : ℕ)
+    (filled : (d : Details)
+    → Filled (optional [] (readOverrides d) (valueIn inner s (h .overrides)) .value) (patchesIn s (h .overrides)) ids₀ ids₁ gone₀ gone₁ places₀ places₁ n) where
+  room : (256 ≤ length ids₀) × ((256 ≤ length gone₀) × (256 ≤ length places₀))
+  room = (p .ids-room, (p .gone-room, p .places-room))
+
+  few : n ≤ 256
+  few = kept-bounds s h (p .taken .head) (p .taken .accepted) o (own s) ids₀ ids₁ gone₀ gone₁ places₀ places₁ n room filled
+
+  pub ids-fit : n ≤ length ids₁
+  ids-fit = omega (arith, few, p .ids-room, ids-long _ _ _ _ _ _ _ _ _ (filled (detailsIn s o)))
+
+  gone-fit : n ≤ length gone₁
+  gone-fit = omega (arith, few, p .gone-room, gone-long _ _ _ _ _ _ _ _ _ (filled (detailsIn s o)))
+
+  places-fit : n ≤ length places₁
+  places-fit = omega (arith, few, p .places-room, places-long _ _ _ _ _ _ _ _ _ (filled (detailsIn s o)))
+
+  pub ids-taken : n ≡ length (take n ids₁)
+  ids-taken = sym (length-take-le n ids₁ ids-fit)
+
+  module _ (rules excluded : Tracks) (first second rows₁ : List Bool) (halves : (length first ≡ 12592) × (length second ≡ 12592)) (parts : rows₁ ≡ first ++ second)
+      (kept : SettledRules false (h .start) limit (optional [] readRules (valueIn inner s (h .rules)) .value) rules first)
+      (left : SettledRules true (h .start) limit (optional [] readRules (valueIn inner s (h .excluded)) .value) excluded second)
     where
-      room : (256 ≤ length ids₀) × ((256 ≤ length gone₀) × (256 ≤ length places₀))
-      room = (p .ids-room, (p .gone-room, p .places-room))
-
-      few : n ≤ 256
-      few = kept-bounds s h (p .taken .head) (p .taken .accepted) o (own s) ids₀ ids₁ gone₀ gone₁ places₀ places₁ n room filled
-
-      pub ids-fit : n ≤ length ids₁
-      ids-fit = omega (arith, few, p .ids-room, ids-long _ _ _ _ _ _ _ _ _ (filled (detailsIn s o)))
-
-      gone-fit : n ≤ length gone₁
-      gone-fit = omega (arith, few, p .gone-room, gone-long _ _ _ _ _ _ _ _ _ (filled (detailsIn s o)))
-
-      places-fit : n ≤ length places₁
-      places-fit = omega (arith, few, p .places-room, places-long _ _ _ _ _ _ _ _ _ (filled (detailsIn s o)))
-
-      pub ids-taken : n ≡ length (take n ids₁)
-      ids-taken = sym (length-take-le n ids₁ ids-fit)
-
-      module _ (rules excluded : Tracks) (first second rows₁ : List Bool) (halves : (length first ≡ 12592) × (length second ≡ 12592)) (parts : rows₁ ≡ first ++ second)
-          (kept : SettledRules false (h .start) limit (optional [] readRules (valueIn inner s (h .rules)) .value) rules first)
-          (left : SettledRules true (h .start) limit (optional [] readRules (valueIn inner s (h .excluded)) .value) excluded second)
-        where
-          -- the event as it is kept
-          pub event-kept : (floating sorted : Bool) → floating ≡ isFloating (nameIn s (h .zone)) → Ordered (take n ids₁) sorted
-              → Loads s limit rows₁ ids₁ gone₁ places₁
-              (record {
-                dates = record { start = h .start; rules = rules; excluded = excluded };
-                form = record { own = o; floating = floating; sorted = sorted };
-                count = n;
-              })
-          event-kept floating sorted floats order =
-              record {
-                few = few;
-                ids-fit = ids-fit;
-                gone-fit = gone-fit;
-                places-fit = places-fit;
-                whole = record {
-                  size = omega (arith, ap length parts, length-append first second, halves .0, halves .1);
-                  rules-tracked = subst (Tracked rules) (halves .0) (kept .tracked);
-                  excluded-tracked = subst (Tracked excluded) (halves .1) (left .tracked);
-                  overrides = kept-even s h (p .taken .head) (p .taken .accepted) o (own s) ids₀ ids₁ gone₀ gone₁ places₀ places₁ n room filled .marks;
-                  begins = season .high;
-                };
-                stands =
-                    rw (parts, take-at first second 12592 (halves .0), drop-at first second 12592 (halves .0))
-                    (kept-stands s h (p .taken .head) (p .taken .accepted) o (own s) ids₀ ids₁ gone₀ gone₁ places₀ places₁ n room filled limit (p .within) rules first excluded second kept left);
-                details = kept-details s h (p .taken .head) (p .taken .accepted) o (own s) ids₀ ids₁ gone₀ gone₁ places₀ places₁ n room filled;
-                floating = floats ∙ ap isFloating (sym (head-zone s h (p .taken .head)));
-                small = kept-small s h (p .taken .head) (p .taken .accepted) o (own s) ids₀ ids₁ gone₀ gone₁ places₀ places₁ n room filled;
-                sorted = order;
-              }
+      -- the event as it is kept
+      pub event-kept : (floating sorted : Bool) → floating ≡ isFloating (nameIn s (h .zone)) → Ordered (take n ids₁) sorted
+          → Loads s limit rows₁ ids₁ gone₁ places₁
+          (record {
+            dates = record { start = h .start; rules = rules; excluded = excluded };
+            form = record { own = o; floating = floating; sorted = sorted };
+            count = n;
+          })
+      event-kept floating sorted floats order =
+          record {
+            few = few;
+            ids-fit = ids-fit;
+            gone-fit = gone-fit;
+            places-fit = places-fit;
+            whole = record {
+              size = omega (arith, ap length parts, length-append first second, halves .0, halves .1);
+              rules-tracked = subst (Tracked rules) (halves .0) (kept .tracked);
+              excluded-tracked = subst (Tracked excluded) (halves .1) (left .tracked);
+              overrides = kept-even s h (p .taken .head) (p .taken .accepted) o (own s) ids₀ ids₁ gone₀ gone₁ places₀ places₁ n room filled .marks;
+              begins = season s t h limit _ _ _ _ p .high;
+            };
+            stands =
+                rw (parts, take-at first second 12592 (halves .0), drop-at first second 12592 (halves .0))
+                (kept-stands s h (p .taken .head) (p .taken .accepted) o (own s) ids₀ ids₁ gone₀ gone₁ places₀ places₁ n room filled limit (p .within) rules first excluded second kept left);
+            details = kept-details s h (p .taken .head) (p .taken .accepted) o (own s) ids₀ ids₁ gone₀ gone₁ places₀ places₁ n room filled;
+            floating = floats ∙ ap isFloating (sym (head-zone s h (p .taken .head)));
+            small = kept-small s h (p .taken .head) (p .taken .accepted) o (own s) ids₀ ids₁ gone₀ gone₁ places₀ places₁ n room filled;
+            sorted = order;
+          }

@@ -1,5 +1,4 @@
 // What a call keeps of an accepted event, loaded by one call.
-ghost use Prim.Native.Nat.{ℕ};
 ghost use lib.ListN.{length};
 ghost use Rattle.loading.specs.Inner.Loads.{Loadable, Loads};
 use crate::Kept;
@@ -38,8 +37,16 @@ pub fn load(
     let sorted = rises(&ids[..count]);
     let floating = is_floating(text, zone);
     Kept {
-        dates: Dates { start, rules, excluded },
-        form: Form { own, floating, sorted },
+        dates: Dates {
+            start,
+            rules,
+            excluded,
+        },
+        form: Form {
+            own,
+            floating,
+            sorted,
+        },
         count,
     }
 }
