@@ -4,3 +4,5 @@ pub mod PatchLaws
 pub mod WindowLaws
 pub mod YearLaws
 pub mod KeptLaws
+pub mod LoadLaws
+pub mod CallerLaws

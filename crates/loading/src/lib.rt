@@ -5,6 +5,7 @@ use writer::Form;
 pub mod limits;
 pub mod lists;
 mod rules;
+pub mod whole;
 
 // What a call keeps of an accepted event, beside lent slices: its dates, what its records are made from, and how many overrides it has.
 pub struct Kept {

@@ -33,7 +33,7 @@ pub record Loads (s : List ℕ) (limit : ℕ) (rows : List Bool) (ids : List ℕ
   pub ids-fit : r .count ≤ length ids
   pub gone-fit : r .count ≤ length gone
   pub places-fit : r .count ≤ length places
-  pub whole : Whole (r .dates) (length rows) (r .count) (r .count)
+  pub whole : Whole (r .dates) (length rows) (length (take (r .count) ids)) (length (take (r .count) gone))
   pub stands : Stands (datesOf (eventOf s)) limit (keptDates (r .dates) rows (take (r .count) ids) (take (r .count) gone))
   pub details : (x : ℕ) → detailsBy s (detailsIn s (r .form .own)) (take (r .count) ids) (take (r .count) places) x ≡ detailsAt (eventOf s) x
   pub floating : r .form .floating ≡ isFloating (eventOf s .zone)
