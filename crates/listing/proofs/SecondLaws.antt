@@ -55,7 +55,7 @@ module _ (start : ℕ) (p q : ℕ → Bool) (timed : (x : ℕ) → p x ≡ (if e
   unfolding listIn
   nothing day = refl
 
-  days-listed : (n at to day : ℕ) → at ≤ to → FromDay start at day → FromDay start to (day + n) → listIn p at (to - at) ≡ map (onDay start) (listIn q day n)
+  pub days-listed : (n at to day : ℕ) → at ≤ to → FromDay start at day → FromDay start to (day + n) → listIn p at (to - at) ≡ map (onDay start) (listIn q day n)
   days-listed zero at to day order f g =
       let reached = g .reached in
       list-nothing p at (to - at) (λ j below above. quiet at day j f below (omega arith)) ∙ nothing day

@@ -1,0 +1,4 @@
+pub mod CountLaws
+pub mod FewLaws
+pub mod MarkedLaws
+pub mod RoomLaws

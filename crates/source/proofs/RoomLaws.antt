@@ -1,0 +1,37 @@
+-- Whether a table has room: as many ids as a buffer has places for.
+use Prim.Native.Nat.{ℕ, _+_, _-_, _*_, _/_, _<_, _≤_}
+use mathlib.Core.Bool.{Bool, true, false}
+use mathlib.Core.Path.{_≡_, sym, ap, _∙_}
+use native.Mathlib.Omega.{arith}
+use lib.Dec.{leb}
+use lib.ListN.{length}
+use borrow.Author.Tests.{le-leb, lt-leb, leb-true, leb-false}
+use Rattle.rule.proofs.Bools.{by}
+use Rattle.window.specs.Inner.Lists.{listIn}
+use Rattle.window.proofs.ListLaws.{length-parts}
+use Rattle.source.specs.Inner.Room.{HasRoom}
+
+module _ (p : ℕ → Bool) (count next to size : ℕ) (order : next ≤ to) where
+  pub room-none : size < 12 → HasRoom p count next to size false
+  room-none h from low is = sym (lt-leb (28 * length (listIn p from (to - from)) + 12) size (omega arith))
+
+  module _ (large : 12 ≤ size) (places : ℕ) (is-places : places ≡ (size - 12) / 28) where
+    pub room-few : places < count → HasRoom p count next to size false
+    room-few h from low is =
+        sym (lt-leb (28 * length (listIn p from (to - from)) + 12) size (omega (arith, length-parts p from next to low order)))
+
+    module _ (fits : count ≤ places) where
+      pub room-all : length (listIn p next (to - next)) ≤ places - count → HasRoom p count next to size true
+      room-all h from low is =
+          sym (le-leb (28 * length (listIn p from (to - from)) + 12) size (omega (arith, length-parts p from next to low order)))
+
+      pub room-short : places - count < length (listIn p next (to - next)) → HasRoom p count next to size false
+      room-short h from low is =
+          sym (lt-leb (28 * length (listIn p from (to - from)) + 12) size (omega (arith, length-parts p from next to low order)))
+
+      -- as the code asks
+      pub room-counted : (rest : ℕ) → rest ≡ length (listIn p next (to - next)) → HasRoom p count next to size (leb rest (places - count))
+      room-counted rest is-rest =
+          by (leb rest (places - count))
+          (λ e. rw e (room-all (omega (arith, leb-true rest (places - count) e))))
+          (λ e. rw e (room-short (omega (arith, leb-false rest (places - count) e))))
