@@ -1,4 +1,5 @@
 pub mod Names
 pub mod Order
+pub mod Room
 pub mod Slashes
 pub mod Walked

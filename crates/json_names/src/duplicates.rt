@@ -7,6 +7,7 @@ ghost use Rattle.json_ends.specs.Inner.Ends.{Ends};
 ghost use lib.ListN.{length};
 ghost use Rattle.json_walk.specs.Walk.{membersOf};
 ghost use Rattle.json_names.specs.Inner.Names.{repeats};
+ghost use Rattle.json_names.specs.Inner.Room.{Room};
 use crate::names::repeated;
 use crate::sort::arrange;
 use crate::sorted::index;
@@ -21,7 +22,7 @@ fn repeated_in(
     spare: &mut [u64],
     k: usize,
 ) -> bool
-    requires { ⌜ (at < length (now text)) × (length (now order) ≤ 65536) × (length (now order) ≤ length (now spare)) × (k ≤ length (now order)) × Ends (now text) (now ends) ⌝ }
+    requires { ⌜ (at < length (now text)) × Room k (length (now order)) (length (now spare)) × Ends (now text) (now ends) ⌝ }
     ensures { λ r. ⌜ r ≡ repeats (now (text .entry)) (membersOf (now (text .entry)) at) ⌝ }
 {
     let r = arrange(text, order, spare, k);
@@ -38,7 +39,7 @@ fn repeated_any(
     spare: &mut [u64],
     k: usize,
 ) -> bool
-    requires { ⌜ (at < length (now text)) × (length (now order) ≤ 65536) × (length (now order) ≤ length (now spare)) × (k ≤ length (now order)) × Ends (now text) (now ends) ⌝ }
+    requires { ⌜ (at < length (now text)) × Room k (length (now order)) (length (now spare)) × Ends (now text) (now ends) ⌝ }
     ensures { λ r. ⌜ r ≡ repeats (now (text .entry)) (membersOf (now (text .entry)) at) ⌝ }
 {
     if k < 4 {
@@ -57,7 +58,7 @@ pub(crate) fn repeated_from(
     order: &mut [u64],
     spare: &mut [u64],
 ) -> bool
-    requires { ⌜ (at < length (now text)) × (length (now order) ≤ 65536) × (length (now order) ≤ length (now spare)) × (base ≤ end) × (end ≤ length (now order)) × Ends (now text) (now ends) ⌝ }
+    requires { ⌜ (at < length (now text)) × (base ≤ end) × Room end (length (now order)) (length (now spare)) × Ends (now text) (now ends) ⌝ }
     ensures { λ r. ⌜ r ≡ repeats (now (text .entry)) (membersOf (now (text .entry)) at) ⌝ }
 {
     repeated_any(text, ends, at, &mut order[base..], spare, end - base)

@@ -6,6 +6,7 @@ ghost use Rattle.json_ends.specs.Inner.Ends.{Ends};
 ghost use lib.ListN.{length};
 ghost use Rattle.json_walk.specs.Walk.{elementsOf};
 ghost use Rattle.json_names.specs.Inner.Names.{faultAt, objectFault, anyElement};
+ghost use Rattle.json_names.specs.Inner.Room.{Room};
 ghost use Rattle.json_names.specs.Inner.Slashes.{Clean};
 use crate::duplicates::repeated_from;
 use crate::keys::pack;
@@ -32,7 +33,7 @@ pub(crate) fn fault(
     order: &mut [u64],
     spare: &mut [u64],
 ) -> bool
-    requires { ⌜ (length (now order) ≤ 65536) × (length (now order) ≤ length (now spare)) × (base ≤ length (now order)) × Clean (now text) clean × Ends (now text) (now ends) ⌝ }
+    requires { ⌜ Room base (length (now order)) (length (now spare)) × Clean (now text) clean × Ends (now text) (now ends) ⌝ }
     ensures { λ r. ⌜ r ≡ faultAt left (now (text .entry)) at ⌝ }
 {
     if left == 0 {
@@ -59,7 +60,7 @@ fn object(
     order: &mut [u64],
     spare: &mut [u64],
 ) -> bool
-    requires { ⌜ (at < length (now text)) × (length (now order) ≤ 65536) × (length (now order) ≤ length (now spare)) × (base ≤ length (now order)) × Clean (now text) clean × Ends (now text) (now ends) ⌝ }
+    requires { ⌜ (at < length (now text)) × Room base (length (now order)) (length (now spare)) × Clean (now text) clean × Ends (now text) (now ends) ⌝ }
     ensures { λ r. ⌜ r ≡ objectFault (λ v. faultAt left (now (text .entry)) v) (now (text .entry)) at ⌝ }
 {
     let mut step = first_member(text, ends, at);
@@ -97,7 +98,7 @@ fn array(
     order: &mut [u64],
     spare: &mut [u64],
 ) -> bool
-    requires { ⌜ (at < length (now text)) × (length (now order) ≤ 65536) × (length (now order) ≤ length (now spare)) × (base ≤ length (now order)) × Clean (now text) clean × Ends (now text) (now ends) ⌝ }
+    requires { ⌜ (at < length (now text)) × Room base (length (now order)) (length (now spare)) × Clean (now text) clean × Ends (now text) (now ends) ⌝ }
     ensures { λ r. ⌜ r ≡ anyElement (λ v. faultAt left (now (text .entry)) v) (elementsOf (now (text .entry)) at) ⌝ }
 {
     let mut step = first_element(text, ends, at);

@@ -6,6 +6,7 @@ ghost use Rattle.json_ends.specs.Inner.Ends.{Ends};
 ghost use Rattle.json_text.specs.Bytes.{spaceAt};
 ghost use Rattle.json_value.specs.Values.{levels};
 ghost use Rattle.json_names.specs.Inner.Names.{faultAt};
+ghost use Rattle.json_names.specs.Inner.Room.{Room};
 use crate::faults::fault;
 use crate::slashes::slash_free;
 use json_text::bytes::space;
@@ -14,7 +15,7 @@ use json_value::LEVELS;
 // Is a name in the value at a place at fault? With a table of ends, which the walks look into: so each object is gone over
 // a few times, however deep it lies; and with room to sort names.
 fn fault_in(text: &[u8], ends: &[u32], at: usize, order: &mut [u64], spare: &mut [u64]) -> bool
-    requires { ⌜ (length (now order) ≤ 65536) × (length (now order) ≤ length (now spare)) × Ends (now text) (now ends) ⌝ }
+    requires { ⌜ Room 0 (length (now order)) (length (now spare)) × Ends (now text) (now ends) ⌝ }
     ensures { λ r. ⌜ r ≡ faultAt levels (now (text .entry)) at ⌝ }
 {
     let clean = slash_free(text);

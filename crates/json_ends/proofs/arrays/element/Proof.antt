@@ -1,3 +1,4 @@
+-- `json_ends::arrays::element` meets its contract.
 use Rattle.json_walk.specs.Walk.{elementAt}
 use borrow.Author.Needs.{needs}
 use Rattle.json_ends.proofs.arrays.element.Statement.{statement}

@@ -1,3 +1,4 @@
+-- `json_ends::arrays::first_element` meets its contract.
 use Rattle.json_walk.specs.Walk.{firstElementAt}
 use borrow.Author.Needs.{needs}
 use Rattle.json_ends.proofs.arrays.first_element.Statement.{statement}

@@ -1,3 +1,4 @@
+-- `json_ends::arrays::next_element` meets its contract.
 use Rattle.json_walk.specs.Walk.{nextElementAt}
 use borrow.Author.Needs.{needs}
 use Rattle.json_ends.proofs.arrays.next_element.Statement.{statement}

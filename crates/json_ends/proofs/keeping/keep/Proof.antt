@@ -1,3 +1,4 @@
+-- `json_ends::keeping::keep` meets its contract.
 use native.Mathlib.Omega.{arith}
 use Rattle.json_ends.proofs.Laws.{ends-keep}
 use borrow.Author.Needs.{needs}

@@ -1,3 +1,4 @@
+-- `json_ends::keeping::label` meets its contract.
 use mathlib.Core.Path.{sym, _∙_}
 use Rattle.json_ends.proofs.Laws.{string-kept}
 use borrow.Author.Needs.{needs}

@@ -1,3 +1,4 @@
+-- `json_ends::keeping::name` meets its contract.
 use Rattle.json_value.specs.Values.{nameAt}
 use borrow.Author.Needs.{needs}
 use Rattle.json_ends.proofs.keeping.name.Statement.{statement}

@@ -1,3 +1,4 @@
+-- `json_ends::keeping::note` meets its contract.
 use mathlib.Core.Path.{sym, _∙_}
 use borrow.Author.Needs.{needs}
 use Rattle.json_ends.proofs.keeping.note.Statement.{statement}

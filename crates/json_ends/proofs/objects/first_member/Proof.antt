@@ -1,3 +1,4 @@
+-- `json_ends::objects::first_member` meets its contract.
 use Rattle.json_walk.specs.Walk.{firstMemberAt}
 use borrow.Author.Needs.{needs}
 use Rattle.json_ends.proofs.objects.first_member.Statement.{statement}

@@ -1,3 +1,4 @@
+-- `json_ends::objects::member` meets its contract.
 use Rattle.json_walk.specs.Walk.{memberAt}
 use borrow.Author.Needs.{needs}
 use Rattle.json_ends.proofs.objects.member.Statement.{statement}

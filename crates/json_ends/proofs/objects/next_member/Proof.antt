@@ -1,3 +1,4 @@
+-- `json_ends::objects::next_member` meets its contract.
 use Rattle.json_walk.specs.Walk.{nextMemberAt}
 use borrow.Author.Needs.{needs}
 use Rattle.json_ends.proofs.objects.next_member.Statement.{statement}

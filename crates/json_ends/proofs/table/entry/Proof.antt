@@ -1,3 +1,4 @@
+-- `json_ends::table::entry` meets its contract.
 use mathlib.Core.Path.{sym}
 use lib.ListN.{List·getD-eq-default}
 use borrow.Author.Needs.{needs}

@@ -1,3 +1,4 @@
+-- `json_ends::table::string_past` meets its contract.
 use borrow.Author.Tests.{ne-eqb}
 use Rattle.json_text.specs.Strings.{stringAt}
 use Rattle.json_ends.proofs.Laws.{strings-say}

@@ -1,3 +1,4 @@
+-- `json_ends::whole::whole` meets its contract.
 use borrow.Author.Tests.{eq-eqb, ne-eqb}
 use Rattle.json_value.specs.Values.{endAt, textAt}
 use borrow.Author.Needs.{needs}

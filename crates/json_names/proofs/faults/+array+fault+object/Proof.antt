@@ -132,7 +132,7 @@ array-opens-requires : (t : ℕ) → array-lts.Need-opens-requires (array-claims
 array-opens-requires t c κs = search needs
 
 array-fault-requires : (t : ℕ) → array-lts.Need-fault-requires (array-claims t) (array-at t) array.Post array-Inv-loop array-μ-loop
-array-fault-requires t c κs = (search needs, (search needs, search needs, search needs, search needs, search needs))
+array-fault-requires t c κs = (search needs, (search needs, search needs, search needs))
 
 array-same-length : (t : ℕ) → array-lts.Need-same-length (array-claims t) (array-at t) array.Post array-Inv-loop array-μ-loop
 array-same-length t c = search needs
@@ -191,7 +191,7 @@ fault-sub-object : (t : ℕ) → fault-lts.Need-sub-object (fault-claims t) (fau
 fault-sub-object t c = search needs
 
 fault-object-requires : (t : ℕ) → fault-lts.Need-object-requires (fault-claims t) (fault-at t) fault.Post
-fault-object-requires t c κs = (search needs, (search needs, search needs, search needs, search needs, search needs, search needs))
+fault-object-requires t c κs = (search needs, (search needs, search needs, search needs, search needs))
 
 fault-same-length : (t : ℕ) → fault-lts.Need-same-length (fault-claims t) (fault-at t) fault.Post
 fault-same-length t c = search needs
@@ -206,7 +206,7 @@ fault-sub-array : (t : ℕ) → fault-lts.Need-sub-array (fault-claims t) (fault
 fault-sub-array t c = search needs
 
 fault-array-requires : (t : ℕ) → fault-lts.Need-array-requires (fault-claims t) (fault-at t) fault.Post
-fault-array-requires t c κs = (search needs, (search needs, search needs, search needs, search needs, search needs, search needs))
+fault-array-requires t c κs = (search needs, (search needs, search needs, search needs, search needs))
 
 fault-same-length-3 : (t : ℕ) → fault-lts.Need-same-length-3 (fault-claims t) (fault-at t) fault.Post
 fault-same-length-3 t c = search needs
@@ -265,16 +265,20 @@ object-opens-requires : (t : ℕ) → object-lts.Need-opens-requires (object-cla
 object-opens-requires t c κs = search needs
 
 object-fault-requires : (t : ℕ) → object-lts.Need-fault-requires (object-claims t) (object-at t) object.Post object-Inv-loop object-μ-loop
-object-fault-requires t c κs = (
-  search needs,
-  (
-    omega (arith, c .before .before .before .before .before .before .before .before .before .before .before .before .before .before .before .before .loop .inv .1, c .before .before .before .before .before .before .before .before .before .before .before .before .before .before .before .before .before .before .before .before .before .before .pre .1 .1),
-    omega (arith, c .before .before .before .before .before .before .before .before .before .before .before .before .before .before .before .before .loop .inv .1, c .before .before .before .before .before .before .before .before .before .before .before .before .before .before .before .before .loop .inv .2, c .before .before .before .before .before .before .before .before .before .before .before .before .before .before .before .before .before .before .before .before .before .before .pre .1 .2),
-    search needs,
-    c .before .before .before .before .before .before .before .before .before .before .before .before .before .before .before .before .before .before .before .before .before .before .pre .1 .4,
-    c .before .before .before .before .before .before .before .before .before .before .before .before .before .before .before .before .before .before .before .before .before .before .pre .1 .5,
-  ),
-)
+object-fault-requires t c κs =
+    let turn = c .before .before .before .before .before .before .before .before .before .before .before .before .before .before .before .before in
+    let asked = turn .before .before .before .before .before .before .pre .1 in (
+      search needs,
+      (
+        record {
+          stand = search needs;
+          small = omega (arith, turn .loop .inv .1, asked .1 .small);
+          spared = omega (arith, turn .loop .inv .1, turn .loop .inv .2, asked .1 .spared);
+        },
+        asked .2,
+        asked .3,
+      ),
+    )
 
 object-same-length-3 : (t : ℕ) → object-lts.Need-same-length-3 (object-claims t) (object-at t) object.Post object-Inv-loop object-μ-loop
 object-same-length-3 t c = search needs

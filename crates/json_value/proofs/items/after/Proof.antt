@@ -1,3 +1,4 @@
+-- `json_value::items::after` meets its contract.
 use Rattle.json_value.specs.Values.{afterAt}
 use borrow.Author.Tests.{eq-eqb, ne-eqb}
 use borrow.Author.Needs.{needs}

@@ -1,3 +1,4 @@
+-- `json_value::items::first` meets its contract.
 use Rattle.json_value.specs.Values.{firstAt}
 use borrow.Author.Tests.{eq-eqb, ne-eqb}
 use borrow.Author.Needs.{needs}
