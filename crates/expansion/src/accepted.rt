@@ -7,9 +7,9 @@ ghost use Rattle.event_text.specs.Inner.Held.{fromHead};
 ghost use Rattle.call_definitions.specs.Answer.{expanded};
 ghost use Rattle.call_definitions.specs.Results.{zonesOf, Gives};
 use crate::shown::put_shown;
+use event_text::Head;
 use opening::calls::call_fault;
 use opening::calls::is_secret;
-use event_text::Head;
 use record::window::since_1600;
 use writer::nothing::put_trailer_alone;
 

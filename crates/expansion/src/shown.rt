@@ -12,12 +12,12 @@ ghost use Rattle.call_definitions.specs.Results.{zonesOf, Gives};
 ghost use Rattle.writer.specs.Inner.Table.{fitted};
 ghost use Rattle.window.specs.Inner.Chunks.{Window};
 ghost use Rattle.expansion.specs.Inner.Shown.{tableFor};
-use opening::calls::is_floating;
 use event_text::Head;
 use event_text::heads::own_of;
 use loading::limits::limit_of;
 use loading::lists::load_list;
 use loading::lists::load_overrides;
+use opening::calls::is_floating;
 use sheets::whole::put_event;
 
 // The flags are rows for eight rules of each list.

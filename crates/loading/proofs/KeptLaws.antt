@@ -33,9 +33,8 @@ use Rattle.dates.specs.Inner.Stands.{Settles, Stands, overridesOf}
 use Rattle.window.specs.Inner.Chunks.{Window}
 use Rattle.record.specs.Inner.Occurrences.{Small}
 use Rattle.writer.specs.Inner.Details.{detailsBy, timesIn}
-use Rattle.writer.specs.Inner.Runs.{Overridden}
 use Rattle.loading.specs.Inner.Rules.{Season, SettledRules}
-use Rattle.loading.specs.Inner.Patches.{patchesIn}
+use Rattle.loading.specs.Inner.Patches.{patchesIn, Overridden}
 use Rattle.loading.proofs.PatchLaws.{front-stored, dates-same, details-same, small-each, Ranged, patches-many, patches-each, patches-range, patches-most}
 use Rattle.loading.proofs.WindowLaws.{window-in}
 use Rattle.loading.proofs.YearLaws.{event-years}

@@ -1,11 +1,11 @@
 -- One rule after the other: what is settled so far are the first of the list.
-use Prim.Native.Nat.{ℕ, zero, suc, _+_, _*_, _/_, _<_, _≤_}
+use Prim.Native.Nat.{ℕ, _+_, _<_, _≤_}
 use mathlib.Core.Bool.{Bool}
 use mathlib.Core.List.{List, [], _∷_, _++_, map}
 use mathlib.Core.Path.{_≡_, refl, sym, ap, subst, _∙_}
 use native.Mathlib.Numerals.{add-one}
 use native.Mathlib.Omega.{arith}
-use lib.ListN.{length, take, getD, set, length-set}
+use lib.ListN.{length, take, getD, length-set}
 use lib.Seq.{take-suc, take-all, length-take-le, length-sets}
 use Rattle.json_tree.specs.Tree.{treeAt}
 use Rattle.rule.specs.declared.Rule.{Rule}
@@ -15,10 +15,9 @@ use Rattle.event.specs.Rules.{readRule, readRules}
 use Rattle.rule_text.specs.Inner.Parts.{RuleRead}
 use Rattle.rule_text.specs.Inner.Places.{Places, placesAt}
 use Rattle.rule_text.proofs.PlaceLaws.{rules-are, rules-few, rules-each, all-at, places-stored}
-use Rattle.track.specs.declared.Track.{Track}
 use Rattle.dates.specs.declared.Tracks.{Tracks}
 use Rattle.dates.specs.Inner.Load.{put, Loading, Added}
-use Rattle.dates.specs.Inner.Tracked.{tracksOf, Tracked}
+use Rattle.dates.specs.Inner.Tracked.{tracksOf}
 use Rattle.dates.specs.Inner.Stands.{Settles}
 use Rattle.dates.proofs.LoadLaws.{loaded-settles, loaded-tracked, none-tracked, none-settles}
 use Rattle.loading.specs.Inner.Rules.{Season, Faultless, rulesAt, SettledRules}

@@ -14,12 +14,12 @@ ghost use Rattle.call_definitions.specs.Call.{placeOf, shownAt};
 ghost use Rattle.texts.specs.Inner.Shown.{lookupShown, Placed, chosen, shownBy};
 use crate::Lookup;
 use crate::kept::look_up_kept;
-use opening::calls::is_public;
-use opening::calls::is_secret;
 use event_text::Head;
 use event_text::heads::own_of;
 use loading::lists::load_list;
 use loading::lists::load_overrides;
+use opening::calls::is_public;
+use opening::calls::is_secret;
 use record::window::since_1600;
 
 // The first second of 1601, from 1600-01-01T00:00:00.

@@ -4,8 +4,10 @@ use mathlib.Core.Bool.{Bool, true, false}
 use mathlib.Core.List.{List, [], _∷_, _++_}
 use mathlib.Core.Path.{_≡_, refl, sym, ap, _∙_, subst}
 use native.Mathlib.Omega.{arith}
+use lib.Dec.{eqb}
 use lib.ListN.{length, take, set, getD, length-set}
 use lib.Seq.{take-suc-set, length-take-le}
+use borrow.Author.Tests.{eq-eqb, ne-eqb}
 use Rattle.signed.specs.Choose.{if_then_else_}
 use Rattle.window.specs.Inner.Lists.{listIn}
 use Rattle.window.specs.Inner.Handed.{Handed}
@@ -116,3 +118,11 @@ one-second p x before after count next h =
     go : (b : Bool) → length (if b then x ∷ [] else []) ≡ (if b then 1 else 0)
     go true = refl
     go false = refl
+
+-- so whether there is one is whether it passes
+pub one-found : (p : ℕ → Bool) (x : ℕ) (before after : List ℕ) (count next : ℕ) → Handed p x (x + 1) before after count next → eqb count 1 ≡ p x
+one-found p x before after count next h = go (p x) (one-second p x before after count next h)
+  where
+    go : (b : Bool) → count ≡ (if b then 1 else 0) → eqb count 1 ≡ b
+    go true e = eq-eqb count 1 e
+    go false e = ne-eqb count 1 (λ one. absurd (omega (arith, e)))

@@ -6,5 +6,4 @@ pub mod RunLaws
 pub mod ChunkLaws
 pub mod ListLaws
 pub mod HandLaws
-pub mod CountLaws
 pub mod SortedLaws

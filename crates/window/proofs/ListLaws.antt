@@ -95,16 +95,6 @@ list-below p a (suc n) k h = go (λ j. list-below p (suc a) n j) (p a) k h
 -- ---- by what is next
 
 module _ (p : ℕ → Bool) (a to r : ℕ) (f : Next p a to r) where
-  pub list-next : r < to → listIn p a (to - a) ≡ r ∷ listIn p (suc r) (to - suc r)
-  list-next h =
-      let low = f .low in
-      let parts : to - a ≡ (r - a) + suc (to - suc r) = omega arith in
-      let here : a + (r - a) ≡ r = omega arith in
-      ap (listIn p a) parts
-      ∙ (list-split p a (r - a) (suc (to - suc r))
-      ∙ (ap (λ (l : List ℕ). l ++ listIn p (a + (r - a)) (suc (to - suc r))) (list-nothing p a (r - a) (λ j below above. f .none j below (omega arith)))
-      ∙ (ap (λ (k : ℕ). listIn p k (suc (to - suc r))) here ∙ list-first p r (to - suc r) (f .passes h))))
-
   pub list-over : to ≤ r → listIn p a (to - a) ≡ []
   list-over h = list-nothing p a (to - a) (λ j below above. f .none j below (omega arith))
 
@@ -136,6 +126,3 @@ module _ (e : Event) (from to : ℕ) (order : from ≤ to) (limit : ℕ) (l : Lo
   ids-loaded =
       kept-list (inSet e) from (to - from)
       ∙ list-same (inSet e) (isIn l) from (to - from) (λ j low high. sym (in-set e limit l s j (omega arith)))
-
-  pub ids-counted : length (ids e from to) ≡ countIn (isIn l) from (to - from)
-  ids-counted = ap length ids-loaded ∙ list-length (isIn l) from (to - from)

@@ -1,16 +1,14 @@
 -- The next second that passes: it is at hand by what it is, and two tests have their next where the nearer has its own.
-use Prim.Native.Nat.{ℕ, suc, _+_, _-_, _<_, _≤_}
+use Prim.Native.Nat.{ℕ, _-_, _<_, _≤_}
 use mathlib.Core.Bool.{Bool, true, false, false≢true, _||_}
-use mathlib.Core.Path.{_≡_, refl, sym, ap, _∙_, subst}
+use mathlib.Core.Path.{_≡_, refl, sym, _∙_}
 use native.Mathlib.Omega.{arith}
-use lib.Dec.{eqb, ltb}
-use borrow.Author.Tests.{ltb-true, ltb-false, eqb-true, eqb-false}
+use lib.Dec.{ltb}
+use borrow.Author.Tests.{ltb-true, ltb-false}
 use Rattle.signed.specs.Choose.{if_then_else_}
-use Rattle.rule.specs.Lists.{countIn}
 use Rattle.rule.proofs.Bools.{by, or-left, or-right}
-use Rattle.rule.proofs.Counting.{count-more, count-nothing, count-split}
-use Rattle.window.proofs.FirstLaws.{First, first-is, first-same}
-use Rattle.window.specs.Inner.Next.{firstFrom, nextOf, lower}
+use Rattle.window.proofs.FirstLaws.{first-is, first-same}
+use Rattle.window.specs.Inner.Next.{nextOf, lower}
 
 pub record Next (p : ℕ → Bool) (a to r : ℕ) : Type 0 where
   pub low : a ≤ r
@@ -72,38 +70,3 @@ next-lower p q a to r s f g = go (ltb s r) refl
 -- what is next from an earlier second on is next, as long as it was not passed
 pub next-later : (p : ℕ → Bool) (a b to r : ℕ) → a ≤ b → b ≤ r → Next p a to r → Next p b to r
 next-later p a b to r h k f = record { low = k; high = f .high; passes = f .passes; none = λ j low high. f .none j (omega arith) high }
-
--- ---- counting by what is next
-
-module _ (p : ℕ → Bool) (a to r : ℕ) (f : Next p a to r) where
-  pub count-next : r < to → countIn p a (to - a) ≡ 1 + countIn p (r + 1) (to - (r + 1))
-  count-next h =
-      let low = f .low in
-      let parts : to - a ≡ (r - a) + suc (to - (r + 1)) = omega arith in
-      let here : a + (r - a) ≡ r = omega arith in
-      let split = count-split p a (r - a) (suc (to - (r + 1))) in
-      let before : countIn p a (r - a) ≡ 0 = count-nothing p a (r - a) (λ j below above. f .none j below (omega arith)) in
-      let rest : countIn p (a + (r - a)) (suc (to - (r + 1))) ≡ suc (countIn p (suc r) (to - (r + 1))) =
-      ap (λ (k : ℕ). countIn p k (suc (to - (r + 1)))) here ∙ count-more p r (to - (r + 1)) (f .passes h)
-      in
-      let one : r + 1 ≡ suc r = omega arith in
-      let same : countIn p (r + 1) (to - (r + 1)) ≡ countIn p (suc r) (to - (r + 1)) = ap (λ (k : ℕ). countIn p k (to - (r + 1))) one in
-      let whole : countIn p a (to - a) ≡ countIn p a ((r - a) + suc (to - (r + 1))) = ap (countIn p a) parts in
-      omega arith
-
-  pub count-over : to ≤ r → countIn p a (to - a) ≡ 0
-  count-over h = count-nothing p a (to - a) (λ j below above. f .none j below (omega arith))
-
--- one second alone
-pub next-alone : (p : ℕ → Bool) (x r : ℕ) → r ≡ nextOf p x (x + 1) → eqb r x ≡ p x
-next-alone p x r is =
-    let n : Next p x (x + 1) r = subst (Next p x (x + 1)) (sym is) (next-is p x (x + 1) (omega arith)) in
-    let low = n .low in
-    let high = n .high in
-    by (eqb r x)
-    (λ e.
-    let same : r ≡ x = eqb-true r x e in
-    rw e (sym (subst (λ (k : ℕ). p k ≡ true) same (n .passes (omega arith)))))
-    (λ e.
-    let other = eqb-false r x e in
-    rw e (sym (n .none x (omega arith) (omega arith))))

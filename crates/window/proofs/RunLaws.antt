@@ -1,23 +1,21 @@
 -- A run that is filled, and the overrides: together they have the set.
-use Prim.Native.Nat.{ℕ, zero, suc, _+_, _-_, _*_, _/_, _%_, _<_, _≤_}
-use mathlib.Core.Bool.{Bool, true, false, false≢true, _||_}
-use mathlib.Core.List.{List, [], _∷_}
+use Prim.Native.Nat.{ℕ, _+_, _-_, _*_, _/_, _%_, _<_, _≤_}
+use mathlib.Core.Bool.{Bool, true, false, _||_}
+use mathlib.Core.List.{List}
 use mathlib.Core.Path.{_≡_, refl, sym, ap, _∙_, subst}
 use native.Mathlib.Omega.{arith}
 use lib.Dec.{eqb, ltb}
-use lib.ListN.{length, getD}
-use borrow.Author.Tests.{ltb-true, ltb-false, eqb-true, eqb-false}
+use lib.ListN.{getD}
+use borrow.Author.Tests.{ltb-false, eqb-true}
 use Rattle.signed.specs.Choose.{if_then_else_}
-use Rattle.rule.specs.Lists.{countIn}
 use Rattle.rule.specs.Gives.{onDay}
 use Rattle.rule.proofs.Bools.{by}
-use Rattle.rule.proofs.Counting.{count-same}
 use Rattle.track.specs.Inner.Runs.{run}
 use Rattle.track.proofs.RunLaws.{run-at}
 use Rattle.dates.specs.Inner.Overrides.{isNamed, isKept}
 use Rattle.dates.specs.Inner.Loaded.{Loaded, byRules, isIn, isOn}
 use Rattle.window.specs.Inner.Next.{nextOf, isHit, isThere, lower, renewed, Stretch}
-use Rattle.window.proofs.NextLaws.{Next, next-is, next-made, next-same, next-lower, next-later, count-next, count-over}
+use Rattle.window.proofs.NextLaws.{Next, next-is, next-made, next-lower, next-later}
 
 -- ---- what is next in both
 
@@ -47,55 +45,6 @@ renewed-is ids gone pending a b to before order is =
     (next-made (isKept ids gone) b to order pending
     (next-later (isKept ids gone) a b to pending before (ltb-false pending b e)
     (subst (Next (isKept ids gone) a to) (sym is) (next-is (isKept ids gone) a to (omega arith))))))
-
--- ---- the loop that counts: what was found, and what is left, make the whole
-
-pub record FoundAt (hits : List Bool) (first start : ℕ) (ids : List ℕ) (gone : List Bool) (at to from pending found : ℕ) : Type 0 where
-  pub low : at ≤ from
-  pub order : from ≤ to
-  pub few : found ≤ from
-  pub kept : pending ≡ nextOf (isKept ids gone) from to
-  pub sum : found + countIn (isThere hits first start ids gone) from (to - from) ≡ countIn (isThere hits first start ids gone) at (to - at)
-
-module _ (hits : List Bool) (first start : ℕ) (ids : List ℕ) (gone : List Bool) (at to : ℕ) where
-  pub found-starts : (pending : ℕ) → at ≤ to → pending ≡ nextOf (isKept ids gone) at to → FoundAt hits first start ids gone at to at pending 0
-  found-starts pending order is = record { low = omega arith; order = order; few = omega arith; kept = is; sum = omega arith }
-
-  module _ (from pending found : ℕ) (a : FoundAt hits first start ids gone at to from pending found) where
-    module _ (x : ℕ) (is : x ≡ lower (nextOf (isHit hits first start) from to) pending) where
-      pub found-next : Next (isThere hits first start ids gone) from to x
-      found-next = there-is hits first start ids gone from to pending x (a .order) (a .kept) is
-
-      pub found-none : to ≤ x → found ≡ countIn (isThere hits first start ids gone) at (to - at)
-      found-none h =
-          let sum = a .sum in
-          let over = count-over (isThere hits first start ids gone) from to x found-next h in
-          omega arith
-
-      pub found-one : x < to → (next : ℕ) → next ≡ renewed ids gone pending (x + 1) to → FoundAt hits first start ids gone at to (x + 1) next (found + 1)
-      found-one h next renew =
-          let n = found-next in
-          let low = n .low in
-          let more = count-next (isThere hits first start ids gone) from to x n h in
-          let sum = a .sum in
-          let before = a .low in
-          let few = a .few in
-          record {
-            low = omega arith;
-            order = omega arith;
-            few = omega arith;
-            kept = renew ∙ renewed-is ids gone pending from (x + 1) to (omega arith) (omega arith) (a .kept);
-            sum = omega arith;
-          }
-
-    pub found-all : to ≤ from → found ≡ countIn (isThere hits first start ids gone) at (to - at)
-    found-all h =
-        let sum = a .sum in
-        let order = a .order in
-        let none = next-is (isThere hits first start ids gone) from to order in
-        let low = none .low in
-        let over = count-over (isThere hits first start ids gone) from to (nextOf (isThere hits first start ids gone) from to) none (omega arith) in
-        omega arith
 
 -- ---- a run that is filled with the set
 
@@ -134,18 +83,10 @@ module _ (l : Loaded) (hits : List Bool) (first n : ℕ) (is : hits ≡ run (isO
       (λ e. rw (e, timed-hit (eqb-true (x % 86400) (l .start % 86400) e)) absorbed)
       (λ e. rw e (untimed e))
 
--- what is counted and what is next in a run that is filled
+-- in a stretch of its days
 module _ (l : Loaded) (hits : List Bool) (first n : ℕ) (is : hits ≡ run (isOn l) first n) (at to : ℕ) (s : Stretch first n at to) where
   pub same-there : (j : ℕ) → at ≤ j → j < to → isThere hits first (l .start) (l .ids) (l .gone) j ≡ isIn l j
   same-there j low high =
       let below = s .low in
       let above = s .high in
       run-there l hits first n is j (omega arith) (omega arith)
-
-  pub run-counted : (r : ℕ) → r ≡ countIn (isThere hits first (l .start) (l .ids) (l .gone)) at (to - at) → r ≡ countIn (isIn l) at (to - at)
-  run-counted r e =
-      let order = s .order in
-      e ∙ count-same (isThere hits first (l .start) (l .ids) (l .gone)) (isIn l) at (to - at) (λ j low high. same-there j low (omega arith))
-
-  pub run-next : (r : ℕ) → r ≡ nextOf (isThere hits first (l .start) (l .ids) (l .gone)) at to → r ≡ nextOf (isIn l) at to
-  run-next r e = e ∙ next-same (isThere hits first (l .start) (l .ids) (l .gone)) (isIn l) at to same-there (s .order)

@@ -1,6 +1,6 @@
 -- Ids that increase: an id stands at one place, and what stands after it is greater.
-use Prim.Native.Nat.{ℕ, zero, suc, _+_, _-_, _/_, _<_, _≤_}
-use mathlib.Core.Bool.{Bool, true, false, false≢true, _&&_, _||_}
+use Prim.Native.Nat.{ℕ, zero, suc, _+_, _-_, _<_, _≤_}
+use mathlib.Core.Bool.{Bool, true, false, _&&_, _||_}
 use mathlib.Core.List.{List, [], _∷_}
 use mathlib.Core.Path.{_≡_, refl, sym, ap, _∙_, subst}
 use native.Mathlib.Omega.{arith}
@@ -9,12 +9,11 @@ use lib.Dec.{eqb, ltb}
 use lib.ListN.{length, drop, getD, length-drop, drop-of-length-le}
 use lib.Seq.{drop-cons, getD-drop}
 use borrow.Author.Tests.{ltb-true, ltb-false, lt-ltb, le-ltb, eqb-true, eqb-false, eq-eqb, ne-eqb}
-use Rattle.signed.specs.Choose.{if_then_else_}
 use Rattle.rule.proofs.Bools.{by}
 use Rattle.dates.specs.Inner.Overrides.{counts, isNamed, isKept}
 use Rattle.window.specs.Inner.Next.{nextOf, lower}
 use Rattle.window.specs.Inner.Sorted.{Rising, lessThan, Below}
-use Rattle.window.proofs.NextLaws.{Next, next-made}
+use Rattle.window.proofs.NextLaws.{next-made}
 
 -- ---- the walk that looks whether they increase
 

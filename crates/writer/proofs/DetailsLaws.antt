@@ -1,29 +1,20 @@
 -- The details of an occurrence: by the override that names it, found by going through the ids.
 use Prim.Native.Nat.{ℕ, zero, suc, _+_, _*_, _<_, _≤_, _^_}
-use mathlib.Core.Bool.{Bool, true, false}
 use mathlib.Core.List.{List, [], _∷_}
 use mathlib.Core.Path.{_≡_, refl, sym, ap, subst, _∙_}
 use native.Mathlib.Numerals.{add-one}
 use native.Mathlib.Omega.{arith}
-use lib.Dec.{eqb}
 use lib.ListN.{length, getD, drop, drop-of-length-le}
-use lib.IntN.{ℤ}
-use lib.Seq.{drop-cons, sets}
-use mir.Syntax.{w64}
-use mir.Val.{SFits, toZ, ofZ}
-use mir.Facts.{toZ-ofZ}
+use lib.Seq.{drop-cons}
 use borrow.Author.Tests.{eq-eqb, ne-eqb}
 use Rattle.event.specs.Types.{Details, Override}
 use Rattle.event.specs.Reading.{Reading}
 use Rattle.call_definitions.specs.Occurrence.{withStart}
 use Rattle.override_text.specs.declared.Patch.{Patch}
-use Rattle.override_text.specs.declared.Own.{Own}
-use Rattle.override_text.specs.Inner.Meaning.{overrideIn, detailsIn}
+use Rattle.override_text.specs.Inner.Meaning.{overrideIn}
 use Rattle.override_text.specs.Inner.Patched.{patchAt}
 use Rattle.record.specs.declared.Times.{Times}
-use Rattle.record.specs.Inner.Occurrences.{occurrenceRow, Small}
-use Rattle.writer.proofs.RowsLaws.{row-length}
-use Rattle.writer.specs.Inner.Details.{patchDetails, detailsBy, Passed, timesFrom, timesIn, patchTimes, rowBy, ownRow}
+use Rattle.writer.specs.Inner.Details.{patchDetails, detailsBy, Passed, timesFrom, timesIn, patchTimes}
 
 -- ---- a patch that was read
 
@@ -82,38 +73,3 @@ module _ (s : List ℕ) (own : Details) (ids places : List ℕ) (even : length i
   pub seen-none : (i : ℕ) → length ids ≤ i → Seen s own ids places x i → timesFrom x (own .length .days) (own .length .seconds) (own .busy) (own .allDay) ≡ timesIn (detailsBy s own ids places x)
   unfolding timesIn withStart
   seen-none i h seen = ap timesIn (seen-own i h seen)
-
--- ---- the record: t the times that were found, the initial offset passed by its bits
-
-module _ (fl : Bool) (b : ℤ) (ts ns : List ℤ) (f : SFits w64 b) (x : ℕ) (details : ℕ → Details) (t : Times) (is : t ≡ timesIn (details x)) (at : ℕ) (before after : List ℕ) where
-  pub put-row : after ≡ sets before at (occurrenceRow fl (toZ w64 (ofZ w64 b)) ts ns x t) → after ≡ sets before at (rowBy fl b ts ns details x)
-  unfolding rowBy
-  put-row e = (rw (toZ-ofZ f) at e) ∙ ap (λ (u : Times). sets before at (occurrenceRow fl b ts ns x u)) is
-
--- ---- where there is no override
-
-module _ (fl : Bool) (b : ℤ) (ts ns : List ℤ) (s : List ℕ) (own : Own) (ids places : List ℕ) (none : length ids ≡ 0) (even : length ids ≡ length places) where
-  own-times : (x : ℕ) → timesFrom x (own .days) (own .seconds) (own .busy) (own .allday) ≡ timesIn (detailsBy s (detailsIn s own) ids places x)
-  own-times x = seen-none s (detailsIn s own) ids places even x 0 (omega arith) (omega arith, refl)
-
-  pub own-row : (x : ℕ) → ownRow fl b ts ns own x ≡ rowBy fl b ts ns (detailsBy s (detailsIn s own) ids places) x
-  unfolding ownRow rowBy
-  own-row x = ap (occurrenceRow fl b ts ns x) (own-times x)
-
-  pub own-small : timesIn (detailsBy s (detailsIn s own) ids places 0) .seconds ≤ 2 ^ 40 → 86400 * own .days + own .seconds ≤ 2 ^ 40
-  unfolding timesFrom
-  own-small h = subst (λ (t : Times). t .seconds ≤ 2 ^ 40) (sym (own-times 0)) h
-
-pub own-length : (fl : Bool) (b : ℤ) (ts ns : List ℤ) (own : Own) (x : ℕ) → length (ownRow fl b ts ns own x) ≡ 28
-unfolding ownRow occurrenceRow
-own-length fl b ts ns own x = row-length _ _ _ _
-
-pub own-is-small : (own : Own) (x : ℕ) (t : Times) → x < 2 ^ 60 → 86400 * own .days + own .seconds ≤ 2 ^ 40 → t ≡ timesFrom x (own .days) (own .seconds) (own .busy) (own .allday) → Small x t
-unfolding timesFrom
-own-is-small own x t low short is = subst (Small x) (sym is) (record { id-small = low; start-small = low; length-small = short })
-
--- the record that is put
-pub put-own : (fl : Bool) (b : ℤ) (ts ns : List ℤ) (own : Own) (x : ℕ) (t : Times) → t ≡ timesFrom x (own .days) (own .seconds) (own .busy) (own .allday) → (at : ℕ) (before after : List ℕ)
-    → after ≡ sets before at (occurrenceRow fl b ts ns x t) → after ≡ sets before at (ownRow fl b ts ns own x)
-unfolding ownRow
-put-own fl b ts ns own x t is at before after e = e ∙ ap (λ (u : Times). sets before at (occurrenceRow fl b ts ns x u)) is

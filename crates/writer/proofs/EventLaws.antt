@@ -9,9 +9,7 @@ use Rattle.dates.specs.Inner.Stands.{Stands}
 use Rattle.event.specs.Types.{Details, Event}
 use Rattle.call_definitions.specs.Occurrence.{datesOf, occurrences, detailsAt}
 use Rattle.call_definitions.specs.Bytes.{ZoneTable, isFloating, secondsIn, recordOf, recordsOf, trailerOf}
-use Rattle.record.specs.Inner.Occurrences.{occurrenceRow}
 use Rattle.record.proofs.OccurrenceLaws.{times, occurrence-record}
-use Rattle.window.specs.Inner.Lists.{listIn}
 use Rattle.window.proofs.ListLaws.{ids-loaded}
 use Rattle.writer.specs.Inner.Rows.{rowsOf}
 use Rattle.writer.specs.Inner.Details.{timesFrom, timesIn, rowBy}

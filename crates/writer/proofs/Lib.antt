@@ -1,8 +1,5 @@
 pub mod RowsLaws
 pub mod DetailsLaws
-pub mod WriteLaws
-pub mod ChunkLaws
-pub mod ListedLaws
 pub mod TableLaws
 pub mod EventLaws
 pub mod WritesLaws

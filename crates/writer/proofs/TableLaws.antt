@@ -1,13 +1,12 @@
 -- The table of a window: its length, its bytes as they are written one part after the other, and what a call leaves of it.
 use Prim.Native.Nat.{ℕ, _+_, _-_, _*_, _/_, _<_, _≤_, _^_}
 use mathlib.Core.Bool.{Bool}
-use mathlib.Core.List.{List, _++_}
+use mathlib.Core.List.{List}
 use mathlib.Core.Path.{_≡_, refl, sym, ap, ap₂, _∙_}
 use native.Mathlib.Omega.{arith}
 use lib.ListN.{length, length-append}
 use lib.Seq.{sets, length-sets}
 use borrow.Author.Tests.{lt-ltb, le-ltb}
-use Rattle.rule.specs.Lists.{countIn}
 use Rattle.rule.proofs.Counting.{count-most}
 use Rattle.call_definitions.specs.Bytes.{trailerOf}
 use Rattle.call_definitions.specs.Answer.{outcomeBy}
@@ -15,11 +14,9 @@ use Rattle.call_definitions.specs.Results.{Gives}
 use Rattle.call_definitions.proofs.DemandTwo.{trailer-length}
 use Rattle.record.proofs.RowLaws.{sets-append}
 use Rattle.window.specs.Inner.Lists.{listIn}
-use Rattle.window.specs.Inner.Chunks.{Window}
 use Rattle.window.specs.Inner.Handed.{Span}
 use Rattle.window.proofs.ListLaws.{list-length}
 use Rattle.writer.specs.Inner.Rows.{rowsOf}
-use Rattle.writer.specs.Inner.Runs.{Written}
 use Rattle.writer.specs.Inner.Table.{tableBy, fitted}
 use Rattle.writer.specs.Inner.Writes.{WroteChunk}
 use Rattle.writer.proofs.RowsLaws.{rows-length}
@@ -83,29 +80,3 @@ module _ (row : ℕ → List ℕ) (size : (x : ℕ) → length (row x) ≡ 28) (
           let count : place / 28 ≡ length (listIn p from (to - from)) = omega (arith, w .place) in
           fits (tableBy row p from to) before (omega (arith, table-long)) (place + 12) (omega (arith, w .place, table-long)) after
           (joined after (last ∙ ap (λ (k : ℕ). sets buf place (trailerOf k)) count))
-
--- ---- the same by the number that was counted
-
-pub count-small : (p : ℕ → Bool) (start from to : ℕ) → Window start from to → 28 * countIn p from (to - from) + 12 < 2 ^ 63
-count-small p start from to w = omega (arith, count-most p from (to - from), w .high)
-
-module _ (row : ℕ → List ℕ) (size : (x : ℕ) → length (row x) ≡ 28) (p : ℕ → Bool) (from to count : ℕ) (is : count ≡ countIn p from (to - from)) (before : List ℕ) where
-  counted : count ≡ length (listIn p from (to - from))
-  counted = is ∙ sym (list-length p from (to - from))
-
-  sized : 28 * count + 12 ≡ length (tableBy row p from to)
-  sized = ap (λ (k : ℕ). 28 * k + 12) counted ∙ sym (table-long row size p from to)
-
-  pub table-short : length before < 28 * count + 12 → Gives (fitted (tableBy row p from to) before) 13 0 before
-  table-short h = too-long (tableBy row p from to) before (omega (arith, sized))
-
-  pub table-fits : 28 * count + 12 ≤ length before → (after : List ℕ) → after ≡ sets before 0 (tableBy row p from to)
-      → Gives (fitted (tableBy row p from to) before) 0 (28 * count + 12) after
-  table-fits h after filled = fits (tableBy row p from to) before (omega (arith, sized)) _ sized after filled
-
-  pub table-written : (written after : List ℕ) (behind : ℕ) → Written row p from to 0 before written behind → after ≡ sets written behind (trailerOf count)
-      → after ≡ sets before 0 (tableBy row p from to)
-  table-written written after behind w last =
-      let chunk : WroteChunk row (listIn p from (to - from)) 0 before written behind =
-      record { bytes = w .bytes; place = w .place ∙ ap (λ (k : ℕ). 0 + 28 * k) (sym (list-length p from (to - from))) } in
-      joined row size p from to before written behind chunk after (last ∙ ap (λ (k : ℕ). sets written behind (trailerOf k)) counted)

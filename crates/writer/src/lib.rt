@@ -2,12 +2,9 @@
 // that it changes, with a table of the ends of the text's values.
 use override_text::Own;
 
-pub mod listed;
 pub mod nothing;
 pub mod records;
-pub mod runs;
 mod times;
-pub mod whole;
 
 // What the records of an event are made from: its own details, whether it floats, and whether the ids of its overrides increase.
 pub struct Form {

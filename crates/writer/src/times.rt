@@ -1,21 +1,15 @@
-// The times of one occurrence, and its record.
-ghost use mathlib.Core.Bool.{true};
+// The times of one occurrence.
 ghost use mathlib.Core.Path.{_≡_};
 ghost use Prim.Native.Nat.{_+_, _*_, _≤_, _^_};
-ghost use lib.ListN.{length};
-ghost use lib.Seq.{sets};
-ghost use Rattle.zone.specs.Table.{validTable};
 ghost use Rattle.json_ends.specs.Inner.Ends.{Ends};
 ghost use Rattle.override_text.specs.Inner.Meaning.{detailsIn};
-ghost use Rattle.record.specs.Inner.Occurrences.{Small};
 ghost use Rattle.window.specs.Inner.Sorted.{Ordered};
-ghost use Rattle.writer.specs.Inner.Details.{Passed, detailsBy, timesIn, rowBy, timesFrom, patchTimes};
+ghost use Rattle.writer.specs.Inner.Details.{Passed, detailsBy, timesIn, timesFrom, patchTimes};
 ghost use Rattle.writer.specs.Inner.Writes.{LooksUp};
 use crate::Form;
 use override_text::Own;
 use override_text::patches::patch;
 use record::Times;
-use record::occurrences::put_occurrence;
 use window::sorted::below;
 
 pub(crate) fn times(start: u64, days: u64, seconds: u64, busy: bool, allday: bool) -> Times
@@ -74,35 +68,4 @@ pub(crate) fn times_at(
         i += 1;
     }
     times(x, own.days, own.seconds, own.busy, own.allday)
-}
-
-// The record of the occurrence x, at a place of the buffer.
-pub(crate) fn put_at(
-    buf: &mut [u8],
-    at: usize,
-    text: &[u8],
-    ends: &[u32],
-    own: Own,
-    ids: &[u64],
-    sorted: bool,
-    places: &[usize],
-    floating: bool,
-    initial: i64,
-    instants: &[i64],
-    offsets: &[i64],
-    hint: &mut usize,
-    x: u64,
-)
-    requires { ⌜ (Ends (now text) (now ends) × Ordered (now ids) sorted) × ((at + 28 ≤ length (now buf)) × ((length (now ids) ≡ length (now places)) × ((validTable initial (now instants) (now offsets) ≡ true)
-        × Small x (timesIn (detailsBy (now text) (detailsIn (now text) own) (now ids) (now places) x))))) ⌝ }
-    ensures { λ _. ⌜ now (buf .exit) ≡ sets (now (buf .entry)) at (rowBy floating initial (now (instants .entry)) (now (offsets .entry))
-        (detailsBy (now (text .entry)) (detailsIn (now (text .entry)) own) (now (ids .entry)) (now (places .entry))) x) ⌝ }
-{
-    let form = Form {
-        own,
-        floating,
-        sorted,
-    };
-    let t = times_at(text, ends, form, ids, places, x);
-    put_occurrence(buf, at, x, t, floating, initial, instants, offsets, hint);
 }

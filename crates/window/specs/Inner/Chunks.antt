@@ -1,14 +1,7 @@
 -- A window goes by in chunks: as many days as the lent hits have, and no further than 9998.
 use Prim.Native.Nat.{ℕ, _+_, _-_, _*_, _/_, _<_, _≤_}
-use mathlib.Core.Path.{_≡_}
 use Rattle.rule.specs.Gives.{endDay}
-use Rattle.dates.specs.declared.Tracks.{Tracks}
-use Rattle.dates.specs.Inner.Tracked.{Tracked}
 use Rattle.window.specs.Inner.Next.{lower}
-
--- The days of the chunk that begins on the day of a second, with n hits.
-unfoldable pub chunkDays : ℕ → ℕ → ℕ
-chunkDays at n = lower n (endDay - at / 86400)
 
 -- The second after a chunk of k days, in a window to `to`.
 unfoldable pub chunkEnd : ℕ → ℕ → ℕ → ℕ
@@ -20,10 +13,3 @@ pub record Window (start from to : ℕ) : Type 0 where
   pub low : 366 ≤ from / 86400
   pub order : from ≤ to
   pub high : to ≤ 86400 * endDay
-
--- What the code keeps of an event is whole, and it was lent at least one hit.
-pub record Ready (rules : Tracks) (ruleFlags : ℕ) (excluded : Tracks) (excludedFlags ids gone hits : ℕ) : Type 0 where
-  pub rules-tracked : Tracked rules ruleFlags
-  pub excluded-tracked : Tracked excluded excludedFlags
-  pub overrides : ids ≡ gone
-  pub lent : 0 < hits

@@ -1,5 +1,5 @@
 -- The next date-time of a run of days that is filled, and the date-times of a stretch of time, as a list.
-use Prim.Native.Nat.{ℕ, zero, suc, _+_, _-_, _*_, _/_, _%_, _<_, _≤_}
+use Prim.Native.Nat.{ℕ, zero, suc, _+_, _-_, _*_, _/_, _%_, _≤_}
 use mathlib.Core.Bool.{Bool, true, false, _||_}
 use mathlib.Core.List.{List, [], _∷_}
 use mathlib.Core.Path.{_≡_}
@@ -37,12 +37,6 @@ pub record TrueAt (hits : List Bool) (from i : ℕ) : Type 0 where
   pub low : from ≤ i
   pub within : i ≤ length hits
   pub same : firstFrom (atHit hits) (length hits - i) i ≡ firstFrom (atHit hits) (length hits - from) from
-
--- Some days from `low` on, not beyond `high`, of which a byte holds the number.
-pub record Few (low high end : ℕ) : Type 0 where
-  pub more : low < end
-  pub most : end ≤ high
-  pub few : end ≤ low + 128
 
 -- x has the start's time of day and its day's hit is set.
 unfoldable pub isHit : List Bool → ℕ → ℕ → ℕ → Bool

@@ -9,7 +9,6 @@ use lib.ListN.{length, getD}
 use Rattle.signed.specs.Choose.{if_then_else_}
 use Rattle.event.specs.Types.{Details}
 use Rattle.call_definitions.specs.Occurrence.{withStart}
-use Rattle.override_text.specs.declared.Own.{Own}
 use Rattle.override_text.specs.Inner.Patched.{patchAt}
 use Rattle.record.specs.declared.Times.{Times}
 use Rattle.record.specs.Inner.Occurrences.{occurrenceRow}
@@ -42,8 +41,3 @@ patchTimes own s at id = timesIn (patchDetails own s at id)
 
 unfoldable pub rowBy : Bool → ℤ → List ℤ → List ℤ → (ℕ → Details) → ℕ → List ℕ
 rowBy floating initial instants offsets details x = occurrenceRow floating initial instants offsets x (timesIn (details x))
-
--- The same where no override names x: its details are the event's own.
-unfoldable pub ownRow : Bool → ℤ → List ℤ → List ℤ → Own → ℕ → List ℕ
-ownRow floating initial instants offsets own x =
-    occurrenceRow floating initial instants offsets x (timesFrom x (own .days) (own .seconds) (own .busy) (own .allday))

@@ -1,6 +1,5 @@
 -- `loading::rules::load_places` meets its contract: each turn settles one rule more.
 use Prim.Native.Nat.{_-_}
-use native.Mathlib.Omega.{arith}
 use mathlib.Core.Path.{sym, _∙_}
 use lib.ListN.{length}
 use Rattle.loading.proofs.RuleLaws.{LoadedTo, loading-starts, room, sized, loading-goes-on, loading-ends}

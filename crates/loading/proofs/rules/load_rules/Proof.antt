@@ -1,11 +1,6 @@
 -- `loading::rules::load_rules` meets its contract: the places that were stored are those of the list's rules.
 use mathlib.Core.Path.{refl}
 use Rattle.loading.proofs.RuleLaws.{enough, places-long, places-fine, list-settled}
-use Rattle.event.specs.Reading.{limited, orWrong}
-use Rattle.event.specs.Rules.{readRule, readRules}
-use Rattle.json_tree.specs.Tree.{treeAt, treeBy}
-use Rattle.json_value.specs.Values.{arrayOf, objectOf}
-use Rattle.json_walk.specs.Walk.{elementsOf, membersOf}
 use borrow.Author.Needs.{needs}
 use Rattle.loading.proofs.rules.load_rules.Statement.{statement}
 use Rattle.loading.proofs.rules.load_rules.Tie as tie

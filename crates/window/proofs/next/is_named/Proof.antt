@@ -1,8 +1,6 @@
 -- `window::next::is_named` meets its contract.
 use Rattle.window.proofs.OverrideLaws.{NamedAt, named-starts, named-here, named-other, named-not-counted, named-none}
 use lib.ListN.{length}
-use native.Mathlib.Omega.{arith}
-use mathlib.Core.Path.{sym, _∙_}
 use Prim.Native.Nat.{_-_}
 use borrow.Author.Needs.{needs}
 use Rattle.window.proofs.next.is_named.Statement.{statement}

@@ -1,8 +1,7 @@
 -- `window::next::next_hit` meets its contract.
 use Rattle.window.proofs.HitLaws.{day-low, day-high, hit-index, hit-here, hit-nowhere}
-use lib.ListN.{length}
 use native.Mathlib.Omega.{arith}
-use mathlib.Core.Path.{_≡_, refl}
+use mathlib.Core.Path.{refl}
 use borrow.Author.Needs.{needs}
 use Rattle.window.proofs.next.next_hit.Statement.{statement}
 use Rattle.window.proofs.next.next_hit.Tie as tie

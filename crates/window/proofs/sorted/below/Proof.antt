@@ -1,5 +1,5 @@
 -- `window::sorted::below` meets its contract: what lies between `low` and `high` is halved at each turn.
-use Prim.Native.Nat.{_-_, _+_, _/_}
+use Prim.Native.Nat.{_-_}
 use native.Mathlib.Omega.{arith}
 use Rattle.window.proofs.SortedLaws.{Halved, halves-start, halves-up, halves-down, halves-end}
 use borrow.Author.Needs.{needs}

@@ -1,6 +1,5 @@
 -- `writer::times::look_from` meets its contract.
 use native.Mathlib.Omega.{arith}
-use borrow.Author.Needs.{needs}
 use Rattle.writer.proofs.times.look_from.Statement.{statement}
 use Rattle.writer.proofs.times.look_from.Tie as tie
 

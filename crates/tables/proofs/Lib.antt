@@ -1,2 +1,0 @@
-pub mod ChunkLaws
-pub mod LentLaws
