@@ -7,7 +7,7 @@ ghost use Rattle.window.specs.Inner.Handed.{Handed};
 ghost use Rattle.source.specs.Inner.Asked.{Asked};
 ghost use Rattle.source.specs.Inner.Marks.{Marks};
 use dates::Dates;
-use dates::fill::fill_run;
+use dates::fill::fill;
 use window::Chunk;
 use window::chunks::chunk_end;
 use window::collect::collect_run;
@@ -47,6 +47,6 @@ pub(crate) fn marked(
     let k = days_at_once(from, to);
     let end = chunk_end(from, to, k);
     let first = (from / 86400) as u32;
-    fill_run(dates, rows, ids, gone, &mut hits[..k], first);
+    fill(dates, rows, ids, gone, &mut hits[..k], first);
     collect_run(&hits[..k], first, dates.start, ids, gone, from, end, out)
 }
