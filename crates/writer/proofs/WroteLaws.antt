@@ -35,6 +35,11 @@ module _ (row : ℕ → List ℕ) (p : ℕ → Bool) (from to at : ℕ) (before 
         let nothing : rowsOf row (listIn p second (to - second)) ≡ [] = ap (rowsOf row) none ∙ rows-none row in
         record { bytes = sym (ap (sets buf place) nothing) ∙ w .rest; place = omega (arith, ap length none, w .room) }
 
+    -- and what was written from there on
+    pub wrote-on : (later end : ℕ) (after : List ℕ) → WroteTo row p second to place buf later end after → WroteTo row p from to at before later end after
+    wrote-on later end after l =
+        record { low = omega (arith, w .low, l .low); order = l .order; same = l .same ∙ w .same; room = l .room ∙ w .room; rest = l .rest ∙ w .rest }
+
     module _ (room out : List ℕ) (count next : ℕ) (h : Handed p second to room out count next) where
       lists : listIn p second (to - second) ≡ take count out ++ listIn p next (to - next)
       lists =
