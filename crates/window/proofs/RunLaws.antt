@@ -48,6 +48,10 @@ renewed-is ids gone pending a b to before order is =
     (next-later (isKept ids gone) a b to pending before (ltb-false pending b e)
     (subst (Next (isKept ids gone) a to) (sym is) (next-is (isKept ids gone) a to (omega arith))))))
 
+pub renewed-next : (ids : List ℕ) (gone : List Bool) (pending a b to next : ℕ) → a ≤ b → b ≤ to → pending ≡ nextOf (isKept ids gone) a to
+    → next ≡ renewed ids gone pending b to → next ≡ nextOf (isKept ids gone) b to
+renewed-next ids gone pending a b to next before order is renew = renew ∙ renewed-is ids gone pending a b to before order is
+
 -- ---- the loop that counts: what was found, and what is left, make the whole
 
 pub record FoundAt (hits : List Bool) (first start : ℕ) (ids : List ℕ) (gone : List Bool) (at to from pending found : ℕ) : Type 0 where
@@ -84,7 +88,7 @@ module _ (hits : List Bool) (first start : ℕ) (ids : List ℕ) (gone : List Bo
             low = omega arith;
             order = omega arith;
             few = omega arith;
-            kept = renew ∙ renewed-is ids gone pending from (x + 1) to (omega arith) (omega arith) (a .kept);
+            kept = renewed-next ids gone pending from (x + 1) to next (omega arith) (omega arith) (a .kept) renew;
             sum = omega arith;
           }
 
