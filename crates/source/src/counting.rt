@@ -1,7 +1,7 @@
 // How many ids a window has, and whether a table of them fits into a buffer.
 ghost use mathlib.Core.Path.{_≡_};
-ghost use mathlib.Core.Bool.{true};
-ghost use Prim.Native.Nat.{_+_, _-_, _≤_};
+ghost use Prim.Native.Nat.{_+_, _-_};
+ghost use lib.Dec.{leb};
 ghost use lib.ListN.{length};
 ghost use Rattle.dates.specs.Inner.Dates.{datesIn, Whole};
 ghost use Rattle.window.specs.Inner.Next.{dayFrom};
@@ -31,7 +31,7 @@ pub fn count_ids(dates: Dates, rows: &[bool], ids: &[u64], gone: &[bool], from: 
 // Do so many places hold an id for each day of a stretch, and all overrides? Then they hold its ids, and nothing is counted.
 fn holds_days(start: u64, overrides: usize, from: u64, to: u64, places: u64) -> bool
     requires { ⌜ Span from to ⌝ }
-    ensures { λ r. ⌜ (r ≡ true → dayFrom start to - dayFrom start from + overrides ≤ places) ⌝ }
+    ensures { λ r. ⌜ r ≡ leb (dayFrom start to - dayFrom start from + overrides) places ⌝ }
 {
     let days = day_from(start, to) - day_from(start, from);
     if places < days {

@@ -46,6 +46,10 @@ renewed-is ids gone pending a b to before order is =
     (next-later (isKept ids gone) a b to pending before (ltb-false pending b e)
     (subst (Next (isKept ids gone) a to) (sym is) (next-is (isKept ids gone) a to (omega arith))))))
 
+pub renewed-next : (ids : List ℕ) (gone : List Bool) (pending a b to next : ℕ) → a ≤ b → b ≤ to → pending ≡ nextOf (isKept ids gone) a to
+    → next ≡ renewed ids gone pending b to → next ≡ nextOf (isKept ids gone) b to
+renewed-next ids gone pending a b to next before order is renew = renew ∙ renewed-is ids gone pending a b to before order is
+
 -- ---- a run that is filled with the set
 
 module _ (l : Loaded) (hits : List Bool) (first n : ℕ) (is : hits ≡ run (isOn l) first n) (x : ℕ) (low : 86400 * first ≤ x) (high : x < 86400 * (first + n)) where

@@ -1,10 +1,10 @@
 -- `window::collect::collect_run` meets its contract: each turn puts the next id after those before, until none is left or the slice is full.
-use Prim.Native.Nat.{_-_}
-use mathlib.Core.Path.{_≡_, _∙_}
+use Prim.Native.Nat.{_+_, _-_, _≤_}
+use mathlib.Core.Path.{_≡_}
 use native.Mathlib.Omega.{arith}
 use Rattle.dates.specs.Inner.Overrides.{isKept}
 use Rattle.window.specs.Inner.Next.{nextOf, isThere}
-use Rattle.window.proofs.RunLaws.{there-is, renewed-is}
+use Rattle.window.proofs.RunLaws.{there-is, renewed-next}
 use Rattle.window.proofs.HandLaws.{HandAt, hand-start, hand-one, hand-full, hand-none, hand-over}
 use borrow.Author.Needs.{needs}
 use Rattle.window.proofs.collect.collect_run.Statement.{statement}
@@ -80,7 +80,7 @@ loop-again c =
     let i = c .before .before .before .before .before .loop .inv in
     let x = there-is _ _ _ _ _ _ _ _ _ (i .0 .order) (i .1) (c .before .before .next-in .ensures) in
     let more = c .before .if2 .left in
-    (hand-one _ _ _ _ _ _ _ (i .0) _ x more (c .before .before .before .if1 .left), c .renew .ensures ∙ renewed-is _ _ _ _ _ _ (omega (arith, x .low)) (omega arith) (i .1))
+    (hand-one _ _ _ _ _ _ _ (i .0) _ x more (c .before .before .before .if1 .left), renewed-next _ _ _ _ _ _ _ (omega (arith, x .low)) (omega arith) (i .1) (c .renew .ensures))
 
 same-length-3 : tie.Need-same-length-3 Inv-loop μ-loop
 same-length-3 c = c .before .loop .inv .0 .size
