@@ -1,3 +1,3 @@
 pub mod CallLaws
 pub mod AcceptedLaws
-pub mod ShownLaws
+pub mod VisibleLaws

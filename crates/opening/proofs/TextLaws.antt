@@ -21,7 +21,9 @@ unfolding textFault
 event-next s z f e = rw (z, ← e)
 
 pub was-refused : (s t : List ℕ) (r : Opening) → Opens s t r → (n : ℕ) → r ≡ Refused n → (n ≡ textFault s) × (n ≡ 0 → ⊥)
+unfolding Opens
 was-refused s t r o n is = subst (Opens s t) is o
 
 pub was-accepted : (s t : List ℕ) (r : Opening) → Opens s t r → (h : Head) → r ≡ Accepted h → (textFault s ≡ 0) × Taken s t h
+unfolding Opens
 was-accepted s t r o h is = subst (Opens s t) is o

@@ -7,6 +7,6 @@ use Rattle.call_definitions.specs.Call.{textFault}
 use Rattle.opening.specs.declared.Opening.{Opening}
 use Rattle.opening.specs.declared.Opening.the-variants.{Refused, Accepted}
 
-abbrev pub Opens : List ℕ → List ℕ → Opening → Type 0
+unfoldable pub Opens : List ℕ → List ℕ → Opening → Type 0
 Opens s t (Refused n) = (n ≡ textFault s) × (n ≡ 0 → ⊥)
 Opens s t (Accepted h) = (textFault s ≡ 0) × Taken s t h

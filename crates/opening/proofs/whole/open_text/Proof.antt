@@ -1,6 +1,7 @@
 -- `open_text` meets its contract: 1 to 4, then 5 to 9, and what they leave is accepted.
 use mathlib.Core.Path.{sym, _∙_}
 use borrow.Author.Needs.{needs}
+use Rattle.opening.specs.Inner.Opens.{Opens}
 use Rattle.opening.proofs.TextLaws.{answer-first, event-next}
 use Rattle.opening.proofs.whole.open_text.Statement.{statement}
 use Rattle.opening.proofs.whole.open_text.Tie as tie
@@ -12,6 +13,7 @@ same-length : tie.Need-same-length
 same-length c = search needs
 
 returns : tie.Need-returns
+unfolding Opens
 returns c = (answer-first _ _ (c .before .before .before .judge .ensures .is) (c .if1 .taken), c .if1 .taken)
 
 head-requires : tie.Need-head-requires
@@ -24,6 +26,7 @@ same-length-2 : tie.Need-same-length-2
 same-length-2 c = search needs
 
 returns-2 : tie.Need-returns-2
+unfolding Opens
 returns-2 c =
     let j = c .before .before .before .before .before .before .before .before .judge .ensures in
     (event-next _ (sym (j .is) ∙ c .before .before .before .before .before .if1 .left) _ (c .before .event-fault .ensures), c .if2 .taken)
@@ -32,6 +35,7 @@ same-length-3 : tie.Need-same-length-3
 same-length-3 c = search needs
 
 returns-3 : tie.Need-returns-3
+unfolding Opens
 returns-3 c =
     let j = c .before .before .before .before .before .before .before .before .judge .ensures in
     let f = c .before .event-fault .ensures in (

@@ -1,5 +1,5 @@
--- What the calls of `put_shown` say of an accepted event, joined: hd is its head, o its own details.
-use Prim.Native.Nat.{ℕ, _+_, _*_, _≤_}
+-- What the calls of `put_visible` say of an accepted event, joined: hd is its head, o its own details.
+use Prim.Native.Nat.{ℕ, _+_, _*_, _/_, _<_, _≤_}
 use mathlib.Core.Bool.{Bool, true, false}
 use mathlib.Core.List.{List, [], map}
 use mathlib.Core.Path.{_≡_, refl, sym, ap, subst, _∙_}
@@ -23,6 +23,7 @@ use Rattle.override_text.specs.Inner.Lists.{Filled}
 use Rattle.override_text.specs.Inner.Meaning.{detailsIn}
 use Rattle.event_text.specs.Inner.Front.{frontOf, inner}
 use Rattle.event_text.specs.Inner.Held.{fromHead}
+use Rattle.event_text.specs.Inner.Taken.{Taken}
 use Rattle.event_text.specs.declared.Head.{Head}
 use Rattle.event_text.proofs.FromHead.{head-zone, head-accepted}
 use Rattle.dates.specs.declared.Tracks.{Tracks}
@@ -30,6 +31,7 @@ use Rattle.dates.specs.Inner.Loaded.{Loaded, loaded, isIn}
 use Rattle.dates.specs.Inner.Stands.{Stands}
 use Rattle.dates.specs.Inner.Tracked.{Tracked}
 use Rattle.window.specs.Inner.Chunks.{Window}
+use Rattle.window.specs.Inner.Handed.{Span}
 use Rattle.call_definitions.specs.Occurrence.{datesOf}
 use Rattle.call_definitions.specs.Bytes.{ZoneTable, isFloating}
 use Rattle.call_definitions.specs.Answer.{Outcome}
@@ -44,7 +46,7 @@ use Rattle.loading.proofs.WindowLaws.{limit-within, limit-enough}
 use Rattle.writer.specs.Inner.Table.{tableBy, fitted}
 use Rattle.writer.proofs.EventLaws.{table-is}
 use Rattle.tables.proofs.LentLaws.{taken}
-use Rattle.expansion.specs.Inner.Shown.{tableFor}
+use Rattle.expansion.specs.Inner.Visible.{tableFor}
 
 -- the lists that were filled from the front are as long as before
 module _ (overrides : List Override) (patches : List ℕ) (ids₀ ids₁ : List ℕ) (gone₀ gone₁ : List Bool) (places₀ places₁ : List ℕ) (n : ℕ)
@@ -58,7 +60,13 @@ module _ (overrides : List Override) (patches : List ℕ) (ids₀ ids₁ : List 
   places-long : length places₁ ≡ length places₀
   places-long = ap length (w .places) ∙ length-sets places₀ 0 (take 256 patches)
 
-module _ (s : List ℕ) (hd : Head) (is : fromHead inner s hd ≡ frontOf s) (ok : eventFault s ≡ 0) (to limit : ℕ) (lim : limit ≡ limitOf to) where
+module _ (s t : List ℕ) (hd : Head) (known : Taken s t hd) (to limit : ℕ) (lim : limit ≡ limitOf to) where
+  is : fromHead inner s hd ≡ frontOf s
+  is = known .head
+
+  ok : eventFault s ≡ 0
+  ok = known .accepted
+
   within : limit ≤ endDay
   within = rw lim (limit-within to)
 
@@ -68,7 +76,7 @@ module _ (s : List ℕ) (hd : Head) (is : fromHead inner s hd ≡ frontOf s) (ok
   pub excluded-need : (optional [] readRules (valueIn inner s (hd .excluded)) .fault ≡ 0) × Season (hd .start) limit
   excluded-need = (head-accepted s hd is ok .excluded, kept-season s hd is ok limit within)
 
-  module _ (o : Own) (own : (t : List ℕ) → detailsIn t o ≡ fromHead inner t hd .details) (ids₀ ids₁ : List ℕ) (gone₀ gone₁ : List Bool) (places₀ places₁ : List ℕ) (n : ℕ)
+  module _ (o : Own) (own : (u : List ℕ) → detailsIn u o ≡ fromHead inner u hd .details) (ids₀ ids₁ : List ℕ) (gone₀ gone₁ : List Bool) (places₀ places₁ : List ℕ) (n : ℕ)
       (room : (256 ≤ length ids₀) × ((256 ≤ length gone₀) × (256 ≤ length places₀)))
       (filled : (d : Details)
       → Filled (optional [] (readOverrides d) (valueIn inner s (hd .overrides)) .value) (patchesIn s (hd .overrides)) ids₀ ids₁ gone₀ gone₁ places₀ places₁ n)
@@ -97,10 +105,15 @@ module _ (s : List ℕ) (hd : Head) (is : fromHead inner s hd ≡ frontOf s) (ok
       module _ (rules : Tracks) (flags : List Bool) (excluded : Tracks) (excludedFlags : List Bool)
           (kept : SettledRules false (hd .start) limit (optional [] readRules (valueIn inner s (hd .rules)) .value) rules flags)
           (left : SettledRules true (hd .start) limit (optional [] readRules (valueIn inner s (hd .excluded)) .value) excluded excludedFlags) (from : ℕ)
-          (w : Window (hd .start) from to) (b : ℤ) (ts ns : List ℤ) (fb : SFits w64 b)
+          (w : Span from to) (b : ℤ) (ts ns : List ℤ) (fb : SFits w64 b)
         where
           begins : o .start ≡ hd .start
           begins = kept-start s hd is ok o (own s)
+
+          window : Window (o .start) from to
+          window =
+              let b : o .start / 86400 < endDay = omega (arith, head-accepted s hd is ok .start .to, begins) in
+              record { begins = b; low = w .low; order = w .order; high = w .high }
 
           pub table-needs : validTable b ts ns ≡ true
               → (Tracked rules (length flags) × (Tracked excluded (length excludedFlags) × (length (take n ids₁) ≡ length (take n gone₁))))
@@ -110,7 +123,7 @@ module _ (s : List ℕ) (hd : Head) (is : fromHead inner s hd ≡ frontOf s) (ok
               let even = kept-even s hd is ok o (own s) ids₀ ids₁ gone₀ gone₁ places₀ places₁ n room filled in (
                 (kept .tracked, (left .tracked, even .marks)),
                 (
-                  subst (λ (k : ℕ). Window k from to) (sym begins) w,
+                  window,
                   (
                     even,
                     record {

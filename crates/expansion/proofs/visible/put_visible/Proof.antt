@@ -1,10 +1,10 @@
--- `put_shown` meets its contract: what is loaded stands for the event, so what is written is its table.
+-- `put_visible` meets its contract: what is loaded stands for the event, so what is written is its table.
 use mathlib.Core.Path.{refl}
 use native.Mathlib.Omega.{arith}
 use borrow.Author.Needs.{needs}
-use Rattle.expansion.proofs.ShownLaws.{rules-need, excluded-need, ids-room, ids-taken, gone-room, gone-taken, places-room, places-taken, table-needs, table-given}
-use Rattle.expansion.proofs.shown.put_shown.Statement.{statement}
-use Rattle.expansion.proofs.shown.put_shown.Tie as tie
+use Rattle.expansion.proofs.VisibleLaws.{rules-need, excluded-need, ids-room, ids-taken, gone-room, gone-taken, places-room, places-taken, table-needs, table-given}
+use Rattle.expansion.proofs.visible.put_visible.Statement.{statement}
+use Rattle.expansion.proofs.visible.put_visible.Tie as tie
 
 limit-of-requires : tie.Need-limit-of-requires
 limit-of-requires c κs = search needs
@@ -15,8 +15,8 @@ slice-aggregate-load-list c = search needs
 load-list-requires : tie.Need-load-list-requires
 load-list-requires c κs =
     let q = c .before .before .before .before .before in
-    let n = rules-need _ (q .args .event) (q .pre .1 .0) (q .pre .1 .1 .0) _ _ (c .before .limit-of .ensures) in
-    (n .0, (n .1, (refl, q .pre .0)))
+    let n = rules-need _ _ (q .args .head) (q .pre .taken) _ _ (c .before .limit-of .ensures) in
+    (n .0, (n .1, (refl, q .pre .taken .ends)))
 
 slice-aggregate-load-list-2 : tie.Need-slice-aggregate-load-list-2
 slice-aggregate-load-list-2 c = search needs
@@ -24,8 +24,8 @@ slice-aggregate-load-list-2 c = search needs
 load-list-requires-2 : tie.Need-load-list-requires-2
 load-list-requires-2 c κs =
     let q = c .before .before .before .before .before .before .before .before in
-    let n = excluded-need _ (q .args .event) (q .pre .1 .0) (q .pre .1 .1 .0) _ _ (c .before .before .before .before .limit-of .ensures) in
-    (n .0, (n .1, (refl, q .pre .0)))
+    let n = excluded-need _ _ (q .args .head) (q .pre .taken) _ _ (c .before .before .before .before .limit-of .ensures) in
+    (n .0, (n .1, (refl, q .pre .taken .ends)))
 
 slice-aggregate-load-overrides : tie.Need-slice-aggregate-load-overrides
 slice-aggregate-load-overrides c = search needs
@@ -45,37 +45,37 @@ own-of-requires c κs = search needs
 array-share-prefix-ids : tie.Need-array-share-prefix-ids
 array-share-prefix-ids c =
     let q = c .before .before .before .before .before .before .before .before .before .before .before .before .before .before .before .before .before .before .before .before in
-    ids-room _ (q .args .event) (q .pre .1 .0) (q .pre .1 .1 .0) _ _ (c .before .before .before .before .before .before .before .before .before .before .before .before .before .before .before .before .limit-of .ensures)
+    ids-room _ _ (q .args .head) (q .pre .taken) _ _ (c .before .before .before .before .before .before .before .before .before .before .before .before .before .before .before .before .limit-of .ensures)
     (c .own-of .result) (c .own-of .ensures) _ _ _ _ _ _ _ (omega arith, (omega arith, omega arith)) (c .before .before .before .before .before .before .load-overrides .ensures)
 
 slice-aggregate-put-event : tie.Need-slice-aggregate-put-event
 slice-aggregate-put-event c =
     let q = c .before .before .before .before .before .before .before .before .before .before .before .before .before .before .before .before .before .before .before .before .before in
-    ids-taken _ (q .args .event) (q .pre .1 .0) (q .pre .1 .1 .0) _ _ (c .before .before .before .before .before .before .before .before .before .before .before .before .before .before .before .before .before .limit-of .ensures)
+    ids-taken _ _ (q .args .head) (q .pre .taken) _ _ (c .before .before .before .before .before .before .before .before .before .before .before .before .before .before .before .before .before .limit-of .ensures)
     (c .before .own-of .result) (c .before .own-of .ensures) _ _ _ _ _ _ _ (omega arith, (omega arith, omega arith)) (c .before .before .before .before .before .before .before .load-overrides .ensures)
 
 array-share-prefix-gone : tie.Need-array-share-prefix-gone
 array-share-prefix-gone c =
     let q = c .before .before .before .before .before .before .before .before .before .before .before .before .before .before .before .before .before .before .before .before .before in
-    gone-room _ (q .args .event) (q .pre .1 .0) (q .pre .1 .1 .0) _ _ (c .before .before .before .before .before .before .before .before .before .before .before .before .before .before .before .before .before .limit-of .ensures)
+    gone-room _ _ (q .args .head) (q .pre .taken) _ _ (c .before .before .before .before .before .before .before .before .before .before .before .before .before .before .before .before .before .limit-of .ensures)
     (c .before .own-of .result) (c .before .own-of .ensures) _ _ _ _ _ _ _ (omega arith, (omega arith, omega arith)) (c .before .before .before .before .before .before .before .load-overrides .ensures)
 
 slice-aggregate-put-event-2 : tie.Need-slice-aggregate-put-event-2
 slice-aggregate-put-event-2 c =
     let q = c .before .before .before .before .before .before .before .before .before .before .before .before .before .before .before .before .before .before .before .before .before .before in
-    gone-taken _ (q .args .event) (q .pre .1 .0) (q .pre .1 .1 .0) _ _ (c .before .before .before .before .before .before .before .before .before .before .before .before .before .before .before .before .before .before .limit-of .ensures)
+    gone-taken _ _ (q .args .head) (q .pre .taken) _ _ (c .before .before .before .before .before .before .before .before .before .before .before .before .before .before .before .before .before .before .limit-of .ensures)
     (c .before .before .own-of .result) (c .before .before .own-of .ensures) _ _ _ _ _ _ _ (omega arith, (omega arith, omega arith)) (c .before .before .before .before .before .before .before .before .load-overrides .ensures)
 
 array-share-prefix-places : tie.Need-array-share-prefix-places
 array-share-prefix-places c =
     let q = c .before .before .before .before .before .before .before .before .before .before .before .before .before .before .before .before .before .before .before .before .before .before in
-    places-room _ (q .args .event) (q .pre .1 .0) (q .pre .1 .1 .0) _ _ (c .before .before .before .before .before .before .before .before .before .before .before .before .before .before .before .before .before .before .limit-of .ensures)
+    places-room _ _ (q .args .head) (q .pre .taken) _ _ (c .before .before .before .before .before .before .before .before .before .before .before .before .before .before .before .before .before .before .limit-of .ensures)
     (c .before .before .own-of .result) (c .before .before .own-of .ensures) _ _ _ _ _ _ _ (omega arith, (omega arith, omega arith)) (c .before .before .before .before .before .before .before .before .load-overrides .ensures)
 
 slice-aggregate-put-event-3 : tie.Need-slice-aggregate-put-event-3
 slice-aggregate-put-event-3 c =
     let q = c .before .before .before .before .before .before .before .before .before .before .before .before .before .before .before .before .before .before .before .before .before .before .before in
-    places-taken _ (q .args .event) (q .pre .1 .0) (q .pre .1 .1 .0) _ _ (c .before .before .before .before .before .before .before .before .before .before .before .before .before .before .before .before .before .before .before .limit-of .ensures)
+    places-taken _ _ (q .args .head) (q .pre .taken) _ _ (c .before .before .before .before .before .before .before .before .before .before .before .before .before .before .before .before .before .before .before .limit-of .ensures)
     (c .before .before .before .own-of .result) (c .before .before .before .own-of .ensures) _ _ _ _ _ _ _ (omega arith, (omega arith, omega arith)) (c .before .before .before .before .before .before .before .before .before .load-overrides .ensures)
 
 is-floating-requires : tie.Need-is-floating-requires
@@ -90,10 +90,10 @@ slice-aggregate-put-event-5 c = search needs
 put-event-requires : tie.Need-put-event-requires
 put-event-requires c κs =
     let q = c .before .before .before .before .before .before .before .before .before .before .before .before .before .before .before .before .before .before .before .before .before .before .before .before .before .before in (
-      q .pre .0,
-      table-needs _ (q .args .event) (q .pre .1 .0) (q .pre .1 .1 .0) _ _ (c .before .before .before .before .before .before .before .before .before .before .before .before .before .before .before .before .before .before .before .before .before .before .limit-of .ensures)
+      q .pre .taken .ends,
+      table-needs _ _ (q .args .head) (q .pre .taken) _ _ (c .before .before .before .before .before .before .before .before .before .before .before .before .before .before .before .before .before .before .before .before .before .before .limit-of .ensures)
           (c .before .before .before .before .before .before .own-of .result) (c .before .before .before .before .before .before .own-of .ensures) _ _ _ _ _ _ _ (omega arith, (omega arith, omega arith)) (c .before .before .before .before .before .before .before .before .before .before .before .before .load-overrides .ensures)
-          _ _ _ _ (c .before .before .before .before .before .before .before .before .before .before .before .before .before .before .before .before .before .before .before .before .load-list .ensures) (c .before .before .before .before .before .before .before .before .before .before .before .before .before .before .before .before .before .load-list2 .ensures) _ (q .pre .1 .1 .1 .1) _ _ _ (q .fits .initial) (q .pre .1 .1 .1 .0),
+          _ _ _ _ (c .before .before .before .before .before .before .before .before .before .before .before .before .before .before .before .before .before .before .before .before .load-list .ensures) (c .before .before .before .before .before .before .before .before .before .before .before .before .before .before .before .before .before .load-list2 .ensures) _ (q .pre .span) _ _ _ (q .fits .initial) (q .pre .valid),
     )
 
 same-length : tie.Need-same-length
@@ -102,13 +102,13 @@ same-length c = search needs
 returns : tie.Need-returns
 returns c =
     let q = c .before .before .before .before .before .before .before .before .before .before .before .before .before .before .before .before .before .before .before .before .before .before .before .before .before .before .before .before .before in
-    table-given _ (q .args .event) (q .pre .1 .0) (q .pre .1 .1 .0) _ _ (c .before .before .before .before .before .before .before .before .before .before .before .before .before .before .before .before .before .before .before .before .before .before .before .before .before .limit-of .ensures)
+    table-given _ _ (q .args .head) (q .pre .taken) _ _ (c .before .before .before .before .before .before .before .before .before .before .before .before .before .before .before .before .before .before .before .before .before .before .before .before .before .limit-of .ensures)
     (c .before .before .before .before .before .before .before .before .before .own-of .result) (c .before .before .before .before .before .before .before .before .before .own-of .ensures) _ _ _ _ _ _ _ (omega arith, (omega arith, omega arith)) (c .before .before .before .before .before .before .before .before .before .before .before .before .before .before .before .load-overrides .ensures)
-    _ _ _ _ (c .before .before .before .before .before .before .before .before .before .before .before .before .before .before .before .before .before .before .before .before .before .before .before .load-list .ensures) (c .before .before .before .before .before .before .before .before .before .before .before .before .before .before .before .before .before .before .before .before .load-list2 .ensures) _ (q .pre .1 .1 .1 .1) _ _ _ (q .fits .initial)
+    _ _ _ _ (c .before .before .before .before .before .before .before .before .before .before .before .before .before .before .before .before .before .before .before .before .before .before .before .load-list .ensures) (c .before .before .before .before .before .before .before .before .before .before .before .before .before .before .before .before .before .before .before .before .load-list2 .ensures) _ (q .pre .span) _ _ _ (q .fits .initial)
     _ (c .before .before .before .before .before .is-floating .ensures) _ _ _ _ (c .before .before .put-event .ensures)
 
-pub put-shown-spec : {M : Type 1} → statement M
-put-shown-spec =
+pub put-visible-spec : {M : Type 1} → statement M
+put-visible-spec =
     tie.close
     (tie.spec
     limit-of-requires
