@@ -23,19 +23,19 @@ use Rattle.call_definitions.specs.Results.{Gives}
 use Rattle.opening.specs.Inner.Refusal.{refusalFor}
 use Rattle.opening.proofs.RefusalLaws.{answer-left, answer-refused}
 use Rattle.writer.specs.Inner.Table.{fitted}
-use Rattle.expansion.specs.Inner.Shown.{tableFor}
+use Rattle.expansion.specs.Inner.Visible.{tableFor}
 
 -- ---- 1 to 9
 
-module _ (zones : ZoneTable) (s : List ℕ) (from to : ℤ) (buffer : List ℕ) (f : ℕ) (e : f ≡ textFault s) where
-  pub text-refused : (f ≡ 0 → ⊥) → Gives (expandText zones s from to buffer) f 0 buffer
+module _ (zones : ZoneTable) (s : List ℕ) (from to : ℤ) (buffer : List ℕ) where
+  pub text-refused : (f : ℕ) → (f ≡ textFault s) × (f ≡ 0 → ⊥) → Gives (expandText zones s from to buffer) f 0 buffer
   unfolding expandText
-  text-refused h = rw (← e, ne-eqb f 0 h) (record { answer-is = refl; length-is = refl; buffer-is = refl })
+  text-refused f e = rw (← (e .0), ne-eqb f 0 (e .1)) (record { answer-is = refl; length-is = refl; buffer-is = refl })
 
-  pub text-accepted : f ≡ 0 → (r n : ℕ) (after : List ℕ) → Gives (expanded zones (eventOf s) from to buffer) r n after
+  pub text-accepted : textFault s ≡ 0 → (r n : ℕ) (after : List ℕ) → Gives (expanded zones (eventOf s) from to buffer) r n after
       → Gives (expandText zones s from to buffer) r n after
   unfolding expandText
-  text-accepted z r n after g = rw (← e, eq-eqb f 0 z) g
+  text-accepted z r n after g = rw z g
 
 -- ---- 10 to 13
 
@@ -66,18 +66,18 @@ module _ (zones : ZoneTable) (e : Event) (from to : ℤ) (buffer : List ℕ) (r 
   secret-table Private h = false-true h
   secret-table Secret h = refl
 
-  shown-table : (p : Privacy) → isSecret p ≡ false → tableWith p ≡ tableFor zones e (since1600 from) (since1600 to)
+  visible-table : (p : Privacy) → isSecret p ≡ false → tableWith p ≡ tableFor zones e (since1600 from) (since1600 to)
   unfolding tableWith listed tableFor
-  shown-table Public h = refl
-  shown-table Private h = refl
-  shown-table Secret h = true-false h
+  visible-table Public h = refl
+  visible-table Private h = refl
+  visible-table Secret h = true-false h
 
   pub call-secret : r ≡ 0 → isSecret (e .privacy) ≡ true → (n k : ℕ) (after : List ℕ) → Gives (fitted (trailerOf 0) buffer) n k after
       → Gives (expanded zones e from to buffer) n k after
   unfolding tableOf tableWith
   call-secret z h n k after g = gives-table z (trailerOf 0) (secret-table (e .privacy) h) n k after g
 
-  pub call-shown : r ≡ 0 → isSecret (e .privacy) ≡ false → (n k : ℕ) (after : List ℕ)
+  pub call-visible : r ≡ 0 → isSecret (e .privacy) ≡ false → (n k : ℕ) (after : List ℕ)
       → Gives (fitted (tableFor zones e (since1600 from) (since1600 to)) buffer) n k after → Gives (expanded zones e from to buffer) n k after
   unfolding tableOf tableWith
-  call-shown z h n k after g = gives-table z (tableFor zones e (since1600 from) (since1600 to)) (shown-table (e .privacy) h) n k after g
+  call-visible z h n k after g = gives-table z (tableFor zones e (since1600 from) (since1600 to)) (visible-table (e .privacy) h) n k after g

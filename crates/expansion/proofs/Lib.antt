@@ -1,3 +1,4 @@
 pub mod CallLaws
 pub mod AcceptedLaws
-pub mod ShownLaws
+pub mod PutLaws
+pub mod VisibleLaws

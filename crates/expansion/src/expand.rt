@@ -1,40 +1,28 @@
 // The expansion of an event: whatever arrives, one answer, the table's length, and the table or an untouched buffer.
+ghost use mathlib.Core.Path.{_≡_};
+ghost use Rattle.json_ends.specs.Inner.Ends.{Ends};
 ghost use Rattle.call_definitions.specs.Call.{expandText};
 ghost use Rattle.call_definitions.specs.Results.{zonesOf, Gives};
-use crate::judged::expand_with;
+use crate::visible::put_visible;
+use opening::Opening;
+use opening::calls::call_fault;
+use opening::calls::is_secret;
+use opening::whole::open_text;
+use record::window::since_1600;
+use writer::Done;
+use writer::nothing::put_trailer_alone;
 
-// A text of 2,048 bytes: as many entries has the table of its ends.
-fn expand_short(
-    text: &[u8],
-    name: &[u8],
-    initial: i64,
-    instants: &[i64],
-    offsets: &[i64],
-    from: i64,
-    to: i64,
-    buffer: &mut [u8],
-    length: &mut u64,
-) -> u32
-    ensures { λ r. ⌜ Gives (expandText (zonesOf (now (name .entry)) initial (now (instants .entry)) (now (offsets .entry))) (now (text .entry)) from to (now (buffer .entry))) r (now (length .exit)) (now (buffer .exit)) ⌝ }
+// A number without a table.
+fn refused(answer: u32) -> Done
+    ensures { λ r. ⌜ (r .answer ≡ answer) × (r .length ≡ 0) ⌝ }
 {
-    let mut ends = [0u32; 2048];
-    expand_with(
-        text,
-        &mut ends,
-        name,
-        initial,
-        instants,
-        offsets,
-        from,
-        to,
-        buffer,
-        length,
-    )
+    Done { answer, length: 0 }
 }
 
-// A text of 65,536 bytes; a longer one is refused.
-fn expand_long(
+// 10 to 12 are found before the lists are read; a secret event shows none of them. The table of ends says nothing yet.
+pub fn expand_in(
     text: &[u8],
+    ends: &mut [u32],
     name: &[u8],
     initial: i64,
     instants: &[i64],
@@ -42,61 +30,32 @@ fn expand_long(
     from: i64,
     to: i64,
     buffer: &mut [u8],
-    length: &mut u64,
-) -> u32
-    ensures { λ r. ⌜ Gives (expandText (zonesOf (now (name .entry)) initial (now (instants .entry)) (now (offsets .entry))) (now (text .entry)) from to (now (buffer .entry))) r (now (length .exit)) (now (buffer .exit)) ⌝ }
+) -> Done
+    requires { ⌜ Ends (now text) (now ends) ⌝ }
+    ensures { λ r. ⌜ Gives (expandText (zonesOf (now (name .entry)) initial (now (instants .entry)) (now (offsets .entry))) (now (text .entry)) from to (now (buffer .entry))) (r .answer) (r .length) (now (buffer .exit)) ⌝ }
 {
-    let mut ends = [0u32; 65536];
-    expand_with(
-        text,
-        &mut ends,
-        name,
-        initial,
-        instants,
-        offsets,
-        from,
-        to,
-        buffer,
-        length,
-    )
-}
-
-// Most texts are short, and need not clear the room of the longest.
-pub fn expand(
-    text: &[u8],
-    name: &[u8],
-    initial: i64,
-    instants: &[i64],
-    offsets: &[i64],
-    from: i64,
-    to: i64,
-    buffer: &mut [u8],
-    length: &mut u64,
-) -> u32
-    ensures { λ r. ⌜ Gives (expandText (zonesOf (now (name .entry)) initial (now (instants .entry)) (now (offsets .entry))) (now (text .entry)) from to (now (buffer .entry))) r (now (length .exit)) (now (buffer .exit)) ⌝ }
-{
-    if text.len() <= 2048 {
-        return expand_short(
-            text,
-            name,
-            initial,
-            instants,
-            offsets,
-            from,
-            to,
-            buffer,
-            length,
-        );
+    match open_text(text, ends) {
+        Opening::Refused(answer) => refused(answer),
+        Opening::Accepted(head) => {
+            let answer = call_fault(text, head, name, initial, instants, offsets, from, to);
+            if answer != 0 {
+                return refused(answer);
+            }
+            let privacy = head.privacy;
+            if is_secret(privacy) {
+                return put_trailer_alone(buffer);
+            }
+            put_visible(
+                text,
+                ends,
+                head,
+                initial,
+                instants,
+                offsets,
+                since_1600(from),
+                since_1600(to),
+                buffer,
+            )
+        }
     }
-    expand_long(
-        text,
-        name,
-        initial,
-        instants,
-        offsets,
-        from,
-        to,
-        buffer,
-        length,
-    )
 }

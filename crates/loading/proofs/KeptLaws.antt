@@ -53,9 +53,6 @@ module _ (s : List ℕ) (h : Head) (is : fromHead inner s h ≡ frontOf s) (ok :
   pub kept-start : (o : Own) → detailsIn s o ≡ fromHead inner s h .details → o .start ≡ h .start
   kept-start o same = ap (λ (d : Details). d .start) same
 
-  pub kept-window : (from to : ℤ) → validWindow from to ≡ true → Window (h .start) (since1600 from) (since1600 to)
-  kept-window from to valid = window-in from to valid (h .start) (omega (arith, fine .start .to))
-
   ranged : Ranged (eventOf s .overrides)
   unfolding mine
   ranged = subst Ranged (sym (head-overrides s h is)) (patches-range s mine (fine .short) (h .overrides) (fine .overrides))

@@ -15,7 +15,7 @@ use Rattle.gregorian.proofs.SecondLaws.{day-since, second-since}
 use Rattle.rule.specs.Gives.{endDay}
 use Rattle.rule.proofs.Bools.{left, right}
 use Rattle.call_definitions.specs.Window.{epoch, since1600, validWindow}
-use Rattle.window.specs.Inner.Chunks.{Window}
+use Rattle.window.specs.Inner.Handed.{Span}
 use Rattle.record.proofs.WindowLaws.{since-some}
 use Rattle.loading.specs.Inner.Limit.{limitOf}
 
@@ -32,14 +32,14 @@ module _ (from to : ℤ) (valid : validWindow from to ≡ true) where
   unfolding validWindow
   late = right (leZ from to) _ (right (leZ (negℤ (pos 11644473600)) from) _ valid)
 
-  pub window-in : (start : ℕ) → start / 86400 < endDay → Window start (since1600 from) (since1600 to)
-  window-in start begins =
+  pub window-in : Span (since1600 from) (since1600 to)
+  window-in =
       let a = le-parts (negℤ (pos 11644473600)) from early in
       let b = le-parts from to turned in
       let c = le-parts to (pos 253370764800) late in
       let f : posPart from + epoch - negPart from ≡ since1600 from = since-some from (omega (arith, a)) in
       let t : posPart to + epoch - negPart to ≡ since1600 to = since-some to (omega (arith, a, b)) in
-      record { begins = begins; low = omega (arith, a, f); order = omega (arith, a, b, f, t); high = omega (arith, c, t) }
+      record { low = omega (arith, a, f); order = omega (arith, a, b, f, t); high = omega (arith, c, t) }
 
 -- ---- the days
 

@@ -6,6 +6,7 @@ ghost use Rattle.call_definitions.specs.Bytes.{isFloating};
 ghost use Rattle.call_definitions.specs.Results.{zonesOf};
 ghost use Rattle.property.specs.Inner.From.{nameIn};
 ghost use Rattle.opening.specs.Inner.Refusal.{refusalFor};
+use event_text::Head;
 use property::Place;
 use property::strings::word;
 use record::window::valid_window;
@@ -54,8 +55,7 @@ fn other_zone(text: &[u8], zone: Place, name: &[u8]) -> bool
 // A secret event never answers 12: that would tell its zone.
 pub fn call_fault(
     text: &[u8],
-    privacy: Privacy,
-    zone: Place,
+    head: Head,
     name: &[u8],
     initial: i64,
     instants: &[i64],
@@ -63,8 +63,10 @@ pub fn call_fault(
     from: i64,
     to: i64,
 ) -> u32
-    ensures { λ r. ⌜ r ≡ refusalFor (zonesOf (now (name .entry)) initial (now (instants .entry)) (now (offsets .entry))) from to privacy (nameIn (now (text .entry)) zone) ⌝ }
+    ensures { λ r. ⌜ r ≡ refusalFor (zonesOf (now (name .entry)) initial (now (instants .entry)) (now (offsets .entry))) from to (head .privacy) (nameIn (now (text .entry)) (head .zone)) ⌝ }
 {
+    let privacy = head.privacy;
+    let zone = head.zone;
     if !zone::valid(initial, instants, offsets) {
         return 10;
     }

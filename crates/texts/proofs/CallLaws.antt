@@ -4,7 +4,7 @@ use mathlib.Core.Bool.{Bool, true, false}
 use mathlib.Core.List.{List}
 use mathlib.Core.Path.{_≡_, sym, ap, subst, _∙_}
 use native.Mathlib.Omega.{arith}
-use borrow.Author.Tests.{eq-eqb, ne-eqb}
+use borrow.Author.Tests.{ne-eqb}
 use lib.IntN.{ℤ}
 use lib.ListN.{length, take, drop}
 use mir.Syntax.{w64}
@@ -18,19 +18,19 @@ use Rattle.texts.specs.declared.Told.{Told}
 use Rattle.texts.specs.declared.Lookup.{Lookup}
 use Rattle.texts.specs.Inner.Shown.{toldShown, lookupShown, Placed, chosen}
 
--- f is the fault of the text; the date was passed by its bits.
-module _ (s : List ℕ) (title : Bool) (t : ℤ) (fits : SFits w64 t) (f : ℕ) (was : f ≡ textFault s) where
-  refused : (f ≡ 0 → ⊥) → noPlace f ≡ textOf (chosen title) s t
+-- The date was passed by its bits.
+module _ (s : List ℕ) (title : Bool) (t : ℤ) (fits : SFits w64 t) where
+  refused : (f : ℕ) → (f ≡ textFault s) × (f ≡ 0 → ⊥) → noPlace f ≡ textOf (chosen title) s t
   unfolding textOf
-  refused e = rw (← was, ne-eqb f 0 e)
+  refused f e = rw (← (e .0), ne-eqb f 0 (e .1))
 
-  pub refused-placed : (f ≡ 0 → ⊥) → (u : Shown) → u ≡ noPlace f → Placed (length s) (textOf (chosen title) s t) u
-  refused-placed e u is = record { is = is ∙ refused e; within = subst (λ (v : Shown). v .start + v .length ≤ length s) (sym is) (omega arith) }
+  pub refused-placed : (f : ℕ) → (f ≡ textFault s) × (f ≡ 0 → ⊥) → (u : Shown) → u ≡ noPlace f → Placed (length s) (textOf (chosen title) s t) u
+  refused-placed f e u is = record { is = is ∙ refused f e; within = subst (λ (v : Shown). v .start + v .length ≤ length s) (sym is) (omega arith) }
 
-  module _ (fine : f ≡ 0) (r : Lookup) (placed : Placed (length s) (shownAt (chosen title) (eventOf s) (dateTimeOf (toZ w64 (ofZ w64 t)))) (lookupShown r)) where
+  module _ (fine : textFault s ≡ 0) (r : Lookup) (placed : Placed (length s) (shownAt (chosen title) (eventOf s) (dateTimeOf (toZ w64 (ofZ w64 t)))) (lookupShown r)) where
     shown : shownAt (chosen title) (eventOf s) (dateTimeOf (toZ w64 (ofZ w64 t))) ≡ textOf (chosen title) s t
     unfolding textOf
-    shown = rw (toZ-ofZ fits, ← was, eq-eqb f 0 fine)
+    shown = rw (toZ-ofZ fits, fine)
 
     pub looked-placed : (u : Shown) → u ≡ lookupShown r → Placed (length s) (textOf (chosen title) s t) u
     looked-placed u is = record { is = is ∙ (placed .is ∙ shown); within = subst (λ (v : Shown). v .start + v .length ≤ length s) (sym is) (placed .within) }

@@ -9,8 +9,7 @@ use native.Mathlib.Omega.{arith}
 use lib.ListN.{length, take, length-take}
 use lib.Seq.{length-take-le}
 use Rattle.property.specs.Inner.From.{valueIn}
-use Rattle.rule.specs.Gives.{endDay}
-use Rattle.event.specs.Event.{eventFault, eventOf}
+use Rattle.event.specs.Event.{eventOf}
 use Rattle.event.specs.Properties.{noLength}
 use Rattle.event.specs.Overrides.{readOverrides}
 use Rattle.event.specs.Reading.{optional}
@@ -19,7 +18,7 @@ use Rattle.event.specs.Types.{Details, Override}
 use Rattle.override_text.specs.declared.Own.{Own}
 use Rattle.override_text.specs.Inner.Lists.{Filled}
 use Rattle.override_text.specs.Inner.Meaning.{detailsIn}
-use Rattle.event_text.specs.Inner.Front.{frontOf, inner}
+use Rattle.event_text.specs.Inner.Front.{inner}
 use Rattle.event_text.specs.Inner.Held.{fromHead}
 use Rattle.event_text.specs.declared.Head.{Head}
 use Rattle.event_text.proofs.FromHead.{head-accepted}
@@ -34,6 +33,7 @@ use Rattle.writer.specs.Inner.Runs.{Overridden}
 use Rattle.loading.specs.Inner.Rules.{Season, SettledRules}
 use Rattle.loading.specs.Inner.Patches.{patchesIn}
 use Rattle.loading.proofs.KeptLaws.{kept-season, kept-even, kept-details, kept-stands}
+use Rattle.texts.specs.Inner.Dated.{Dated}
 use Rattle.texts.specs.Inner.Shown.{Placed, chosen, shownBy}
 use Rattle.texts.proofs.PartLaws.{placed-same}
 
@@ -49,20 +49,20 @@ module _ (os : List Override) (ps ids₀ ids₁ : List ℕ) (gone₀ gone₁ : L
 pub noDetails : Details
 noDetails = record { start = 0; length = noLength; busy = true; allDay = false; title = none; description = none }
 
-module _ (s : List ℕ) (h : Head) (known : (fromHead inner s h ≡ frontOf s) × (eventFault s ≡ 0)) (x : ℕ) (years : (366 * 86400 ≤ x) × (x < 86400 * endDay)) where
+module _ (s t : List ℕ) (h : Head) (x : ℕ) (asked : Dated s t h x) where
   season : Season (h .start) (x / 86400 + 1)
-  season = kept-season s h (known .0) (known .1) (x / 86400 + 1) (omega (arith, years .1))
+  season = kept-season s h (asked .taken .head) (asked .taken .accepted) (x / 86400 + 1) (omega (arith, asked .high))
 
   -- what the loading of the two lists asks for
   pub rules-ready : (room : ℕ) → room ≡ 12592
       → (optional [] readRules (valueIn inner s (h .rules)) .fault ≡ 0) × (Season (h .start) (x / 86400 + 1) × (room ≡ 12592))
-  rules-ready room e = (head-accepted s h (known .0) (known .1) .rules, (season, e))
+  rules-ready room e = (head-accepted s h (asked .taken .head) (asked .taken .accepted) .rules, (season, e))
 
   pub excluded-ready : (room : ℕ) → room ≡ 12592
       → (optional [] readRules (valueIn inner s (h .excluded)) .fault ≡ 0) × (Season (h .start) (x / 86400 + 1) × (room ≡ 12592))
-  excluded-ready room e = (head-accepted s h (known .0) (known .1) .excluded, (season, e))
+  excluded-ready room e = (head-accepted s h (asked .taken .head) (asked .taken .accepted) .excluded, (season, e))
 
-  module _ (o : Own) (own : (t : List ℕ) → detailsIn t o ≡ fromHead inner t h .details) (ids₀ ids₁ : List ℕ) (gone₀ gone₁ : List Bool) (places₀ places₁ : List ℕ) (n : ℕ)
+  module _ (o : Own) (own : (u : List ℕ) → detailsIn u o ≡ fromHead inner u h .details) (ids₀ ids₁ : List ℕ) (gone₀ gone₁ : List Bool) (places₀ places₁ : List ℕ) (n : ℕ)
       (room : (256 ≤ length ids₀) × ((256 ≤ length gone₀) × (256 ≤ length places₀)))
       (filled : (d : Details)
       → Filled (optional [] (readOverrides d) (valueIn inner s (h .overrides)) .value) (patchesIn s (h .overrides)) ids₀ ids₁ gone₀ gone₁ places₀ places₁ n)
@@ -75,7 +75,7 @@ module _ (s : List ℕ) (h : Head) (known : (fromHead inner s h ≡ frontOf s) �
           begin = ap (λ (d : Details). d .start) (own s)
 
           even : Overridden (length (take n ids₁)) (length (take n gone₁)) (length (take n places₁))
-          even = kept-even s h (known .0) (known .1) o (own s) ids₀ ids₁ gone₀ gone₁ places₀ places₁ n room filled
+          even = kept-even s h (asked .taken .head) (asked .taken .accepted) o (own s) ids₀ ids₁ gone₀ gone₁ places₀ places₁ n room filled
 
           -- what the look-up over them asks for
           pub kept-ready : Ready rules (length flags) excluded (length excludedFlags) (length (take n ids₁)) (length (take n gone₁)) 1
@@ -85,9 +85,9 @@ module _ (s : List ℕ) (h : Head) (known : (fromHead inner s h ≡ frontOf s) �
             (
               record {
                 begins = omega (arith, begin, season .high);
-                low = omega (arith, years .0);
+                low = omega (arith, asked .low);
                 order = omega arith;
-                high = omega (arith, years .1);
+                high = omega (arith, asked .high);
               },
               even,
             ),
@@ -98,7 +98,7 @@ module _ (s : List ℕ) (h : Head) (known : (fromHead inner s h ≡ frontOf s) �
           same-set =
               ap (λ (k : ℕ). isIn (loaded k rules flags excluded excludedFlags (take n ids₁) (take n gone₁)) x) begin
               ∙ in-set (datesOf (eventOf s)) (x / 86400 + 1) (loaded (h .start) rules flags excluded excludedFlags (take n ids₁) (take n gone₁))
-              (kept-stands s h (known .0) (known .1) o (own s) ids₀ ids₁ gone₀ gone₁ places₀ places₁ n room filled (x / 86400 + 1) (season .within) rules flags excluded excludedFlags kept left) x (omega arith)
+              (kept-stands s h (asked .taken .head) (asked .taken .accepted) o (own s) ids₀ ids₁ gone₀ gone₁ places₀ places₁ n room filled (x / 86400 + 1) (season .within) rules flags excluded excludedFlags kept left) x (omega arith)
 
           -- and what it says of the event
           pub kept-shown : (title isPublic : Bool) (r : Shown)
@@ -106,4 +106,4 @@ module _ (s : List ℕ) (h : Head) (known : (fromHead inner s h ≡ frontOf s) �
               (placeOf (chosen title (detailsBy s (detailsIn s o) (take n ids₁) (take n places₁) x)))) r
               → Placed (length s) (shownBy isPublic (isOccurrence (eventOf s) x) (placeOf (chosen title (detailsAt (eventOf s) x)))) r
           kept-shown title isPublic r p =
-              placed-same (length s) _ _ (λ i. shownBy isPublic (same-set i) (placeOf (chosen title (kept-details s h (known .0) (known .1) o (own s) ids₀ ids₁ gone₀ gone₁ places₀ places₁ n room filled x i)))) r p
+              placed-same (length s) _ _ (λ i. shownBy isPublic (same-set i) (placeOf (chosen title (kept-details s h (asked .taken .head) (asked .taken .accepted) o (own s) ids₀ ids₁ gone₀ gone₁ places₀ places₁ n room filled x i)))) r p

@@ -9,9 +9,8 @@ use lib.IntN.{ℤ}
 use lib.ListN.{length}
 use mir.Syntax.{w64}
 use mir.Val.{SFits, toZ, ofZ}
-use Rattle.event.specs.Event.{eventFault, eventOf}
-use Rattle.event_text.specs.Inner.Front.{frontOf, inner}
-use Rattle.event_text.specs.Inner.Held.{fromHead}
+use Rattle.event.specs.Event.{eventOf}
+use Rattle.event_text.specs.Inner.Taken.{Taken}
 use Rattle.event_text.specs.declared.Head.{Head}
 use Rattle.event_text.proofs.FromHead.{head-privacy}
 use Rattle.loading.proofs.KeptLaws.{kept-years}
@@ -23,11 +22,11 @@ use Rattle.texts.specs.Inner.Shown.{Placed, chosen, shownBy}
 use Rattle.texts.proofs.PartLaws.{empty-placed, placed-same}
 use Rattle.texts.proofs.DateLaws.{shown-secret, shown-open, date-inside, date-outside}
 
-module _ (s : List ℕ) (h : Head) (known : (fromHead inner s h ≡ frontOf s) × (eventFault s ≡ 0)) (title : Bool) where
+module _ (s u : List ℕ) (h : Head) (known : Taken s u h) (title : Bool) where
   -- who may see the event, as the code found it
   module _ (x : ℕ) (secret : Bool) (was : secret ≡ isSecret (h .privacy)) where
     as-event : secret ≡ isSecret (eventOf s .privacy)
-    as-event = was ∙ sym (ap isSecret (head-privacy s h (known .0)))
+    as-event = was ∙ sym (ap isSecret (head-privacy s h (known .head)))
 
     pub secret-shown : secret ≡ true → Placed (length s) (shownAt (chosen title) (eventOf s) (some x)) (noPlace 14)
     secret-shown e = placed-same _ _ _ (shown-secret (chosen title) (eventOf s) x (sym as-event ∙ e)) _ (empty-placed _ 14)
@@ -36,14 +35,14 @@ module _ (s : List ℕ) (h : Head) (known : (fromHead inner s h ≡ frontOf s) �
         → Placed (length s) (shownBy all (isOccurrence (eventOf s) x) (placeOf (chosen title (detailsAt (eventOf s) x)))) r
         → Placed (length s) (shownAt (chosen title) (eventOf s) (some x)) r
     open-shown e all seen r p =
-        let as-all = seen ∙ sym (ap isPublic (head-privacy s h (known .0))) in
+        let as-all = seen ∙ sym (ap isPublic (head-privacy s h (known .head))) in
         placed-same _ _ _ (ap (λ (b : Bool). shownBy b (isOccurrence (eventOf s) x) (placeOf (chosen title (detailsAt (eventOf s) x)))) as-all ∙ shown-open (chosen title) (eventOf s) x (sym as-event ∙ e)) r p
 
   -- the date, passed by its bits
   module _ (t : ℤ) (fits : SFits w64 t) (x : ℕ) (was : x ≡ since1600 (toZ w64 (ofZ w64 t))) where
     outside : ((366 * 86400 ≤ x) × (x < 3067672 * 86400) → ⊥) → Placed (length s) (shownAt (chosen title) (eventOf s) (dateTimeOf t)) (noPlace 14)
     outside out =
-        placed-same _ _ _ (date-outside (chosen title) (eventOf s) t fits x was (λ e. out (kept-years s h (known .0) (known .1) x e))) _ (empty-placed _ 14)
+        placed-same _ _ _ (date-outside (chosen title) (eventOf s) t fits x was (λ e. out (kept-years s h (known .head) (known .accepted) x e))) _ (empty-placed _ 14)
 
     pub early-shown : x < 31622400 → Placed (length s) (shownAt (chosen title) (eventOf s) (dateTimeOf t)) (noPlace 14)
     early-shown early = outside (λ w. absurd (omega (arith, w .0)))

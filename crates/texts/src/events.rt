@@ -1,16 +1,12 @@
 // The look-up of a text in an accepted event, whose head was read.
 ghost use mathlib.Core.Option.{some};
-ghost use mathlib.Core.Path.{_≡_};
-ghost use Prim.Native.Nat.{_*_, _≤_, _<_};
 ghost use lib.ListN.{length};
-ghost use Rattle.json_ends.specs.Inner.Ends.{Ends};
-ghost use Rattle.rule.specs.Gives.{endDay};
-ghost use Rattle.event.specs.Event.{eventFault, eventOf};
-ghost use Rattle.event_text.specs.Inner.Front.{inner, frontOf};
-ghost use Rattle.event_text.specs.Inner.Held.{fromHead};
+ghost use Rattle.event.specs.Event.{eventOf};
+ghost use Rattle.event_text.specs.Inner.Taken.{Taken};
 ghost use Rattle.call_definitions.specs.Occurrence.{isOccurrence, detailsAt};
 ghost use Rattle.call_definitions.specs.Answer.{dateTimeOf};
 ghost use Rattle.call_definitions.specs.Call.{placeOf, shownAt};
+ghost use Rattle.texts.specs.Inner.Dated.{Dated};
 ghost use Rattle.texts.specs.Inner.Shown.{lookupShown, Placed, chosen, shownBy};
 use crate::Lookup;
 use crate::kept::look_up_kept;
@@ -30,7 +26,7 @@ const END: u64 = 265046860800;
 
 // Days after that of the date are not asked for.
 fn look_up_event(text: &[u8], ends: &[u32], title: bool, public: bool, head: Head, x: u64) -> Lookup
-    requires { ⌜ Ends (now text) (now ends) × (((fromHead inner (now text) head ≡ frontOf (now text)) × (eventFault (now text) ≡ 0)) × ((366 * 86400 ≤ x) × (x < 86400 * endDay))) ⌝ }
+    requires { ⌜ Dated (now text) (now ends) head x ⌝ }
     ensures { λ r. ⌜ Placed (length (now (text .entry))) (shownBy public (isOccurrence (eventOf (now (text .entry))) x) (placeOf (chosen title (detailsAt (eventOf (now (text .entry))) x)))) (lookupShown r) ⌝ }
 {
     let own = own_of(head);
@@ -73,7 +69,7 @@ fn look_up_event(text: &[u8], ends: &[u32], title: bool, public: bool, head: Hea
 
 // A secret event tells of no occurrence.
 fn look_up_at(text: &[u8], ends: &[u32], title: bool, head: Head, x: u64) -> Lookup
-    requires { ⌜ Ends (now text) (now ends) × (((fromHead inner (now text) head ≡ frontOf (now text)) × (eventFault (now text) ≡ 0)) × ((366 * 86400 ≤ x) × (x < 86400 * endDay))) ⌝ }
+    requires { ⌜ Dated (now text) (now ends) head x ⌝ }
     ensures { λ r. ⌜ Placed (length (now (text .entry))) (shownAt (chosen title) (eventOf (now (text .entry))) (some x)) (lookupShown r) ⌝ }
 {
     let privacy = head.privacy;
@@ -86,7 +82,7 @@ fn look_up_at(text: &[u8], ends: &[u32], title: bool, head: Head, x: u64) -> Loo
 
 // No occurrence of an accepted event lies outside the years 1601 to 9998.
 pub(crate) fn look_up(text: &[u8], ends: &[u32], head: Head, title: bool, date: i64) -> Lookup
-    requires { ⌜ Ends (now text) (now ends) × ((fromHead inner (now text) head ≡ frontOf (now text)) × (eventFault (now text) ≡ 0)) ⌝ }
+    requires { ⌜ Taken (now text) (now ends) head ⌝ }
     ensures { λ r. ⌜ Placed (length (now (text .entry))) (shownAt (chosen title) (eventOf (now (text .entry))) (dateTimeOf date)) (lookupShown r) ⌝ }
 {
     let x = since_1600(date);

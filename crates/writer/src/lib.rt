@@ -12,3 +12,9 @@ pub struct Form {
     pub floating: bool,
     pub sorted: bool,
 }
+
+// What a call for the table answers: the number, and how many bytes of the buffer are the table.
+pub struct Done {
+    pub answer: u32,
+    pub length: u64,
+}

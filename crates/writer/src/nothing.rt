@@ -2,16 +2,21 @@
 ghost use Rattle.call_definitions.specs.Bytes.{trailerOf};
 ghost use Rattle.call_definitions.specs.Results.{Gives};
 ghost use Rattle.writer.specs.Inner.Table.{fitted};
+use crate::Done;
 use record::rows::put_trailer;
 
-pub fn put_trailer_alone(buffer: &mut [u8], length: &mut u64) -> u32
-    ensures { λ r. ⌜ Gives (fitted (trailerOf 0) (now (buffer .entry))) r (now (length .exit)) (now (buffer .exit)) ⌝ }
+pub fn put_trailer_alone(buffer: &mut [u8]) -> Done
+    ensures { λ r. ⌜ Gives (fitted (trailerOf 0) (now (buffer .entry))) (r .answer) (r .length) (now (buffer .exit)) ⌝ }
 {
-    *length = 0;
     if buffer.len() < 12 {
-        return 13;
+        return Done {
+            answer: 13,
+            length: 0,
+        };
     }
     put_trailer(buffer, 0, 0);
-    *length = 12;
-    0
+    Done {
+        answer: 0,
+        length: 12,
+    }
 }

@@ -1,3 +1,4 @@
+-- `other_zone` meets its contract, by whether the event has a zone.
 use Rattle.call_definitions.specs.Answer.{otherZone}
 use borrow.Author.Needs.{needs}
 use Rattle.opening.proofs.calls.other_zone.Statement.{statement}

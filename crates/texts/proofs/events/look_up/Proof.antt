@@ -11,22 +11,22 @@ since-1600-requires c κs = search needs
 returns : tie.Need-returns
 returns c =
     let q = c .before .before .before .before in
-    early-shown _ (q .args .head) (q .pre .1) (q .args .title) _ (q .fits .date) _ (c .before .since-1600 .ensures) (c .if1 .taken)
+    early-shown _ _ (q .args .head) (q .pre) (q .args .title) _ (q .fits .date) _ (c .before .since-1600 .ensures) (c .if1 .taken)
 
 returns-2 : tie.Need-returns-2
 returns-2 c =
     let q = c .before .before .before .before .before in
-    late-shown _ (q .args .head) (q .pre .1) (q .args .title) _ (q .fits .date) _ (c .before .before .since-1600 .ensures) (c .if2 .taken)
+    late-shown _ _ (q .args .head) (q .pre) (q .args .title) _ (q .fits .date) _ (c .before .before .since-1600 .ensures) (c .if2 .taken)
 
 look-up-at-requires : tie.Need-look-up-at-requires
 look-up-at-requires c κs =
     let q = c .before .before .before .before .before in
-    (q .pre .0, (q .pre .1, (omega (arith, c .before .if1 .left), omega (arith, c .if2 .left))))
+    record { taken = q .pre; low = omega (arith, c .before .if1 .left); high = omega (arith, c .if2 .left) }
 
 returns-3 : tie.Need-returns-3
 returns-3 c =
     let q = c .before .before .before .before .before .before in
-    date-shown _ (q .args .head) (q .pre .1) (q .args .title) _ (q .fits .date) _ (c .before .before .before .since-1600 .ensures) (c .before .before .if1 .left) _ (c .look-up-at .ensures)
+    date-shown _ _ (q .args .head) (q .pre) (q .args .title) _ (q .fits .date) _ (c .before .before .before .since-1600 .ensures) (c .before .before .if1 .left) _ (c .look-up-at .ensures)
 
 pub look-up-spec : {M : Type 1} → statement M
 look-up-spec =

@@ -10,7 +10,7 @@ is-secret-requires c κs = search needs
 returns : tie.Need-returns
 returns c =
     let q = c .before .before .before .before in
-    secret-shown _ (q .args .head) (q .pre .1 .0) (q .args .title) (q .args .x) _ (c .before .is-secret .ensures) (c .if1 .taken)
+    secret-shown _ _ (q .args .head) (q .pre .taken) (q .args .title) (q .args .x) _ (c .before .is-secret .ensures) (c .if1 .taken)
 
 is-public-requires : tie.Need-is-public-requires
 is-public-requires c κs = search needs
@@ -21,7 +21,7 @@ look-up-event-requires c κs = search needs
 returns-2 : tie.Need-returns-2
 returns-2 c =
     let q = c .before .before .before .before .before .before in
-    open-shown _ (q .args .head) (q .pre .1 .0) (q .args .title) (q .args .x) _ (c .before .before .before .is-secret .ensures) (c .before .before .if1 .left) _ (c .before .is-public .ensures) _ (c .look-up-event .ensures)
+    open-shown _ _ (q .args .head) (q .pre .taken) (q .args .title) (q .args .x) _ (c .before .before .before .is-secret .ensures) (c .before .before .if1 .left) _ (c .before .is-public .ensures) _ (c .look-up-event .ensures)
 
 pub look-up-at-spec : {M : Type 1} → statement M
 look-up-at-spec =

@@ -19,13 +19,13 @@ slice-aggregate-load-list : tie.Need-slice-aggregate-load-list
 slice-aggregate-load-list c = search needs
 
 load-list-requires : tie.Need-load-list-requires
-load-list-requires c κs = let q = c .before .before .before .before in let n = rules-ready _ (q .args .head) (q .pre .1 .0) (q .args .x) (q .pre .1 .1) _ refl in (n .0, (n .1 .0, (n .1 .1, q .pre .0)))
+load-list-requires c κs = let q = c .before .before .before .before in let n = rules-ready _ _ (q .args .head) (q .args .x) (q .pre) _ refl in (n .0, (n .1 .0, (n .1 .1, q .pre .taken .ends)))
 
 slice-aggregate-load-list-2 : tie.Need-slice-aggregate-load-list-2
 slice-aggregate-load-list-2 c = search needs
 
 load-list-requires-2 : tie.Need-load-list-requires-2
-load-list-requires-2 c κs = let q = c .before .before .before .before .before .before .before in let n = excluded-ready _ (q .args .head) (q .pre .1 .0) (q .args .x) (q .pre .1 .1) _ refl in (n .0, (n .1 .0, (n .1 .1, q .pre .0)))
+load-list-requires-2 c κs = let q = c .before .before .before .before .before .before .before in let n = excluded-ready _ _ (q .args .head) (q .args .x) (q .pre) _ refl in (n .0, (n .1 .0, (n .1 .1, q .pre .taken .ends)))
 
 slice-aggregate-load-overrides : tie.Need-slice-aggregate-load-overrides
 slice-aggregate-load-overrides c = search needs
@@ -66,12 +66,12 @@ slice-aggregate-look-up-kept-5 c = search needs
 look-up-kept-requires : tie.Need-look-up-kept-requires
 look-up-kept-requires c κs =
     let q = c .before .before .before .before .before .before .before .before .before .before .before .before .before .before .before .before .before .before .before .before .before in
-    (q .pre .0, kept-ready _ (q .args .head) (q .pre .1 .0) (q .args .x) (q .pre .1 .1) (c .before .before .before .before .before .before .before .before .before .before .before .before .before .before .before .before .before .before .own-of .result) (c .before .before .before .before .before .before .before .before .before .before .before .before .before .before .before .before .before .before .own-of .ensures) _ _ _ _ _ _ _ (omega arith, (omega arith, omega arith)) (c .before .before .before .before .before .before .before .before .load-overrides .ensures) _ _ _ _ (c .before .before .before .before .before .before .before .before .before .before .before .before .before .before .before .before .load-list .ensures) (c .before .before .before .before .before .before .before .before .before .before .before .before .before .load-list2 .ensures))
+    (q .pre .taken .ends, kept-ready _ _ (q .args .head) (q .args .x) (q .pre) (c .before .before .before .before .before .before .before .before .before .before .before .before .before .before .before .before .before .before .own-of .result) (c .before .before .before .before .before .before .before .before .before .before .before .before .before .before .before .before .before .before .own-of .ensures) _ _ _ _ _ _ _ (omega arith, (omega arith, omega arith)) (c .before .before .before .before .before .before .before .before .load-overrides .ensures) _ _ _ _ (c .before .before .before .before .before .before .before .before .before .before .before .before .before .before .before .before .load-list .ensures) (c .before .before .before .before .before .before .before .before .before .before .before .before .before .load-list2 .ensures))
 
 returns : tie.Need-returns
 returns c =
     let q = c .before .before .before .before .before .before .before .before .before .before .before .before .before .before .before .before .before .before .before .before .before .before in
-    kept-shown _ (q .args .head) (q .pre .1 .0) (q .args .x) (q .pre .1 .1) (c .before .before .before .before .before .before .before .before .before .before .before .before .before .before .before .before .before .before .before .own-of .result) (c .before .before .before .before .before .before .before .before .before .before .before .before .before .before .before .before .before .before .before .own-of .ensures) _ _ _ _ _ _ _ (omega arith, (omega arith, omega arith)) (c .before .before .before .before .before .before .before .before .before .load-overrides .ensures) _ _ _ _ (c .before .before .before .before .before .before .before .before .before .before .before .before .before .before .before .before .before .load-list .ensures) (c .before .before .before .before .before .before .before .before .before .before .before .before .before .before .load-list2 .ensures) (q .args .title) _ _ (c .look-up-kept .ensures)
+    kept-shown _ _ (q .args .head) (q .args .x) (q .pre) (c .before .before .before .before .before .before .before .before .before .before .before .before .before .before .before .before .before .before .before .own-of .result) (c .before .before .before .before .before .before .before .before .before .before .before .before .before .before .before .before .before .before .before .own-of .ensures) _ _ _ _ _ _ _ (omega arith, (omega arith, omega arith)) (c .before .before .before .before .before .before .before .before .before .load-overrides .ensures) _ _ _ _ (c .before .before .before .before .before .before .before .before .before .before .before .before .before .before .before .before .before .load-list .ensures) (c .before .before .before .before .before .before .before .before .before .before .before .before .before .before .load-list2 .ensures) (q .args .title) _ _ (c .look-up-kept .ensures)
 
 pub look-up-event-spec : {M : Type 1} → statement M
 look-up-event-spec =
