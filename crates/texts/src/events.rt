@@ -9,14 +9,15 @@ ghost use Rattle.call_definitions.specs.Call.{placeOf, shownAt};
 ghost use Rattle.texts.specs.Inner.Dated.{Dated};
 ghost use Rattle.texts.specs.Inner.Shown.{lookupShown, Placed, chosen, shownBy};
 use crate::Lookup;
-use crate::kept::look_up_kept;
+use crate::parts::part_at;
+use crate::patched::text_by;
+use crate::visible::visible;
 use event_text::Head;
-use event_text::heads::own_of;
-use loading::lists::load_list;
-use loading::lists::load_overrides;
+use loading::whole::load;
 use opening::calls::is_public;
 use opening::calls::is_secret;
 use record::window::since_1600;
+use source::single::is_id;
 
 // The first second of 1601, from 1600-01-01T00:00:00.
 const FIRST: u64 = 31622400;
@@ -24,47 +25,34 @@ const FIRST: u64 = 31622400;
 // The second after 9998.
 const END: u64 = 265046860800;
 
-// Days after that of the date are not asked for.
+// What the call keeps of the event is loaded up to the day of the date: days after it are not asked for.
 fn look_up_event(text: &[u8], ends: &[u32], title: bool, public: bool, head: Head, x: u64) -> Lookup
     requires { ⌜ Dated (now text) (now ends) head x ⌝ }
     ensures { λ r. ⌜ Placed (length (now (text .entry))) (shownBy public (isOccurrence (eventOf (now (text .entry))) x) (placeOf (chosen title (detailsAt (eventOf (now (text .entry))) x)))) (lookupShown r) ⌝ }
 {
-    let own = own_of(head);
     let limit = (x / 86400) as u32 + 1;
-    let ruled = head.rules;
-    let barred = head.excluded;
-    let overridden = head.overrides;
-    let mut rulerows = [false; 12592];
-    let mut excludedrows = [false; 12592];
-    let rules = load_list(text, ends, ruled, false, head.start, limit, &mut rulerows);
-    let excluded = load_list(
-        text,
-        ends,
-        barred,
-        true,
-        head.start,
-        limit,
-        &mut excludedrows,
-    );
-    let mut ids = [0; 256];
+    let mut rows = [false; 25184];
+    let mut ids = [0u64; 256];
     let mut gone = [false; 256];
-    let mut places = [0; 256];
-    let n = load_overrides(text, ends, overridden, &mut ids, &mut gone, &mut places);
-    look_up_kept(
+    let mut places = [0usize; 256];
+    let kept = load(
         text,
         ends,
-        title,
-        public,
-        own,
-        &ids[..n],
-        &gone[..n],
-        &places[..n],
-        rules,
-        &rulerows,
-        excluded,
-        &excludedrows,
-        x,
-    )
+        head,
+        limit,
+        &mut rows,
+        &mut ids,
+        &mut gone,
+        &mut places,
+    );
+    let n = kept.count;
+    if !is_id(kept.dates, &rows, &ids[..n], &gone[..n], x) {
+        return Lookup::Missing;
+    }
+    let form = kept.form;
+    let place = text_by(text, ends, title, form.own, &ids[..n], &places[..n], x);
+    let part = visible(public, part_at(text, place));
+    Lookup::Found(part)
 }
 
 // A secret event tells of no occurrence.

@@ -2,9 +2,9 @@
 mod answered;
 pub mod calls;
 mod events;
-mod kept;
 mod parts;
 mod patched;
+mod visible;
 
 // A part of the event's text: the place of its first byte and how many bytes it has; both 0 where it has none.
 pub struct Part {

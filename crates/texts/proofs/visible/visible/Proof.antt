@@ -1,7 +1,7 @@
--- `texts::kept::visible` meets its contract.
+-- `texts::visible::visible` meets its contract.
 use borrow.Author.Needs.{needs}
-use Rattle.texts.proofs.kept.visible.Statement.{statement}
-use Rattle.texts.proofs.kept.visible.Tie as tie
+use Rattle.texts.proofs.visible.visible.Statement.{statement}
+use Rattle.texts.proofs.visible.visible.Tie as tie
 
 returns : tie.Need-returns
 returns c = rw (c .if1 .taken)
