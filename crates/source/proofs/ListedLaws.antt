@@ -1,6 +1,6 @@
 -- Listed days are handed over as ids: the listing may stop at any day.
 use Prim.Native.Nat.{ℕ, zero, suc, _+_, _-_, _*_, _/_, _%_, _<_, _≤_}
-use mathlib.Core.Bool.{Bool, true, false}
+use mathlib.Core.Bool.{Bool, false}
 use mathlib.Core.List.{List, [], _∷_, _++_, map}
 use mathlib.Core.Path.{_≡_, refl, sym, ap, _∙_, subst}
 use native.Mathlib.Omega.{arith}
@@ -13,14 +13,12 @@ use Rattle.signed.specs.Choose.{if_then_else_}
 use Rattle.rule.specs.Gives.{endDay, onDay}
 use Rattle.rule.proofs.Bools.{by}
 use Rattle.track.specs.declared.Track.{Track}
-use Rattle.dates.specs.declared.Tracks.{Tracks}
 use Rattle.dates.specs.declared.Dates.{Dates}
-use Rattle.dates.specs.Inner.Tracked.{Tracked, Weeks}
-use Rattle.dates.specs.Inner.Loaded.{loaded, isIn}
+use Rattle.dates.specs.Inner.Tracked.{Weeks}
 use Rattle.dates.specs.Inner.Dates.{Whole, datesIn}
 use Rattle.window.specs.Inner.Next.{dayFrom}
 use Rattle.window.specs.Inner.Lists.{listIn}
-use Rattle.window.specs.Inner.Handed.{Span, Handed}
+use Rattle.window.specs.Inner.Handed.{Handed}
 use Rattle.window.proofs.HitLaws.{FromDay, from-day}
 use Rattle.listing.specs.Inner.Lists.{startOr}
 use Rattle.listing.specs.Inner.Parts.{ByMonths}
@@ -47,7 +45,6 @@ module _ (start : ℕ) (days before : List ℕ) where
   pub seconds-one : (after : List ℕ) (k : ℕ) → SecondsAt start days before after k → k < length days → length days ≤ length before
       → SecondsAt start days before (set after k (onDay start (getD days k 0))) (k + 1)
   seconds-one after k s less room =
-      let v = onDay start (getD days k 0) in
       let here : getD (map (onDay start) days) k 0 ≡ onDay start (getD days k 0) = value-at days k less in
       let many : k < length (map (onDay start) days) = subst (λ (n : ℕ). k < n) (sym (length-map days (onDay start))) less in
       record {
