@@ -106,7 +106,7 @@ module _ (start : ℕ) (rules : Tracks) (ruleFlags : List Bool) (excluded : Trac
       go false true = refl
       go false false = refl
 
-  timed : (x : ℕ) → isIn (loaded start rules ruleFlags excluded excludedFlags ids gone) x
+  pub timed : (x : ℕ) → isIn (loaded start rules ruleFlags excluded excludedFlags ids gone) x
       ≡ (if eqb (x % 86400) (start % 86400) then startOr rule (take 1574 ruleFlags) (start / 86400) (x / 86400) else false)
   unfolding isIn
   timed x = rw (none-named true ids gone x few, none-named false ids gone x few, by-rule (x / 86400))

@@ -1,3 +1,4 @@
+pub mod Chunks
 pub mod Kinds
 pub mod Lists
 pub mod Parts

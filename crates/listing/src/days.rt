@@ -1,53 +1,50 @@
 // The days of a rule in a run of days, listed a month at a time.
 ghost use mathlib.Core.Path.{_≡_};
-ghost use Prim.Native.Nat.{_<_, _≤_};
 ghost use lib.ListN.{length};
 ghost use Rattle.matcher.specs.Inner.Walk.{picksOnBy};
-ghost use Rattle.track.specs.Inner.Runs.{Run};
-ghost use Rattle.listing.specs.Inner.Lists.{Tried};
-ghost use Rattle.listing.specs.Inner.Parts.{ByMonths};
+ghost use Rattle.listing.specs.Inner.Chunks.{Listable, Stopped};
+use crate::DayChunk;
 use crate::parts::list_part;
 use matcher::Terms;
 
-// The n days from `first` on, after the first entries of the list: the place after the last of them, or one beyond the list where a month might
-// not have room.
+// The days from `first` on and before `end`, after the first entries of the list, up to the month that might not have room.
 pub(crate) fn list_days(
     terms: Terms,
     flags: &[bool],
     first: u32,
-    n: usize,
+    end: u32,
     days: &mut [u32],
     at: usize,
-) -> usize
-    requires { ⌜ ByMonths terms (now flags) × (Run terms (length (now flags)) first n × ((at ≤ length (now days)) × (length (now days) < 4294967296))) ⌝ }
-    ensures { λ r. ⌜ Tried (picksOnBy terms (now (flags .entry))) first n (now (days .entry)) at (now (days .exit)) r ⌝ }
+) -> DayChunk
+    requires { ⌜ Listable terms (now flags) first end at (length (now days)) ⌝ }
+    ensures { λ r. ⌜ Stopped (picksOnBy terms (now (flags .entry))) first end (now (days .entry)) at (now (days .exit)) (r .count) (r .next) ⌝ }
 {
     let mut rows = [false; 960];
     let mut lists = [0u32; 896];
     let mut x = rule::days::day_of(first);
-    let mut place = at;
-    let mut i = 0;
-    while i < n {
+    let mut count = at;
+    let mut day = first;
+    while day < end {
         let here = x;
         let out = track::skips::skip(terms, flags, here);
         if 0 < out {
-            if n <= i + out as usize {
-                return place;
+            if end <= day + out {
+                return DayChunk { count, next: end };
             }
-            i += out as usize;
+            day += out;
             x = track::leaps::days_later(here, out);
         } else {
-            if days.len() < place + 31 {
-                return days.len() + 1;
+            if days.len() < count + 31 {
+                return DayChunk { count, next: day };
             }
-            let part = track::plain::month_part(here, n - i);
-            place = list_part(terms, flags, &mut rows, &mut lists, here, part, days, place);
-            if n <= i + part {
-                return place;
+            let part = track::plain::month_part(here, (end - day) as usize);
+            count = list_part(terms, flags, &mut rows, &mut lists, here, part, days, count);
+            if end <= day + part as u32 {
+                return DayChunk { count, next: end };
             }
-            i += part;
+            day += part as u32;
             x = track::leaps::days_later(here, part as u32);
         }
     }
-    place
+    DayChunk { count, next: end }
 }

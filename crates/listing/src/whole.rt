@@ -5,8 +5,10 @@ ghost use Prim.Native.Nat.{_-_, _≤_};
 ghost use lib.ListN.{length};
 ghost use Rattle.rule.specs.declared.Frequency.the-variants.{Monthly};
 ghost use Rattle.track.specs.Inner.Runs.{hasDay};
+ghost use Rattle.listing.specs.Inner.Chunks.{Listable, Stopped};
 ghost use Rattle.listing.specs.Inner.Lists.{Tried, Listing, startOr};
 ghost use Rattle.listing.specs.Inner.Parts.{isMonthly, ByMonths};
+use crate::DayChunk;
 use crate::days::list_days;
 use matcher::Terms;
 use rule::Frequency;
@@ -54,23 +56,48 @@ fn list_rule(
     end: u32,
     days: &mut [u32],
     at: usize,
-) -> usize
-    requires { ⌜ Listing track (length (now flags)) from end (length (now days)) × ((begin ≤ from) × (at ≤ length (now days))) ⌝ }
-    ensures { λ r. ⌜ Tried (hasDay track (now (flags .entry)) begin) from (end - from) (now (days .entry)) at (now (days .exit)) r ⌝ }
+) -> DayChunk
+    requires { ⌜ Listable (track .terms) (now flags) from end at (length (now days)) × (begin ≤ from) ⌝ }
+    ensures { λ r. ⌜ Stopped (hasDay track (now (flags .entry)) begin) from end (now (days .entry)) at (now (days .exit)) (r .count) (r .next) ⌝ }
 {
     let to = track::ranges::earlier(end, track.last);
     if to <= from {
-        return at;
+        let count = at;
+        return DayChunk { count, next: end };
     }
-    let terms = track.terms;
-    if !is_by_months(terms, flags) {
-        return days.len() + 1;
+    let listed = list_days(track.terms, flags, from, to, days, at);
+    if listed.next < to {
+        return listed;
     }
-    list_days(terms, flags, from, (to - from) as usize, days, at)
+    let count = listed.count;
+    DayChunk { count, next: end }
 }
 
-// The days from `first` on and before `end` of an event that begins on the day `begin`: how many, or more than the list has room for where they
-// are not listed.
+// The days from `first` on and before `end` of an event that begins on the day `begin`, up to the month that might not have room: a list of 31
+// entries always gets on.
+pub fn list_chunk(
+    track: Track,
+    flags: &[bool],
+    begin: u32,
+    first: u32,
+    end: u32,
+    days: &mut [u32],
+) -> DayChunk
+    requires { ⌜ Listable (track .terms) (now flags) first end 1 (length (now days)) ⌝ }
+    ensures { λ r. ⌜ Stopped (startOr track (now (flags .entry)) begin) first end (now (days .entry)) 0 (now (days .exit)) (r .count) (r .next) ⌝ }
+{
+    if begin < first {
+        return list_rule(track, flags, begin, first, end, days, 0);
+    }
+    if end <= begin {
+        let count = 0;
+        return DayChunk { count, next: end };
+    }
+    days[0] = begin;
+    list_rule(track, flags, begin, begin + 1, end, days, 1)
+}
+
+// All of these days: how many, or more than the list has room for where they are not listed.
 pub fn list_dates(
     track: Track,
     flags: &[bool],
@@ -82,12 +109,16 @@ pub fn list_dates(
     requires { ⌜ Listing track (length (now flags)) first end (length (now days)) ⌝ }
     ensures { λ r. ⌜ Tried (startOr track (now (flags .entry)) begin) first (end - first) (now (days .entry)) 0 (now (days .exit)) r ⌝ }
 {
-    if begin < first {
-        return list_rule(track, flags, begin, first, end, days, 0);
-    }
-    if end <= begin {
+    if end < first {
         return 0;
     }
-    days[0] = begin;
-    list_rule(track, flags, begin, begin + 1, end, days, 1)
+    let terms = track.terms;
+    if !is_by_months(terms, flags) {
+        return days.len() + 1;
+    }
+    let listed = list_chunk(track, flags, begin, first, end, days);
+    if listed.next < end {
+        return days.len() + 1;
+    }
+    listed.count
 }

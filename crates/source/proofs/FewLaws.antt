@@ -1,11 +1,11 @@
 -- A stretch has no more ids than days and overrides.
 use Prim.Native.Nat.{ℕ, zero, suc, _+_, _-_, _*_, _/_, _%_, _<_, _≤_}
 use mathlib.Core.Bool.{Bool, true, false, false≢true, _||_, _&&_}
-use mathlib.Core.List.{List, [], _∷_, map}
+use mathlib.Core.List.{List, [], _∷_}
 use mathlib.Core.Path.{_≡_, refl, sym, ap, _∙_, subst}
 use native.Mathlib.Omega.{arith}
 use lib.Dec.{eqb}
-use lib.ListN.{length}
+use lib.ListN.{length, length-map}
 use borrow.Author.Tests.{eqb-true, ne-eqb}
 use Rattle.signed.specs.Choose.{if_then_else_}
 use Rattle.rule.specs.Gives.{onDay}
@@ -14,7 +14,7 @@ use Rattle.dates.specs.Inner.Overrides.{counts, isNamed}
 use Rattle.dates.specs.Inner.Loaded.{Loaded, byRules, isIn}
 use Rattle.window.specs.Inner.Next.{dayFrom}
 use Rattle.window.specs.Inner.Lists.{listIn}
-use Rattle.window.proofs.HitLaws.{FromDay, from-day}
+use Rattle.window.proofs.HitLaws.{FromDay, from-day, day-order}
 use Rattle.window.proofs.ListLaws.{list-nothing, list-most}
 use Rattle.listing.proofs.SecondLaws.{days-listed}
 
@@ -38,26 +38,17 @@ list-either p t m h a (suc n) = go (p a) (t a) (m a) refl refl refl (list-either
 
 -- ---- one for each day
 
-map-length : (f : ℕ → ℕ) (l : List ℕ) → length (map f l) ≡ length l
-map-length f [] = refl
-map-length f (x ∷ l) = ap suc (map-length f l)
-
 isTimed : ℕ → ℕ → Bool
 isTimed start x = if eqb (x % 86400) (start % 86400) then true else false
-
-pub days-order : (start from to : ℕ) → from ≤ to → dayFrom start from ≤ dayFrom start to
-days-order start from to order =
-    let reached = from-day start to .reached in
-    from-day start from .earliest (dayFrom start to) (omega arith)
 
 timed-most : (start from to : ℕ) → from ≤ to → length (listIn (isTimed start) from (to - from)) ≤ dayFrom start to - dayFrom start from
 unfolding isTimed
 timed-most start from to order =
     let n = dayFrom start to - dayFrom start from in
-    let days = days-order start from to order in
+    let days = day-order start from to order in
     let whole : dayFrom start from + n ≡ dayFrom start to = omega arith in
     let same = days-listed start (isTimed start) (λ d. true) (λ x. refl) n from to (dayFrom start from) order (from-day start from) (subst (FromDay start to) (sym whole) (from-day start to)) in
-    let long : length (listIn (isTimed start) from (to - from)) ≡ length (listIn (λ d. true) (dayFrom start from) n) = ap length same ∙ map-length (onDay start) (listIn (λ d. true) (dayFrom start from) n) in
+    let long : length (listIn (isTimed start) from (to - from)) ≡ length (listIn (λ d. true) (dayFrom start from) n) = ap length same ∙ length-map (listIn (λ d. true) (dayFrom start from) n) (onDay start) in
     omega (arith, long, list-most (λ d. true) (dayFrom start from) n)
 
 -- ---- one for each override

@@ -1,46 +1,52 @@
 -- `listing::whole::list_dates` meets its contract.
-use Rattle.listing.proofs.DayLaws.{start-before, start-behind, start-within, start-asks, start-size}
+use Rattle.listing.proofs.DayLaws.{not-listed, all-listed, no-time, all-asked}
+use mathlib.Core.Path.{refl}
+use borrow.Author.Tests.{not-false}
 use borrow.Author.Needs.{needs}
 use Rattle.listing.proofs.whole.list_dates.Statement.{statement}
 use Rattle.listing.proofs.whole.list_dates.Tie as tie
 
-list-rule-requires : tie.Need-list-rule-requires
-list-rule-requires c κs = search needs
+returns : tie.Need-returns
+returns c = no-time _ _ _ _ (c .if1 .taken)
+
+is-by-months-requires : tie.Need-is-by-months-requires
+is-by-months-requires c κs = search needs
+
+add-result : tie.Need-add-result
+add-result c = search needs
+
+returns-2 : tie.Need-returns-2
+returns-2 c = not-listed _ _ _ _ _ _ _ refl refl
+
+list-chunk-requires : tie.Need-list-chunk-requires
+list-chunk-requires c κs = all-asked _ _ _ _ _ (c .before .before .before .before .before .before .before .pre) (c .before .before .is-by-months .ensures .0 (not-false _ (c .before .if2 .left))) (c .before .before .before .before .if1 .left)
+
+add-result-2 : tie.Need-add-result-2
+add-result-2 c = search needs
 
 same-length : tie.Need-same-length
 same-length c = search needs
 
-returns : tie.Need-returns
-returns c = start-before _ _ _ _ _ (c .before .before .before .before .if1 .taken) _ _ _ _ (c .before .before .list-rule .ensures)
-
-returns-2 : tie.Need-returns-2
-returns-2 c = start-behind _ _ _ _ _ (c .if2 .taken) _
-
-slice-write-days : tie.Need-slice-write-days
-slice-write-days c = search needs
-
-add-list-rule : tie.Need-add-list-rule
-add-list-rule c = search needs
-
-list-rule-requires-2 : tie.Need-list-rule-requires-2
-list-rule-requires-2 c κs = start-asks _ _ _ _ _ (c .before .before .before .before .before .args .days .now) (c .before .before .before .before .before .pre) (c .before .before .if1 .left)
+returns-3 : tie.Need-returns-3
+returns-3 c = not-listed _ _ _ _ _ _ _ (c .before .before .before .before .list-chunk .ensures .size) refl
 
 same-length-2 : tie.Need-same-length-2
-same-length-2 c = start-size (c .before .before .before .before .before .before .before .before .args .days .now) _ _ (c .before .before .list-rule2 .ensures .size)
+same-length-2 c = search needs
 
-returns-3 : tie.Need-returns-3
-returns-3 c = start-within _ _ _ _ _ (c .before .before .before .before .before .if1 .left) (c .before .before .before .before .if2 .left) _ _ _ (c .before .before .before .before .before .before .before .before .pre .room) (c .before .before .list-rule2 .ensures)
+returns-4 : tie.Need-returns-4
+returns-4 c = all-listed _ _ _ _ _ _ _ _ (c .before .before .before .before .list-chunk .ensures) (c .if3 .left)
 
 pub list-dates-spec : {M : Type 1} → statement M
 list-dates-spec =
     tie.close
     (tie.spec
-    list-rule-requires
-    same-length
     returns
+    is-by-months-requires
+    add-result
     returns-2
-    slice-write-days
-    add-list-rule
-    list-rule-requires-2
+    list-chunk-requires
+    add-result-2
+    same-length
+    returns-3
     same-length-2
-    returns-3)
+    returns-4)

@@ -2,7 +2,7 @@
 use Prim.Native.Nat.{_-_, _≤_}
 use mathlib.Core.Path.{_≡_, sym}
 use native.Mathlib.Omega.{arith}
-use Rattle.source.proofs.FewLaws.{days-order}
+use Rattle.window.proofs.HitLaws.{day-order}
 use Rattle.source.proofs.RoomLaws.{rest-fits, none-fits}
 use borrow.Author.Needs.{needs}
 use Rattle.source.proofs.counting.holds_days.Statement.{statement}
@@ -17,7 +17,7 @@ day-from-requires-2 c κs = search needs
 sub-days : tie.Need-sub-days
 sub-days c =
     let q = c .before .before in
-    omega (arith, c .day-from2 .ensures, c .before .day-from .ensures, days-order (q .args .start) (q .args .from) (q .args .to) (q .pre .order))
+    omega (arith, c .day-from2 .ensures, c .before .day-from .ensures, day-order (q .args .start) (q .args .from) (q .args .to) (q .pre .order))
 
 returns : tie.Need-returns
 returns c = rw (← (c .before .day-from2 .ensures), ← (c .before .before .day-from .ensures)) (none-fits _ _ _ (c .if1 .taken))
