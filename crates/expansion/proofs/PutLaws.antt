@@ -2,18 +2,15 @@
 use Prim.Native.Nat.{ℕ, _-_, _*_, _+_, _<_, _≤_}
 use mathlib.Core.Bool.{Bool, true, false}
 use mathlib.Core.List.{List}
-use mathlib.Core.Path.{_≡_, refl, sym, ap, _∙_}
+use mathlib.Core.Path.{_≡_, refl, sym, _∙_}
 use native.Mathlib.Omega.{arith}
 use lib.Dec.{leb}
 use lib.ListN.{length}
 use borrow.Author.Tests.{leb-true, leb-false}
-use Rattle.call_definitions.specs.Results.{Gives}
 use Rattle.window.specs.Inner.Handed.{Span, Handed}
 use Rattle.window.specs.Inner.Lists.{listIn}
 use Rattle.window.proofs.HandLaws.{handed-count}
 use Rattle.source.specs.Inner.Room.{HasRoom}
-use Rattle.writer.specs.Inner.Table.{tableBy, fitted}
-use Rattle.writer.proofs.TableLaws.{table-refused}
 use Rattle.writer.proofs.WroteLaws.{WroteTo}
 
 pub record PutAt (row : ℕ → List ℕ) (p : ℕ → Bool) (from to : ℕ) (before : List ℕ) (second place : ℕ) (buffer room : List ℕ) (count next : ℕ) : Type 0 where

@@ -5,13 +5,12 @@ use mathlib.Core.List.{List, [], _∷_, _++_, map, append-assoc, append-nil}
 use mathlib.Core.Path.{_≡_, refl, sym, ap, _∙_, subst}
 use native.Mathlib.Omega.{arith}
 use native.Mathlib.Numerals.{add-one}
-use lib.ListN.{length, take, drop, getD, set, length-set, length-map, List·getD-map}
+use lib.ListN.{length, take, getD, set, length-set, length-map}
 use lib.Seq.{take-suc, take-suc-set, take-set-le, take-length, getD-set-other}
 use Rattle.signed.specs.Choose.{if_then_else_}
-use Rattle.rule.proofs.Bools.{by}
 use Rattle.window.specs.Inner.Lists.{listIn}
 use Rattle.window.proofs.ListLaws.{list-split}
-use Rattle.listing.specs.Inner.Lists.{hitOn, Listed, Collected, Copied}
+use Rattle.listing.specs.Inner.Lists.{hitOn, Collected, Copied}
 
 -- ---- one more day of a list
 

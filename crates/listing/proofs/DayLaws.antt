@@ -16,8 +16,7 @@ use Rattle.matcher.specs.declared.Terms.{Terms}
 use Rattle.matcher.specs.Inner.Walk.{picksOnBy}
 use Rattle.window.specs.Inner.Lists.{listIn}
 use Rattle.window.proofs.ListLaws.{list-split, list-same, list-nothing, list-first}
-use Rattle.listing.specs.Inner.Lists.{Listed, Tried, Listing, startOr}
-use Rattle.listing.specs.Inner.Parts.{ByMonths}
+use Rattle.listing.specs.Inner.Lists.{Listed, startOr}
 use Rattle.listing.specs.Inner.Chunks.{Listable, Stopped}
 
 -- ---- the loop: the days so far stand in the list
@@ -260,35 +259,3 @@ start-asks t row begin first end days l low high =
 
 pub start-size : (days : List ℕ) (n begin : ℕ) → n ≡ length (set days 0 begin) → n ≡ length days
 start-size days n begin same = same ∙ length-set days 0 begin
-
--- ---- all days or none
-
-pub not-listed : (p : ℕ → Bool) (first n : ℕ) (before : List ℕ) (at : ℕ) (after : List ℕ) (end : ℕ) → length after ≡ length before → end ≡ length after + 1
-    → Tried p first n before at after end
-not-listed p first n before at after end size is = record { size = size; days = λ fits. absurd (omega arith) }
-
-pub all-listed : (p : ℕ → Bool) (first end : ℕ) (before : List ℕ) (at : ℕ) (after : List ℕ) (count next : ℕ) → Stopped p first end before at after count next → end ≤ next
-    → Tried p first (end - first) before at after count
-all-listed p first end before at after count next l over =
-    let all : next ≡ end = omega (arith, l .high) in
-    record { size = l .size; days = λ fits. subst (λ (d : ℕ). take count after ≡ take at before ++ listIn p first (d - first)) all (l .days) }
-
-pub no-time : (p : ℕ → Bool) (first end : ℕ) (before : List ℕ) → end < first → Tried p first (end - first) before 0 before 0
-unfolding listIn
-no-time p first end before late =
-    let none : end - first ≡ 0 = omega arith in
-    record { size = refl; days = λ fits. rw none }
-
-pub all-asked : (t : Track) (row : List Bool) (first end days : ℕ) → Listing t (length row) first end days → ByMonths (t .terms) row → first ≤ end
-    → Listable (t .terms) row first end 1 days
-all-asked t row first end days l by-months order =
-    record {
-      by-months = by-months;
-      row-length = l .row-length;
-      week = l .week;
-      low = l .low;
-      order = order;
-      high = l .high;
-      place = l .room;
-      small = l .small;
-    }

@@ -1,8 +1,8 @@
 -- The lists of the kinds of months: one that is written, and the others that stay.
-use Prim.Native.Nat.{ℕ, zero, suc, _+_, _-_, _<_, _≤_}
-use mathlib.Core.Bool.{Bool, true, false}
-use mathlib.Core.List.{List, [], _∷_, _++_}
-use mathlib.Core.Path.{_≡_, refl, sym, ap, _∙_, subst}
+use Prim.Native.Nat.{ℕ, _+_, _-_, _<_, _≤_}
+use mathlib.Core.Bool.{Bool, false}
+use mathlib.Core.List.{List, _++_}
+use mathlib.Core.Path.{_≡_, sym, ap, _∙_, subst}
 use native.Mathlib.Omega.{arith}
 use lib.Dec.{ltb}
 use lib.ListN.{length, take, drop, getD, set, length-set, length-append, length-drop, replicate, length-replicate, getD-replicate}
@@ -14,7 +14,7 @@ use Rattle.rule.proofs.Counting.{count-most}
 use Rattle.window.proofs.ListLaws.{list-same, list-length}
 use Rattle.months.specs.Inner.Kinds.{Kind, picksIn}
 use Rattle.months.specs.Inner.Rows.{rowOf, Kept, KeptAt}
-use Rattle.listing.specs.Inner.Lists.{hitOn, Listed, Collected}
+use Rattle.listing.specs.Inner.Lists.{hitOn, Collected}
 use Rattle.listing.specs.Inner.Kinds.{kindDays, Held, KeptLists, ListAt, Wrote}
 
 -- ---- a piece of a list

@@ -1,7 +1,7 @@
 -- The days of a rule in a month, from the row or the list of its kind.
 use Prim.Native.Nat.{ℕ, zero, suc, _+_, _-_, _<_, _≤_}
 use mathlib.Core.Bool.{Bool, true, false}
-use mathlib.Core.List.{List, [], _∷_, _++_, map, append-nil}
+use mathlib.Core.List.{List, _∷_, _++_, map, append-nil}
 use mathlib.Core.Path.{_≡_, refl, sym, ap, _∙_, subst}
 use native.Mathlib.Omega.{arith}
 use lib.ListN.{length, take, drop, getD, replicate}
@@ -17,17 +17,17 @@ use Rattle.matcher.specs.Inner.Flags.{monthBy}
 use Rattle.matcher.specs.Inner.Walk.{Asked, stepBy, picksOnBy}
 use Rattle.matcher.proofs.WalkLaws.{in-calendar}
 use Rattle.months.specs.Inner.Kinds.{Kind, picksIn}
-use Rattle.months.specs.Inner.Rows.{Kept, KeptAt}
+use Rattle.months.specs.Inner.Rows.{KeptAt}
 use Rattle.months.proofs.RowLaws.{kept-none}
 use Rattle.track.specs.Inner.Skips.{toMonthEnd}
 use Rattle.track.specs.Inner.Alike.{firstWeekday}
 use Rattle.track.specs.Inner.Plain.{InMonth}
-use Rattle.track.proofs.LeapLaws.{firstOf, month-not-early}
+use Rattle.track.proofs.LeapLaws.{month-not-early}
 use Rattle.track.proofs.AlikeLaws.{month-kind, picks-kind, unset-none, out-none}
 use Rattle.window.specs.Inner.Lists.{listIn}
 use Rattle.window.proofs.ListLaws.{list-same, list-nothing}
 use Rattle.listing.specs.Inner.Lists.{hitOn, Listed, Collected, Offsets, Copied}
-use Rattle.listing.specs.Inner.Kinds.{kindDays, Held, ListAt}
+use Rattle.listing.specs.Inner.Kinds.{kindDays, ListAt}
 use Rattle.listing.specs.Inner.Parts.{ByMonths, Chosen, Kinds, Room, ListedPart}
 use Rattle.listing.proofs.KindLaws.{kind-few, piece-size, piece-at, lists-none}
 

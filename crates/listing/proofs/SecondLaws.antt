@@ -2,7 +2,7 @@
 use Prim.Native.Nat.{ℕ, zero, suc, _+_, _-_, _*_, _/_, _%_, _<_, _≤_}
 use mathlib.Core.Bool.{Bool, true, false, _||_}
 use mathlib.Core.List.{List, [], _∷_, _++_, map}
-use mathlib.Core.Path.{_≡_, refl, sym, ap, _∙_, subst}
+use mathlib.Core.Path.{_≡_, refl, ap, _∙_, subst}
 use native.Mathlib.Omega.{arith}
 use lib.Dec.{eqb, ltb}
 use lib.ListN.{length, take, getD}
@@ -16,9 +16,8 @@ use Rattle.dates.specs.declared.Tracks.{Tracks}
 use Rattle.dates.specs.Inner.Tracked.{someHas, tracksOf}
 use Rattle.dates.specs.Inner.Overrides.{isNamed}
 use Rattle.dates.specs.Inner.Loaded.{loaded, byRules, isIn}
-use Rattle.window.specs.Inner.Next.{dayFrom}
 use Rattle.window.specs.Inner.Lists.{listIn}
-use Rattle.window.proofs.HitLaws.{FromDay, from-day}
+use Rattle.window.proofs.HitLaws.{FromDay}
 use Rattle.window.proofs.ListLaws.{list-split, list-nothing}
 use Rattle.listing.specs.Inner.Lists.{startOr}
 
@@ -110,11 +109,3 @@ module _ (start : ℕ) (rules : Tracks) (ruleFlags : List Bool) (excluded : Trac
       ≡ (if eqb (x % 86400) (start % 86400) then startOr rule (take 1574 ruleFlags) (start / 86400) (x / 86400) else false)
   unfolding isIn
   timed x = rw (none-named true ids gone x few, none-named false ids gone x few, by-rule (x / 86400))
-
-  pub event-listed : (from to : ℕ) → from ≤ to → listIn (isIn (loaded start rules ruleFlags excluded excludedFlags ids gone)) from (to - from)
-      ≡ map (onDay start) (listIn (startOr rule (take 1574 ruleFlags) (start / 86400)) (dayFrom start from) (dayFrom start to - dayFrom start from))
-  event-listed from to order =
-      let a = from-day start from in
-      let b = from-day start to in
-      let later : dayFrom start from ≤ dayFrom start to = a .earliest (dayFrom start to) (omega (arith, b .reached)) in
-      days-listed start _ _ timed (dayFrom start to - dayFrom start from) from to (dayFrom start from) order a (subst (FromDay start to) (omega arith) b)

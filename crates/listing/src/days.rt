@@ -1,5 +1,4 @@
 // The days of a rule in a run of days, listed a month at a time.
-ghost use mathlib.Core.Path.{_≡_};
 ghost use lib.ListN.{length};
 ghost use Rattle.matcher.specs.Inner.Walk.{picksOnBy};
 ghost use Rattle.listing.specs.Inner.Chunks.{Listable, Stopped};

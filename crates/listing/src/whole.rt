@@ -6,7 +6,7 @@ ghost use lib.ListN.{length};
 ghost use Rattle.rule.specs.declared.Frequency.the-variants.{Monthly};
 ghost use Rattle.track.specs.Inner.Runs.{hasDay};
 ghost use Rattle.listing.specs.Inner.Chunks.{Listable, Stopped};
-ghost use Rattle.listing.specs.Inner.Lists.{Tried, Listing, startOr};
+ghost use Rattle.listing.specs.Inner.Lists.{startOr};
 ghost use Rattle.listing.specs.Inner.Parts.{isMonthly, ByMonths};
 use crate::DayChunk;
 use crate::days::list_days;
@@ -95,30 +95,4 @@ pub fn list_chunk(
     }
     days[0] = begin;
     list_rule(track, flags, begin, begin + 1, end, days, 1)
-}
-
-// All of these days: how many, or more than the list has room for where they are not listed.
-pub fn list_dates(
-    track: Track,
-    flags: &[bool],
-    begin: u32,
-    first: u32,
-    end: u32,
-    days: &mut [u32],
-) -> usize
-    requires { ⌜ Listing track (length (now flags)) first end (length (now days)) ⌝ }
-    ensures { λ r. ⌜ Tried (startOr track (now (flags .entry)) begin) first (end - first) (now (days .entry)) 0 (now (days .exit)) r ⌝ }
-{
-    if end < first {
-        return 0;
-    }
-    let terms = track.terms;
-    if !is_by_months(terms, flags) {
-        return days.len() + 1;
-    }
-    let listed = list_chunk(track, flags, begin, first, end, days);
-    if listed.next < end {
-        return days.len() + 1;
-    }
-    listed.count
 }

@@ -4,7 +4,6 @@ use mathlib.Core.Bool.{Bool, true, false}
 use mathlib.Core.List.{List, [], map}
 use mathlib.Core.Path.{_≡_, sym, ap, subst, _∙_}
 use native.Mathlib.Omega.{arith}
-use lib.IntN.{ℤ}
 use lib.ListN.{length, take, length-map}
 use Rattle.property.specs.Inner.From.{valueIn}
 use Rattle.property.proofs.Ranges.{Short}
@@ -24,19 +23,16 @@ use Rattle.event_text.specs.Inner.Held.{fromHead}
 use Rattle.event_text.specs.declared.Head.{Head}
 use Rattle.event_text.proofs.Accepted.{Accepted}
 use Rattle.event_text.proofs.FromHead.{head-details, head-rules, head-excluded, head-overrides, head-accepted}
-use Rattle.call_definitions.specs.Window.{since1600, validWindow}
 use Rattle.call_definitions.specs.Occurrence.{datesOf, isOccurrence, overrideAt, patchedBy, detailsAt}
 use Rattle.dates.specs.declared.Tracks.{Tracks}
 use Rattle.dates.specs.Inner.Tracked.{tracksOf}
 use Rattle.dates.specs.Inner.Loaded.{loaded}
 use Rattle.dates.specs.Inner.Stands.{Settles, Stands, overridesOf}
-use Rattle.window.specs.Inner.Chunks.{Window}
 use Rattle.record.specs.Inner.Occurrences.{Small}
 use Rattle.writer.specs.Inner.Details.{detailsBy, timesIn}
 use Rattle.loading.specs.Inner.Rules.{Season, SettledRules}
 use Rattle.loading.specs.Inner.Patches.{patchesIn, Overridden}
 use Rattle.loading.proofs.PatchLaws.{front-stored, dates-same, details-same, small-each, Ranged, patches-many, patches-each, patches-range, patches-most}
-use Rattle.loading.proofs.WindowLaws.{window-in}
 use Rattle.loading.proofs.YearLaws.{event-years}
 
 module _ (s : List ℕ) (h : Head) (is : fromHead inner s h ≡ frontOf s) (ok : eventFault s ≡ 0) where
@@ -49,9 +45,6 @@ module _ (s : List ℕ) (h : Head) (is : fromHead inner s h ≡ frontOf s) (ok :
   pub kept-season : (limit : ℕ) → limit ≤ endDay → Season (h .start) limit
   kept-season limit within =
       record { low = omega (arith, fine .start .from); high = omega (arith, fine .start .to); within = within }
-
-  pub kept-start : (o : Own) → detailsIn s o ≡ fromHead inner s h .details → o .start ≡ h .start
-  kept-start o same = ap (λ (d : Details). d .start) same
 
   ranged : Ranged (eventOf s .overrides)
   unfolding mine

@@ -1,6 +1,5 @@
 // The rules of a list, read one after the other and settled.
 ghost use mathlib.Core.Path.{_≡_};
-ghost use Prim.Native.Nat.{_≤_};
 ghost use lib.ListN.{length};
 ghost use Rattle.json_ends.specs.Inner.Ends.{Ends};
 ghost use Rattle.json_tree.specs.Tree.{treeAt};

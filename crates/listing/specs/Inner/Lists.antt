@@ -28,11 +28,6 @@ pub record Collected (hits : List Bool) (first : ℕ) (before : List ℕ) (at : 
   pub low : (j : ℕ) → j < at → getD after j 0 ≡ getD before j 0
   pub high : (j : ℕ) → at + length hits ≤ j → getD after j 0 ≡ getD before j 0
 
--- The list, or a place beyond the slice where it is not listed. Which of the two is left open: days that are not listed are marked.
-pub record Tried (p : ℕ → Bool) (first n : ℕ) (before : List ℕ) (at : ℕ) (after : List ℕ) (end : ℕ) : Type 0 where
-  pub size : length after ≡ length before
-  pub days : end ≤ length before → take end after ≡ take at before ++ listIn p first n
-
 -- The day d is the start's, or the only rule of an event has it.
 unfoldable pub startOr : Track → List Bool → ℕ → ℕ → Bool
 startOr t row begin d = if eqb d begin then true else hasDay t row begin d
@@ -46,12 +41,3 @@ pub record Copied (list : List ℕ) (first : ℕ) (before : List ℕ) (at : ℕ)
   pub size : length after ≡ length before
   pub place : end ≡ at + length list
   pub days : take end after ≡ take at before ++ map (λ k. first + k) list
-
--- The days from `from` on and before `end` lie in the profile, and the list has room for one of them.
-pub record Listing (t : Track) (row from end days : ℕ) : Type 0 where
-  pub row-length : row ≡ 1574
-  pub week : t .terms .first < 7
-  pub low : 366 ≤ from
-  pub high : end ≤ endDay
-  pub room : 1 ≤ days
-  pub small : days < 4294967296

@@ -1,5 +1,5 @@
 -- `expansion::table::put_table` meets its contract: nothing is written where it has no room, and each turn writes a chunk and asks for the next.
-use Prim.Native.Nat.{ℕ, _+_, _-_, _*_, _≤_}
+use Prim.Native.Nat.{_+_, _-_, _*_, _≤_}
 use mathlib.Core.Path.{sym, _∙_}
 use native.Mathlib.Omega.{arith}
 use borrow.Author.Needs.{needs}

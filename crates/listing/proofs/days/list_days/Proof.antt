@@ -6,9 +6,9 @@ use Rattle.rule.specs.Day.{dayAt}
 use Rattle.matcher.specs.Inner.Walk.{picksOnBy}
 use Rattle.matcher.proofs.WalkLaws.{number-is, day-again}
 use Rattle.track.proofs.PlainLaws.{month-at}
-use Prim.Native.Nat.{_+_, _-_}
+use Prim.Native.Nat.{_-_}
 use native.Mathlib.Omega.{arith}
-use mathlib.Core.Path.{_≡_, refl, sym, ap, _∙_}
+use mathlib.Core.Path.{_≡_, sym, ap, _∙_}
 use borrow.Author.Needs.{needs}
 use Rattle.listing.proofs.days.list_days.Statement.{statement}
 use Rattle.listing.proofs.days.list_days.Tie as tie

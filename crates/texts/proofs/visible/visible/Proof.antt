@@ -1,5 +1,4 @@
 -- `texts::visible::visible` meets its contract.
-use borrow.Author.Needs.{needs}
 use Rattle.texts.proofs.visible.visible.Statement.{statement}
 use Rattle.texts.proofs.visible.visible.Tie as tie
 
