@@ -22,11 +22,11 @@ cast-first c = search needs
 array-borrow-prefix-hits : tie.Need-array-borrow-prefix-hits
 array-borrow-prefix-hits c = search needs
 
-slice-aggregate-fill-run : tie.Need-slice-aggregate-fill-run
-slice-aggregate-fill-run c = taken _ _ (c .before .before .days-at-once .ensures .few)
+slice-aggregate-fill : tie.Need-slice-aggregate-fill
+slice-aggregate-fill c = taken _ _ (c .before .before .days-at-once .ensures .few)
 
-fill-run-requires : tie.Need-fill-run-requires
-fill-run-requires c κs =
+fill-requires : tie.Need-fill-requires
+fill-requires c κs =
     let p = c .before .before .before .before .before .before .before .before .pre in
     let m = c .before .before .days-at-once .ensures in
     (p .whole, marked-run _ _ _ (p .span) m _ (m .few))
@@ -34,18 +34,18 @@ fill-run-requires c κs =
 array-share-prefix-hits : tie.Need-array-share-prefix-hits
 array-share-prefix-hits c =
     let m = c .before .before .before .before .days-at-once .ensures in
-    front-fits _ _ _ (c .before .before .before .before .before .before .before .before .before .before .pre .span) m _ (c .before .fill-run .last .1 .1 .1 .1 .0) (m .few) (c .before .fill-run .kept .1 .1 .1 .1 .0)
+    front-fits _ _ _ (c .before .before .before .before .before .before .before .before .before .before .pre .span) m _ (c .before .fill .last .1 .1 .1 .1 .0) (m .few) (c .before .fill .kept .1 .1 .1 .1 .0)
 
 slice-aggregate-collect-run : tie.Need-slice-aggregate-collect-run
 slice-aggregate-collect-run c =
     let m = c .before .before .before .before .before .days-at-once .ensures in
-    front-size _ _ _ (c .before .before .before .before .before .before .before .before .before .before .before .pre .span) m _ (c .before .before .fill-run .last .1 .1 .1 .1 .0) (m .few) (c .before .before .fill-run .kept .1 .1 .1 .1 .0)
+    front-size _ _ _ (c .before .before .before .before .before .before .before .before .before .before .before .pre .span) m _ (c .before .before .fill .last .1 .1 .1 .1 .0) (m .few) (c .before .before .fill .kept .1 .1 .1 .1 .0)
 
 collect-run-requires : tie.Need-collect-run-requires
 collect-run-requires c κs =
     let p = c .before .before .before .before .before .before .before .before .before .before .before .before .pre in
     let m = c .before .before .before .before .before .before .days-at-once .ensures in
-    marked-collects _ _ _ (p .span) m _ (c .before .before .before .fill-run .last .1 .1 .1 .1 .0) (m .few) (c .before .before .before .fill-run .kept .1 .1 .1 .1 .0) (c .before .before .before .before .before .before .before .if1 .left) _ (c .before .before .before .before .before .chunk-end .ensures) _ _ _ (p .whole .overrides) (p .room)
+    marked-collects _ _ _ (p .span) m _ (c .before .before .before .fill .last .1 .1 .1 .1 .0) (m .few) (c .before .before .before .fill .kept .1 .1 .1 .1 .0) (c .before .before .before .before .before .before .before .if1 .left) _ (c .before .before .before .before .before .chunk-end .ensures) _ _ _ (p .whole .overrides) (p .room)
 
 same-length : tie.Need-same-length
 same-length c = search needs
@@ -55,8 +55,8 @@ returns-2 c =
     let q = c .before .before .before .before .before .before .before .before .before .before .before .before .before .before .before in
     let a = q .args in
     let m = c .before .before .before .before .before .before .before .before .before .days-at-once .ensures in
-    marked-hands _ _ _ (q .pre .span) m _ (c .before .before .before .before .before .before .fill-run .last .1 .1 .1 .1 .0) (m .few) (c .before .before .before .before .before .before .fill-run .kept .1 .1 .1 .1 .0) (c .before .before .before .before .before .before .before .before .before .before .if1 .left) _ (c .before .before .before .before .before .before .before .before .chunk-end .ensures)
-    (keptDates (a .dates) (a .rows .now) (a .ids .now) (a .gone .now)) (c .before .before .before .before .before .before .fill-run .ensures) _ _ _ _ (c .before .before .collect-run .ensures)
+    marked-hands _ _ _ (q .pre .span) m _ (c .before .before .before .before .before .before .fill .last .1 .1 .1 .1 .0) (m .few) (c .before .before .before .before .before .before .fill .kept .1 .1 .1 .1 .0) (c .before .before .before .before .before .before .before .before .before .before .if1 .left) _ (c .before .before .before .before .before .before .before .before .chunk-end .ensures)
+    (keptDates (a .dates) (a .rows .now) (a .ids .now) (a .gone .now)) (c .before .before .before .before .before .before .fill .ensures) _ _ _ _ (c .before .before .collect-run .ensures)
 
 pub marked-spec : {M : Type 1} → statement M
 marked-spec =
@@ -67,8 +67,8 @@ marked-spec =
     chunk-end-requires
     cast-first
     array-borrow-prefix-hits
-    slice-aggregate-fill-run
-    fill-run-requires
+    slice-aggregate-fill
+    fill-requires
     array-share-prefix-hits
     slice-aggregate-collect-run
     collect-run-requires
