@@ -28,7 +28,7 @@ same-length : tie.Need-same-length
 same-length c = search needs
 
 returns : tie.Need-returns
-returns c = 
+returns c =
     let f = c .before .before in
     let q = f .before .before .before .before .before .before .before .before .before .before .before .before in
     let fine = was-accepted _ _ _ (f .before .before .before .before .before .before .open-text .ensures) _ (f .before .before .head .given .1) in
@@ -47,7 +47,7 @@ same-length-3 : tie.Need-same-length-3
 same-length-3 c = search needs
 
 returns-2 : tie.Need-returns-2
-returns-2 c = 
+returns-2 c =
     let f = c .before .before .before .before .before .before .before in
     let q = f .before .before .before .before .before .before .before .before .before .before .before .before in
     let fine = was-accepted _ _ _ (f .before .before .before .before .before .before .open-text .ensures) _ (f .before .before .head .given .1) in
@@ -60,7 +60,7 @@ since-1600-requires-2 : tie.Need-since-1600-requires-2
 since-1600-requires-2 c κs = search needs
 
 put-visible-requires : tie.Need-put-visible-requires
-put-visible-requires c κs = 
+put-visible-requires c κs =
     let f = c .before .before .before .before .before .before .before in
     let q = f .before .before .before .before .before .before .before .before .before .before .before .before in
     let fine = was-accepted _ _ _ (f .before .before .before .before .before .before .open-text .ensures) _ (f .before .before .head .given .1) in
@@ -70,7 +70,7 @@ same-length-4 : tie.Need-same-length-4
 same-length-4 c = search needs
 
 returns-3 : tie.Need-returns-3
-returns-3 c = 
+returns-3 c =
     let said = was-refused _ _ _ (c .before .before .before .before .before .before .open-text .ensures) _ (c .before .before .answer .given .1) in
     rw (c .refused .ensures .0, c .refused .ensures .1) (text-refused _ _ _ _ _ _ said)
 
@@ -81,7 +81,7 @@ same-length-6 : tie.Need-same-length-6
 same-length-6 c = search needs
 
 returns-4 : tie.Need-returns-4
-returns-4 c = 
+returns-4 c =
     let f = c .before .before .before .before .before .before .before .before .before .before in
     let q = f .before .before .before .before .before .before .before .before .before .before .before .before in
     let fine = was-accepted _ _ _ (f .before .before .before .before .before .before .open-text .ensures) _ (f .before .before .head .given .1) in
