@@ -4,8 +4,8 @@ ghost use lib.ListN.{length};
 use crate::print::hexadecimal;
 use crate::print::number;
 use crate::print::say;
-use expansion::expand::expand;
 use record::window::since_1970;
+use smocurant::by_numbers::smocurant_expand;
 
 // America/New_York from summer 2020 to summer 2021: the clock goes back, and on.
 const INSTANTS: [i64; 2] = [1604210400, 1615705200];
@@ -59,7 +59,7 @@ fn run(text: &[u8], from: u64, to: u64, buffer: &mut [u8])
     let mut size: u64 = 0;
     let instants = INSTANTS;
     let offsets = OFFSETS;
-    let answer = expand(
+    let answer = smocurant_expand(
         text,
         b"America/New_York",
         SUMMER,

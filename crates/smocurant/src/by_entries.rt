@@ -4,6 +4,7 @@ ghost use lib.ListN.{length as lengthOf, take};
 ghost use Rattle.call_definitions.specs.Call.{expandText};
 ghost use Rattle.call_definitions.specs.Results.{zonesOf, Gives};
 ghost use Rattle.entries.specs.Gather.{instantsOf, offsetsOf};
+use crate::by_numbers::smocurant_expand;
 use entries::Transition;
 
 // The first n numbers of both runs are lent to the core.
@@ -22,7 +23,7 @@ fn with_numbers(
     requires { ⌜ (n ≤ lengthOf (now instants)) × (n ≤ lengthOf (now offsets)) ⌝ }
     ensures { λ r. ⌜ Gives (expandText (zonesOf (now («zone_name» .entry)) «initial_offset» (take n (now (instants .entry))) (take n (now (offsets .entry)))) (now (text .entry)) «window_start» «window_end» (now (buffer .entry))) r (now (length .exit)) (now (buffer .exit)) ⌝ }
 {
-    expansion::expand::expand(
+    smocurant_expand(
         text,
         zone_name,
         initial_offset,

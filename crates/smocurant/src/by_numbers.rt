@@ -1,7 +1,10 @@
 // The table of occurrences, its zone table lent as two runs of numbers.
 ghost use Rattle.call_definitions.specs.Call.{expandText};
 ghost use Rattle.call_definitions.specs.Results.{zonesOf, Gives};
+use expansion::expand::expand_in;
 
+// Most texts are short, and need not clear the room of the longest: the table of ends has as many entries as the text has bytes. A longer text
+// than 65,536 bytes is refused.
 #[no_mangle]
 pub extern "C" fn smocurant_expand(
     text: &[u8],
@@ -16,8 +19,26 @@ pub extern "C" fn smocurant_expand(
 ) -> u32
     ensures { λ r. ⌜ Gives (expandText (zonesOf (now («zone_name» .entry)) «initial_offset» (now (instants .entry)) (now (offsets .entry))) (now (text .entry)) «window_start» «window_end» (now (buffer .entry))) r (now (length .exit)) (now (buffer .exit)) ⌝ }
 {
-    expansion::expand::expand(
+    if text.len() <= 2048 {
+        let mut ends = [0u32; 2048];
+        let done = expand_in(
+            text,
+            &mut ends,
+            zone_name,
+            initial_offset,
+            instants,
+            offsets,
+            window_start,
+            window_end,
+            buffer,
+        );
+        *length = done.length;
+        return done.answer;
+    }
+    let mut ends = [0u32; 65536];
+    let done = expand_in(
         text,
+        &mut ends,
         zone_name,
         initial_offset,
         instants,
@@ -25,6 +46,7 @@ pub extern "C" fn smocurant_expand(
         window_start,
         window_end,
         buffer,
-        length,
-    )
+    );
+    *length = done.length;
+    done.answer
 }
