@@ -1,5 +1,4 @@
 // The ids of a window by its marked days: a chunk of days is marked, and the ids are collected from it.
-ghost use mathlib.Core.Path.{_≡_};
 ghost use Prim.Native.Nat.{_<_};
 ghost use lib.ListN.{length};
 ghost use Rattle.dates.specs.Inner.Dates.{datesIn};

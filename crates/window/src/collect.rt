@@ -1,5 +1,4 @@
 // The ids of a run of days that is filled, collected in a lent slice.
-ghost use mathlib.Core.Path.{_≡_};
 ghost use lib.ListN.{length};
 ghost use Rattle.window.specs.Inner.Next.{isThere};
 ghost use Rattle.window.specs.Inner.Handed.{Handed, Collects};

@@ -1,5 +1,5 @@
 -- `dates::fill::fill_run` meets its contract: the rows of the excluded rules are all those after the rules' own.
-use Prim.Native.Nat.{ℕ, _+_, _-_, _≤_}
+use Prim.Native.Nat.{_-_}
 use mathlib.Core.Bool.{Bool}
 use mathlib.Core.List.{List}
 use mathlib.Core.Path.{_≡_, sym, subst, _∙_, ap}

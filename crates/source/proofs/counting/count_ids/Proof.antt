@@ -1,5 +1,5 @@
 -- `source::counting::count_ids` meets its contract: each turn counts the ids of one chunk.
-use Prim.Native.Nat.{_-_, _≤_}
+use Prim.Native.Nat.{_-_}
 use mathlib.Core.Path.{_≡_, refl, sym, _∙_}
 use native.Mathlib.Omega.{arith}
 use lib.ListN.{length}

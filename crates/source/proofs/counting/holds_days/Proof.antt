@@ -1,6 +1,4 @@
 -- `source::counting::holds_days` meets its contract.
-use Prim.Native.Nat.{_-_, _≤_}
-use mathlib.Core.Path.{_≡_, sym}
 use native.Mathlib.Omega.{arith}
 use Rattle.window.proofs.HitLaws.{day-order}
 use Rattle.source.proofs.RoomLaws.{rest-fits, none-fits}

@@ -1,5 +1,4 @@
 -- `source::marked::marked` meets its contract.
-use mathlib.Core.Path.{_≡_}
 use native.Mathlib.Omega.{arith}
 use Rattle.dates.specs.Inner.Dates.{keptDates}
 use Rattle.window.proofs.HandLaws.{handed-none}

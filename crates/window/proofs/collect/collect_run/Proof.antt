@@ -1,5 +1,5 @@
 -- `window::collect::collect_run` meets its contract: each turn puts the next id after those before, until none is left or the slice is full.
-use Prim.Native.Nat.{_+_, _-_, _≤_}
+use Prim.Native.Nat.{_-_}
 use mathlib.Core.Path.{_≡_}
 use native.Mathlib.Omega.{arith}
 use Rattle.dates.specs.Inner.Overrides.{isKept}
