@@ -1,17 +1,15 @@
 -- What was loaded of an accepted event tells of the occurrence that is asked for.
-use Prim.Native.Nat.{ℕ, _+_, _/_, _≤_}
+use Prim.Native.Nat.{ℕ, _+_, _/_}
 use mathlib.Core.Bool.{Bool}
 use mathlib.Core.List.{List}
 use mathlib.Core.Path.{_≡_, sym, ap, _∙_}
 use native.Mathlib.Omega.{arith}
 use lib.ListN.{length, take}
 use lib.Seq.{length-take-le}
-use Rattle.rule.specs.Gives.{endDay}
 use Rattle.event.specs.Event.{eventOf}
 use Rattle.override_text.specs.Inner.Meaning.{detailsIn}
 use Rattle.event_text.specs.declared.Head.{Head}
 use Rattle.dates.specs.Inner.Dates.{datesIn}
-use Rattle.source.specs.Inner.Asked.{Asked}
 use Rattle.call_definitions.specs.Call.{placeOf}
 use Rattle.call_definitions.specs.Occurrence.{isOccurrence, detailsAt}
 use Rattle.writer.specs.Inner.Details.{detailsBy}
@@ -22,18 +20,7 @@ use Rattle.texts.specs.Inner.Dated.{Dated}
 use Rattle.texts.specs.Inner.Shown.{chosen}
 
 module _ (s t : List ℕ) (h : Head) (x : ℕ) (asked : Dated s t h x) where
-  pub within : x / 86400 + 1 ≤ endDay
-  within = omega (arith, asked .high)
-
   module _ (rows : List Bool) (ids : List ℕ) (gone : List Bool) (places : List ℕ) (k : Kept) (l : Loads s (x / 86400 + 1) rows ids gone places k) where
-    pub id-asked : Asked (k .dates) (length rows) (length (take (k .count) ids)) (length (take (k .count) gone)) x (x + 1) 32
-    id-asked =
-        record {
-          whole = l .whole;
-          span = record { low = omega (arith, asked .low); order = omega arith; high = omega (arith, asked .high) };
-          room = omega arith;
-        }
-
     pub even : length (take (k .count) ids) ≡ length (take (k .count) places)
     even = length-take-le (k .count) ids (l .ids-fit) ∙ sym (length-take-le (k .count) places (l .places-fit))
 
