@@ -6,6 +6,8 @@ ghost use Rattle.rule.specs.Gives.{endDay};
 ghost use Rattle.track.specs.Inner.Runs.{run};
 ghost use Rattle.dates.specs.Inner.Tracked.{Tracked, Run};
 ghost use Rattle.dates.specs.Inner.Loaded.{loaded, isOn};
+ghost use Rattle.dates.specs.Inner.Dates.{keptDates, Whole};
+use super::Dates;
 use super::Tracks;
 
 // Hit i: whether the day first + i at the start's time of day is in the set. The rules first, then the start, less the excluded rules, then
@@ -32,4 +34,29 @@ pub fn fill(
     super::marks::mark_tracks(excluded, excludedrows, hits, first, begin, false);
     super::marks::mark_ids(ids, gone, false, hits, first, start, true);
     super::marks::mark_ids(ids, gone, true, hits, first, start, false);
+}
+
+// The same of dates kept as one value: the rows of the rules come first, those of the excluded rules after them.
+pub fn fill_run(
+    dates: Dates,
+    rows: &[bool],
+    ids: &[u64],
+    gone: &[bool],
+    hits: &mut [bool],
+    first: u32,
+)
+    requires { ⌜ Whole dates (length (now rows)) (length (now ids)) (length (now gone)) × Run first (length (now hits)) ⌝ }
+    ensures { λ r. ⌜ now (hits .exit) ≡ run (isOn (keptDates dates (now (rows .entry)) (now (ids .entry)) (now (gone .entry)))) first (length (now (hits .entry))) ⌝ }
+{
+    fill(
+        dates.start,
+        dates.rules,
+        &rows[..12592],
+        dates.excluded,
+        &rows[12592..],
+        ids,
+        gone,
+        hits,
+        first,
+    );
 }

@@ -19,7 +19,7 @@ use Rattle.dates.specs.Inner.Dates.{Whole, datesIn}
 use Rattle.window.specs.Inner.Next.{dayFrom}
 use Rattle.window.specs.Inner.Lists.{listIn}
 use Rattle.window.specs.Inner.Handed.{Handed}
-use Rattle.window.proofs.HitLaws.{FromDay, from-day}
+use Rattle.window.proofs.HitLaws.{FromDay, from-day, day-order}
 use Rattle.listing.specs.Inner.Lists.{startOr}
 use Rattle.listing.specs.Inner.Parts.{ByMonths}
 use Rattle.listing.specs.Inner.Chunks.{Listable, Stopped}
@@ -123,6 +123,10 @@ module _ (start : ℕ) (p q : ℕ → Bool) (on : (x : ℕ) → p x ≡ (if eqb 
 
 -- ---- the only rule and its row
 
+pub whole-unnamed : (d : Dates) (rows ids gone : ℕ) → Whole d rows ids gone → Whole d rows 0 0
+whole-unnamed d rows ids gone w =
+    record { size = w .size; rules-tracked = w .rules-tracked; excluded-tracked = w .excluded-tracked; overrides = refl; begins = w .begins }
+
 any-first : (l : List Track) (a b : Track) → 1 ≤ length l → getD l 0 a ≡ getD l 0 b
 any-first [] a b h = absurd (omega arith)
 any-first (t ∷ l) a b h = refl
@@ -153,7 +157,7 @@ module _ (d : Dates) (rows : List Bool) (w : Whole d (length rows) 0 0) (one : d
 
 module _ (d : Dates) (rows : List Bool) (from to places : ℕ) (l : Listing d rows from to places) where
   later : dayFrom (d .start) from ≤ dayFrom (d .start) to
-  later = from-day (d .start) from .earliest (dayFrom (d .start) to) (omega (arith, from-day (d .start) to .reached, l .span .order))
+  later = day-order (d .start) from to (l .span .order)
 
   pub last-day : dayFrom (d .start) to ≤ endDay
   last-day = from-day (d .start) to .earliest endDay (omega (arith, l .span .high))

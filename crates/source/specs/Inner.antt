@@ -1,1 +1,4 @@
+pub mod Asked
 pub mod Listed
+pub mod Marks
+pub mod Room

@@ -30,6 +30,25 @@ lower-is a b =
     let more = ltb-false b a e in
     rw e (record { left = omega arith; right = omega arith; full = λ c h k. h }))
 
+-- ---- a chunk of k days: where it ends
+
+module _ (at to k : ℕ) (some-days : 0 < k) (end : ℕ) (is-end : end ≡ chunkEnd at to k) where
+  end-lower : Lower to (86400 * (at / 86400 + k)) end
+  unfolding chunkEnd
+  end-lower = subst (Lower to (86400 * (at / 86400 + k))) (sym is-end) (lower-is to (86400 * (at / 86400 + k)))
+
+  pub end-before : end ≤ to
+  end-before = end-lower .left
+
+  pub end-later : at < to → at < end
+  end-later more = end-lower .full (suc at) more (omega arith)
+
+  pub end-stretch : at < to → at / 86400 + k ≤ endDay → Stretch (at / 86400) k at end
+  end-stretch more within =
+      let later = end-later more in
+      let most = end-lower .right in
+      record { low = omega arith; order = omega arith; high = most; days = within }
+
 -- ---- a chunk that begins in the window ends in it, later, and its run has all of it
 
 module _ (start from at to n : ℕ) (w : Window start from to) (lent : 0 < n) (after : from ≤ at) (more : at < to) where
@@ -51,22 +70,14 @@ module _ (start from at to n : ℕ) (w : Window start from to) (lent : 0 < n) (a
     chunk-within = let early = in-time in let most = k-lower .right in omega arith
 
     module _ (end : ℕ) (is-end : end ≡ chunkEnd at to k) where
-      end-lower : Lower to (86400 * (at / 86400 + k)) end
-      unfolding chunkEnd
-      end-lower = subst (Lower to (86400 * (at / 86400 + k))) (sym is-end) (lower-is to (86400 * (at / 86400 + k)))
-
       pub chunk-later : at < end
-      chunk-later = let some-days = chunk-some in end-lower .full (suc at) more (omega arith)
+      chunk-later = end-later at to k chunk-some end is-end more
 
       pub chunk-ends : end ≤ to
-      chunk-ends = end-lower .left
+      chunk-ends = end-before at to k chunk-some end is-end
 
       pub chunk-stretch : Stretch (at / 86400) k at end
-      chunk-stretch =
-          let later = chunk-later in
-          let most = end-lower .right in
-          let within = chunk-within in
-          record { low = omega arith; order = omega arith; high = most; days = within }
+      chunk-stretch = end-stretch at to k chunk-some end is-end more chunk-within
 
       pub chunk-window : Window start at end
       chunk-window =

@@ -72,6 +72,11 @@ from-day start at =
     let h = leb-false (at % 86400) (start % 86400) e in
     rw e (record { reached = omega arith; earliest = λ d k. omega arith; close = omega arith }))
 
+pub day-order : (start from to : ℕ) → from ≤ to → dayFrom start from ≤ dayFrom start to
+day-order start from to order =
+    let reached = from-day start to .reached in
+    from-day start from .earliest (dayFrom start to) (omega arith)
+
 module _ (hits : List Bool) (first start at to : ℕ) (s : Stretch first (length hits) at to) where
   pub day-low : first ≤ dayFrom start at
   day-low =

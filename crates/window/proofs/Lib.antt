@@ -5,5 +5,6 @@ pub mod HitLaws
 pub mod RunLaws
 pub mod ChunkLaws
 pub mod ListLaws
+pub mod HandLaws
 pub mod CountLaws
 pub mod SortedLaws

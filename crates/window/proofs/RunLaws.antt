@@ -30,6 +30,13 @@ there-next hits first start ids gone at to pending order is =
     (next-lower (isHit hits first start) (isKept ids gone) at to _ pending (next-is (isHit hits first start) at to order)
     (subst (Next (isKept ids gone) at to) (sym is) (next-is (isKept ids gone) at to order)))
 
+pub there-is : (hits : List Bool) (first start : ℕ) (ids : List ℕ) (gone : List Bool) (at to pending x : ℕ) → at ≤ to
+    → pending ≡ nextOf (isKept ids gone) at to → x ≡ lower (nextOf (isHit hits first start) at to) pending
+    → Next (isThere hits first start ids gone) at to x
+there-is hits first start ids gone at to pending x order kept is =
+    subst (Next (isThere hits first start ids gone) at to) (sym (is ∙ there-next hits first start ids gone at to pending order kept))
+    (next-is (isThere hits first start ids gone) at to order)
+
 pub renewed-is : (ids : List ℕ) (gone : List Bool) (pending a b to : ℕ) → a ≤ b → b ≤ to → pending ≡ nextOf (isKept ids gone) a to
     → renewed ids gone pending b to ≡ nextOf (isKept ids gone) b to
 unfolding renewed
@@ -40,6 +47,10 @@ renewed-is ids gone pending a b to before order is =
     (next-made (isKept ids gone) b to order pending
     (next-later (isKept ids gone) a b to pending before (ltb-false pending b e)
     (subst (Next (isKept ids gone) a to) (sym is) (next-is (isKept ids gone) a to (omega arith))))))
+
+pub renewed-next : (ids : List ℕ) (gone : List Bool) (pending a b to next : ℕ) → a ≤ b → b ≤ to → pending ≡ nextOf (isKept ids gone) a to
+    → next ≡ renewed ids gone pending b to → next ≡ nextOf (isKept ids gone) b to
+renewed-next ids gone pending a b to next before order is renew = renew ∙ renewed-is ids gone pending a b to before order is
 
 -- ---- the loop that counts: what was found, and what is left, make the whole
 
@@ -57,9 +68,7 @@ module _ (hits : List Bool) (first start : ℕ) (ids : List ℕ) (gone : List Bo
   module _ (from pending found : ℕ) (a : FoundAt hits first start ids gone at to from pending found) where
     module _ (x : ℕ) (is : x ≡ lower (nextOf (isHit hits first start) from to) pending) where
       pub found-next : Next (isThere hits first start ids gone) from to x
-      found-next =
-          subst (Next (isThere hits first start ids gone) from to) (sym (is ∙ there-next hits first start ids gone from to pending (a .order) (a .kept)))
-          (next-is (isThere hits first start ids gone) from to (a .order))
+      found-next = there-is hits first start ids gone from to pending x (a .order) (a .kept) is
 
       pub found-none : to ≤ x → found ≡ countIn (isThere hits first start ids gone) at (to - at)
       found-none h =
@@ -79,7 +88,7 @@ module _ (hits : List Bool) (first start : ℕ) (ids : List ℕ) (gone : List Bo
             low = omega arith;
             order = omega arith;
             few = omega arith;
-            kept = renew ∙ renewed-is ids gone pending from (x + 1) to (omega arith) (omega arith) (a .kept);
+            kept = renewed-next ids gone pending from (x + 1) to next (omega arith) (omega arith) (a .kept) renew;
             sum = omega arith;
           }
 

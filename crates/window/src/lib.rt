@@ -1,5 +1,6 @@
 // The date-times of an event in a window: the next one in a run of days, how many there are, and whether one is among them.
 pub mod chunks;
+pub mod collect;
 mod hits;
 pub mod next;
 pub mod sorted;
