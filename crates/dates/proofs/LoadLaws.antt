@@ -5,7 +5,7 @@ use mathlib.Core.List.{List, [], _∷_, _++_}
 use mathlib.Core.Path.{_≡_, refl, sym, ap, _∙_, subst}
 use native.Mathlib.Omega.{arith}
 use native.Mathlib.Numerals.{add-one}
-use lib.ListN.{length, take, drop, getD, set, length-set, length-drop}
+use lib.ListN.{length, take, drop, getD, set, length-set}
 use lib.Seq.{take-at, drop-at, length-take-le, take-suc-set, take-add, take-take, drop-drop, take-nil}
 use Rattle.rule.specs.declared.Rule.{Rule}
 use Rattle.rule.specs.Written.{RecurrenceRule}
@@ -27,13 +27,6 @@ module _ (flags row rest : List Bool) (at : ℕ) (room : at ≤ length flags) wh
 
   pub row-back : length row ≡ 1574 → take 1574 (drop at (take at flags ++ (row ++ rest))) ≡ row
   row-back size = rw (drop-at (take at flags) (row ++ rest) at (length-take-le at flags room)) (take-at row rest 1574 size)
-
--- the part of the flags that is lent has the length of a row
-pub part-size : (flags : List Bool) (at : ℕ) → at + 1574 ≤ length flags → length (take (at + 1574 - at) (drop at flags)) ≡ 1574
-part-size flags at room =
-    let less : at + 1574 - at ≡ 1574 = omega arith in
-    let left = length-drop at flags in
-    ap (λ (n : ℕ). length (take n (drop at flags))) less ∙ length-take-le 1574 (drop at flags) (omega arith)
 
 pub row-added : (excluded : Bool) (r : Rule) (start limit : ℕ) (ts next : Tracks) (before row rest : List Bool) (t : Track) (n : ℕ)
     → 1574 * ts .count ≤ length before → n ≡ 1574 → length row ≡ n → next ≡ put ts t → SettledBy excluded r start limit (cleared n) row t

@@ -27,84 +27,83 @@ hit-there hits first k = ap (λ (i : ℕ). getD hits i false) (omega arith)
 
 -- ---- the loop over hits
 
--- After k hits, the next day goes to `place`.
-pub record CollectAt (hits : List Bool) (first : ℕ) (before : List ℕ) (at : ℕ) (after : List ℕ) (k place : ℕ) : Type 0 where
+-- Of k hits so many are set.
+pub record CollectAt (hits : List Bool) (first : ℕ) (before : List ℕ) (at : ℕ) (after : List ℕ) (k found : ℕ) : Type 0 where
   pub within : k ≤ length hits
   pub size : length after ≡ length before
-  pub more : at ≤ place
-  pub most : place ≤ at + k
-  pub days : take place after ≡ take at before ++ listIn (hitOn hits first) first k
+  pub most : found ≤ k
+  pub days : take (at + found) after ≡ take at before ++ listIn (hitOn hits first) first k
   pub low : (j : ℕ) → j < at → getD after j 0 ≡ getD before j 0
   pub high : (j : ℕ) → at + length hits ≤ j → getD after j 0 ≡ getD before j 0
 
 module _ (hits : List Bool) (first : ℕ) (before : List ℕ) (at : ℕ) where
-  list-none : take at before ≡ take at before ++ listIn (hitOn hits first) first 0
+  list-none : take (at + 0) before ≡ take at before ++ listIn (hitOn hits first) first 0
   unfolding listIn
-  list-none = sym (append-nil (take at before))
+  list-none =
+      let here : at + 0 ≡ at = omega arith in
+      rw here (sym (append-nil (take at before)))
 
-  pub collect-starts : CollectAt hits first before at before 0 at
+  pub collect-starts : CollectAt hits first before at before 0 0
   collect-starts =
       record {
         within = omega arith;
         size = refl;
-        more = omega arith;
         most = omega arith;
         days = list-none;
         low = λ j h. refl;
         high = λ j h. refl;
       }
 
-  module _ (after : List ℕ) (k place : ℕ) (c : CollectAt hits first before at after k place) (less : k < length hits) (room : at + length hits ≤ length before) where
-    pub collect-room : place < length after
+  module _ (after : List ℕ) (k found : ℕ) (c : CollectAt hits first before at after k found) (less : k < length hits) (room : at + length hits ≤ length before) where
+    pub collect-room : at + found < length after
     collect-room = omega (arith, c .most, c .size)
 
-    taken : (b : Bool) → getD hits k false ≡ b → take (place + (if b then 1 else 0)) (set after place (first + k)) ≡ take at before ++ listIn (hitOn hits first) first (k + 1)
+    taken : (b : Bool) → getD hits k false ≡ b → take (at + (found + (if b then 1 else 0))) (set after (at + found) (first + k)) ≡ take at before ++ listIn (hitOn hits first) first (k + 1)
     taken true is =
-        let more : place + 1 ≡ suc place = omega arith in
-        ap (λ (n : ℕ). take n (set after place (first + k))) more
-        ∙ (take-suc-set after place (first + k) collect-room
+        let more : at + (found + 1) ≡ suc (at + found) = omega arith in
+        ap (λ (n : ℕ). take n (set after (at + found) (first + k))) more
+        ∙ (take-suc-set after (at + found) (first + k) collect-room
         ∙ (ap (λ (l : List ℕ). l ++ ((first + k) ∷ [])) (c .days)
         ∙ (append-assoc (take at before) (listIn (hitOn hits first) first k) ((first + k) ∷ [])
         ∙ ap (λ (l : List ℕ). take at before ++ l) (sym (list-last (hitOn hits first) first k true (hit-there hits first k ∙ is))))))
     taken false is =
-        let same : place + 0 ≡ place = omega arith in
-        ap (λ (n : ℕ). take n (set after place (first + k))) same
-        ∙ (take-set-le place after place (first + k) (omega arith)
+        let same : at + (found + 0) ≡ at + found = omega arith in
+        ap (λ (n : ℕ). take n (set after (at + found) (first + k))) same
+        ∙ (take-set-le (at + found) after (at + found) (first + k) (omega arith)
         ∙ (c .days
         ∙ ap (λ (l : List ℕ). take at before ++ l)
         (sym (list-last (hitOn hits first) first k false (hit-there hits first k ∙ is) ∙ append-nil (listIn (hitOn hits first) first k)))))
 
-    step : (b : Bool) → getD hits k false ≡ b → CollectAt hits first before at (set after place (first + k)) (k + 1) (place + (if b then 1 else 0))
+    step : (b : Bool) → getD hits k false ≡ b → CollectAt hits first before at (set after (at + found) (first + k)) (k + 1) (found + (if b then 1 else 0))
     step b is =
         let few : (if b then 1 else 0) ≤ 1 = at-most b in
         record {
           within = omega arith;
-          size = length-set after place (first + k) ∙ c .size;
-          more = omega (arith, c .more);
+          size = length-set after (at + found) (first + k) ∙ c .size;
           most = omega (arith, c .most, few);
           days = taken b is;
-          low = λ j h. getD-set-other after place j (first + k) 0 (λ same. omega (arith, c .more)) ∙ c .low j h;
-          high = λ j h. getD-set-other after place j (first + k) 0 (λ same. omega (arith, c .most)) ∙ c .high j h;
+          low = λ j h. getD-set-other after (at + found) j (first + k) 0 (λ same. omega arith) ∙ c .low j h;
+          high = λ j h. getD-set-other after (at + found) j (first + k) 0 (λ same. omega (arith, c .most)) ∙ c .high j h;
         }
       where
         at-most : (b : Bool) → (if b then 1 else 0) ≤ 1
         at-most true = omega arith
         at-most false = omega arith
 
-    pub collect-one : (next : ℕ) → next ≡ place + (if getD hits k false then 1 else 0) → CollectAt hits first before at (set after place (first + k)) (k + 1) next
-    collect-one next is = subst (CollectAt hits first before at (set after place (first + k)) (k + 1)) (sym is) (step (getD hits k false) refl)
+    pub collect-one : (next : ℕ) → next ≡ found + (if getD hits k false then 1 else 0) → CollectAt hits first before at (set after (at + found) (first + k)) (k + 1) next
+    collect-one next is = subst (CollectAt hits first before at (set after (at + found) (first + k)) (k + 1)) (sym is) (step (getD hits k false) refl)
 
-  pub collect-ends : (after : List ℕ) (k place : ℕ) → CollectAt hits first before at after k place → length hits ≤ k → Collected hits first before at after place
-  collect-ends after k place c over =
+  pub collect-ends : (after : List ℕ) (k found : ℕ) → CollectAt hits first before at after k found → length hits ≤ k → Collected hits first before at after (at + found)
+  collect-ends after k found c over =
       let all : k ≡ length hits = omega (arith, c .within) in
       record {
         listed =
             record {
               size = c .size;
               most = omega (arith, c .most);
-              days = subst (λ (n : ℕ). take place after ≡ take at before ++ listIn (hitOn hits first) first n) all (c .days);
+              days = subst (λ (n : ℕ). take (at + found) after ≡ take at before ++ listIn (hitOn hits first) first n) all (c .days);
             };
-        more = c .more;
+        more = omega arith;
         low = c .low;
         high = c .high;
       }

@@ -5,7 +5,7 @@ use mathlib.Core.List.{List, _++_}
 use mathlib.Core.Path.{_≡_, sym, ap, _∙_, subst}
 use native.Mathlib.Omega.{arith}
 use lib.Dec.{ltb}
-use lib.ListN.{length, take, drop, getD, set, length-set, length-append, length-drop, replicate, length-replicate, getD-replicate}
+use lib.ListN.{length, take, drop, getD, set, length-set, length-append, replicate, length-replicate, getD-replicate}
 use lib.Seq.{length-take-le, getD-take, getD-drop, getD-append-add, getD-set-same, getD-set-other}
 use borrow.Author.Tests.{ltb-true, ltb-false}
 use Rattle.rule.proofs.Bools.{by}
@@ -18,11 +18,6 @@ use Rattle.listing.specs.Inner.Lists.{hitOn, Collected}
 use Rattle.listing.specs.Inner.Kinds.{kindDays, Held, KeptLists, ListAt, Wrote}
 
 -- ---- a piece of a list
-
-pub piece-size : {A : Type 0} (l : List A) (at n : ℕ) → at + n ≤ length l → length (take (at + n - at) (drop at l)) ≡ n
-piece-size l at n room =
-    let less : at + n - at ≡ n = omega arith in
-    ap (λ (k : ℕ). length (take k (drop at l))) less ∙ length-take-le n (drop at l) (omega (arith, length-drop at l))
 
 pub piece-at : {A : Type 0} (l : List A) (at n k : ℕ) (d : A) → k < n → getD (take (at + n - at) (drop at l)) k d ≡ getD l (at + k) d
 piece-at l at n k d h = getD-take (at + n - at) (drop at l) k d (omega arith) ∙ getD-drop at l k d

@@ -23,13 +23,14 @@ use Rattle.track.specs.Inner.Skips.{toMonthEnd}
 use Rattle.track.specs.Inner.Alike.{firstWeekday}
 use Rattle.track.specs.Inner.Plain.{InMonth}
 use Rattle.track.proofs.LeapLaws.{month-not-early}
+use Rattle.track.proofs.PlainLaws.{part-size}
 use Rattle.track.proofs.AlikeLaws.{month-kind, picks-kind, unset-none, out-none}
 use Rattle.window.specs.Inner.Lists.{listIn}
 use Rattle.window.proofs.ListLaws.{list-same, list-nothing}
 use Rattle.listing.specs.Inner.Lists.{hitOn, Listed, Collected, Offsets, Copied}
 use Rattle.listing.specs.Inner.Kinds.{kindDays, ListAt}
 use Rattle.listing.specs.Inner.Parts.{ByMonths, Chosen, Kinds, Room, ListedPart}
-use Rattle.listing.proofs.KindLaws.{kind-few, piece-size, piece-at, lists-none}
+use Rattle.listing.proofs.KindLaws.{kind-few, piece-at, lists-none}
 
 -- ---- lists from another day on
 
@@ -139,7 +140,7 @@ module _ (t : Terms) (row : List Bool) (x : Day) (n : ℕ) (c : Chosen t row x n
   pub some-room : (days at : ℕ) → Room days at → (rows : List Bool) (from : ℕ) → from + n ≤ length rows
       → (x .number + length (take (from + n - from) (drop from rows)) ≤ endDay) × ((at + length (take (from + n - from) (drop from rows)) ≤ days) × (days < 4294967296))
   some-room days at room rows from fits =
-      let size = piece-size rows from n fits in
+      let size = part-size rows from n fits in
       (omega (arith, c .part .known), (omega (arith, room .month, chosen-within, chosen-kind .high), room .small))
 
 -- a whole month
@@ -188,7 +189,7 @@ module _ (t : Terms) (row : List Bool) (x : Day) (c : Chosen t row x (x .monthda
       unfolding piece days-of
       piece-is =
           let number = l .held .number in
-          let size : length piece ≡ n = piece-size lists at n month-fits in
+          let size : length piece ≡ n = part-size lists at n month-fits in
           ext-getD 0 piece days-of (omega arith) (λ k h. piece-at lists at n k 0 (omega arith) ∙ l .held .each k (omega arith))
 
       pub month-asks : (days place : ℕ) → Room days place → Offsets (x .number) (take (at + n - at) (drop at lists)) × (place + length (take (at + n - at) (drop at lists)) ≤ days)
@@ -205,7 +206,7 @@ module _ (t : Terms) (row : List Bool) (x : Day) (c : Chosen t row x (x .monthda
                     high,
                   );
             },
-            omega (arith, piece-size lists at n month-fits, month-few, room .month),
+            omega (arith, part-size lists at n month-fits, month-few, room .month),
           )
 
       pub month-copied : (before : List ℕ) (place : ℕ) (after : List ℕ) (end : ℕ) → Copied (take (at + n - at) (drop at lists)) (x .number) before place after end

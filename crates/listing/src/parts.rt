@@ -3,9 +3,7 @@ ghost use mathlib.Core.Path.{_≡_};
 ghost use lib.ListN.{length};
 ghost use Rattle.matcher.specs.Inner.Walk.{Asked};
 ghost use Rattle.months.specs.Inner.Rows.{Kept};
-ghost use Rattle.track.specs.Inner.Alike.{firstWeekday};
 ghost use Rattle.track.specs.Inner.Plain.{InMonth};
-ghost use Rattle.rule.specs.Inner.Bounds.{InCalendar};
 ghost use Rattle.matcher.specs.Inner.Walk.{picksOnBy};
 ghost use Rattle.listing.specs.Inner.Lists.{Listed};
 ghost use Rattle.listing.specs.Inner.Parts.{ByMonths, Chosen, Kinds, Room, ListedPart};
@@ -15,13 +13,7 @@ use crate::kinds::keep_list;
 use matcher::Terms;
 use months::kinds::keep;
 use rule::Day;
-
-fn first_weekday(x: Day) -> u32
-    requires { ⌜ InCalendar x ⌝ }
-    ensures { λ r. ⌜ r ≡ firstWeekday x ⌝ }
-{
-    (x.weekday + 36 - x.monthday) % 7
-}
+use track::alike::first_weekday;
 
 // A whole month: its days stand in the list of its kind.
 fn list_month(

@@ -25,7 +25,7 @@ fn is_monthly(frequency: Frequency) -> bool
     }
 }
 
-fn counts_in_months(terms: Terms) -> bool
+fn positions_in_months(terms: Terms) -> bool
     ensures { λ r. ⌜ (r ≡ true → terms .placed ≡ true → terms .frequency ≡ Monthly) × ((terms .placed ≡ true → terms .frequency ≡ Monthly) → r ≡ true) ⌝ }
 {
     let placed = terms.placed;
@@ -41,7 +41,7 @@ pub fn is_by_months(terms: Terms, flags: &[bool]) -> bool
     requires { ⌜ length (now flags) ≡ 1574 ⌝ }
     ensures { λ r. ⌜ (r ≡ true → ByMonths terms (now (flags .entry))) × (ByMonths terms (now (flags .entry)) → r ≡ true) ⌝ }
 {
-    if !counts_in_months(terms) {
+    if !positions_in_months(terms) {
         return false;
     }
     track::alike::is_alike(terms, flags)

@@ -1,4 +1,4 @@
 // What a month has of a rule, by its length and the weekday of its first day: months alike have the same days.
 pub mod kinds;
-mod rows;
+pub mod rows;
 mod week;

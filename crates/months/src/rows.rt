@@ -79,8 +79,9 @@ fn write_days(flags: &[bool], weekday: u32, days: u32, rows: &mut [bool], at: us
     write_each(flags, weekday, days, rows, at);
 }
 
-fn one_more(n: u32, yes: bool) -> u32
-    requires { ⌜ n < 1000 ⌝ }
+// n, and one more where the answer is yes.
+pub fn one_more(n: u32, yes: bool) -> u32
+    requires { ⌜ n < 4294967295 ⌝ }
     ensures { λ r. ⌜ r ≡ n + (if yes then 1 else 0) ⌝ }
 {
     if yes {

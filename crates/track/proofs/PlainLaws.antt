@@ -116,11 +116,11 @@ month-asked t row x y k a is known =
       high = omega arith;
     }
 
--- the part of the hits that is lent
-pub part-size : (hits : List Bool) (i n : ℕ) → i + n ≤ length hits → length (take (i + n - i) (drop i hits)) ≡ n
-part-size hits i n room =
+-- the part of a list that is lent
+pub part-size : {A : Type 0} (l : List A) (i n : ℕ) → i + n ≤ length l → length (take (i + n - i) (drop i l)) ≡ n
+part-size l i n room =
     let less : i + n - i ≡ n = omega arith in
-    ap (λ (k : ℕ). length (take k (drop i hits))) less ∙ length-take-le n (drop i hits) (omega (arith, length-drop i hits))
+    ap (λ (k : ℕ). length (take k (drop i l))) less ∙ length-take-le n (drop i l) (omega (arith, length-drop i l))
 
 module _ (p : ℕ → Bool) (value : Bool) (first : ℕ) (before hits : List Bool) (i : ℕ) (m : MarkAt p value first before hits i) where
   -- it comes back marked

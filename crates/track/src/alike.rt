@@ -5,11 +5,12 @@ ghost use Prim.Native.Nat.{_+_, _≤_};
 ghost use lib.ListN.{length};
 ghost use Rattle.signed.specs.Choose.{if_then_else_};
 ghost use Rattle.rule.specs.declared.Frequency.the-variants.{Monthly};
+ghost use Rattle.rule.specs.Inner.Bounds.{InCalendar};
 ghost use Rattle.matcher.specs.Inner.Walk.{Asked};
 ghost use Rattle.months.specs.Inner.Rows.{answerAt, Kept};
 ghost use Rattle.track.specs.Inner.Runs.{marked};
 ghost use Rattle.track.specs.Inner.Plain.{InMonth};
-ghost use Rattle.track.specs.Inner.Alike.{isWhole, WeekdaysSet, Alike, MarkedMonth};
+ghost use Rattle.track.specs.Inner.Alike.{isWhole, WeekdaysSet, Alike, MarkedMonth, firstWeekday};
 use matcher::Terms;
 use rule::Day;
 use rule::Frequency;
@@ -87,6 +88,14 @@ fn lay(rows: &[bool], at: usize, hits: &mut [bool], value: bool)
     }
 }
 
+// The weekday of the first day of a day's month.
+pub fn first_weekday(x: Day) -> u32
+    requires { ⌜ InCalendar x ⌝ }
+    ensures { λ r. ⌜ r ≡ firstWeekday x ⌝ }
+{
+    (x.weekday + 36 - x.monthday) % 7
+}
+
 // The days of one month from x on, as many as there are hits.
 pub(crate) fn mark_alike(
     terms: Terms,
@@ -105,7 +114,7 @@ pub(crate) fn mark_alike(
     if !matcher::walk::in_step(terms, x) {
         return;
     }
-    let weekday = (x.weekday + 36 - x.monthday) % 7;
+    let weekday = first_weekday(x);
     let at = months::kinds::keep(flags, terms.placed, weekday, x.monthdays, rows);
     let before = x.monthday - 1;
     lay(rows, at + before as usize, hits, value);

@@ -1,4 +1,4 @@
--- `listing::collect::collect` meets its contract. The invariant: the hits so far stand in the list.
+-- `listing::collect::collect` meets its contract. The invariant: the days of the hits so far stand in the list.
 use Rattle.listing.proofs.CollectLaws.{CollectAt, collect-starts, collect-room, collect-one, collect-ends}
 use Prim.Native.Nat.{_-_}
 use lib.ListN.{length}
@@ -8,10 +8,10 @@ use Rattle.listing.proofs.collect.collect.Statement.{statement}
 use Rattle.listing.proofs.collect.collect.Tie as tie
 
 abbrev Inv-loop : tie.InvT-loop
-Inv-loop hits first days₀ at place₀ k₀ days place k = CollectAt hits first days₀ at days k place
+Inv-loop hits first days₀ at found₀ k₀ days found k = CollectAt hits first days₀ at days k found
 
 abbrev μ-loop : tie.MeasureT-loop
-μ-loop hits first days₀ at place₀ k₀ days place k = length hits - k
+μ-loop hits first days₀ at found₀ k₀ days found k = length hits - k
 
 loop-holds : tie.Need-loop-holds Inv-loop μ-loop
 loop-holds c = collect-starts _ _ _ _
@@ -21,6 +21,12 @@ cast-days c = omega (arith, c .loop-test .taken, c .before .before .before .befo
 
 add-days : tie.Need-add-days Inv-loop μ-loop
 add-days c = omega (arith, c .loop-test .taken, c .before .before .before .before .pre .0)
+
+cast-days-2 : tie.Need-cast-days-2 Inv-loop μ-loop
+cast-days-2 c = search needs
+
+add-days-2 : tie.Need-add-days-2 Inv-loop μ-loop
+add-days-2 c = omega (arith, c .before .loop .inv .most, c .loop-test .taken, c .before .before .before .before .pre .1 .0, c .before .before .before .before .pre .1 .1)
 
 mul-days : tie.Need-mul-days Inv-loop μ-loop
 mul-days c = search needs
@@ -46,6 +52,12 @@ loop-again : tie.Need-loop-again Inv-loop μ-loop
 loop-again c =
     collect-one _ _ _ _ _ _ _ (c .before .before .before .loop .inv) (c .before .before .loop-test .taken) (c .before .before .before .before .before .before .pre .1 .0) _ (c .one-more .ensures)
 
+cast-result : tie.Need-cast-result Inv-loop μ-loop
+cast-result c = search needs
+
+add-result : tie.Need-add-result Inv-loop μ-loop
+add-result c = omega (arith, c .before .loop .inv .most, c .before .loop .inv .within, c .before .before .before .before .pre .1 .0, c .before .before .before .before .pre .1 .1)
+
 same-length : tie.Need-same-length Inv-loop μ-loop
 same-length c = c .before .loop .inv .size
 
@@ -61,6 +73,8 @@ collect-spec =
     loop-holds
     cast-days
     add-days
+    cast-days-2
+    add-days-2
     mul-days
     slice-write-days
     shared-slice-read-one-more
@@ -68,5 +82,7 @@ collect-spec =
     add-k
     loop-less
     loop-again
+    cast-result
+    add-result
     same-length
     returns)

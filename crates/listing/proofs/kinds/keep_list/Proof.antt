@@ -1,5 +1,6 @@
 -- `listing::kinds::keep_list` meets its contract.
-use Rattle.listing.proofs.KindLaws.{piece-size, piece-at, list-already, list-kept}
+use Rattle.listing.proofs.KindLaws.{piece-at, list-already, list-kept}
+use Rattle.track.proofs.PlainLaws.{part-size}
 use native.Mathlib.Omega.{arith}
 use borrow.Author.Needs.{needs}
 use Rattle.listing.proofs.kinds.keep_list.Statement.{statement}
@@ -54,7 +55,7 @@ returns-2 c =
     let room = row .within in
     let size = row .kept .size in
     rw (c .before .before .before .before .before .before .before .before .before .before .before .before .row-of .ensures)
-    (list-kept _ _ _ _ kind _ _ _ row (piece-size _ _ _ (omega arith)) (λ k h. piece-at _ _ _ k _ h) _ _ (p .1 .1) (rw (c .before .before .before .before .before .before .before .before .before .before .before .before .row-of .ensures) at (c .before .before .write-list .ensures)))
+    (list-kept _ _ _ _ kind _ _ _ row (part-size _ _ _ (omega arith)) (λ k h. piece-at _ _ _ k _ h) _ _ (p .1 .1) (rw (c .before .before .before .before .before .before .before .before .before .before .before .before .row-of .ensures) at (c .before .before .write-list .ensures)))
 
 pub keep-list-spec : {M : Type 1} → statement M
 keep-list-spec =

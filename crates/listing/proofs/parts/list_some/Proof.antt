@@ -1,5 +1,6 @@
 -- `listing::parts::list_some` meets its contract.
-use Rattle.listing.proofs.KindLaws.{piece-size, piece-at}
+use Rattle.listing.proofs.KindLaws.{piece-at}
+use Rattle.track.proofs.PlainLaws.{part-size}
 use Rattle.listing.proofs.PartLaws.{chosen-calendar, chosen-kind, chosen-within, some-room, some-listed}
 use native.Mathlib.Omega.{arith}
 use borrow.Author.Needs.{needs}
@@ -55,7 +56,7 @@ returns c =
     let p = c .before .before .before .before .before .before .before .before .before .before .before .before .before .before .before .pre in
     let row = c .before .before .before .before .before .before .before .before .before .keep .ensures in
     let within = chosen-within _ _ _ _ (p .0) in
-    (some-listed _ _ _ _ (p .0) _ _ (rw (c .before .before .before .before .before .before .before .before .before .before .before .first-weekday .ensures) at row) _ (piece-size _ _ _ (omega (arith, row .within, row .kept .size))) (λ k h. piece-at _ _ _ k _ h) _ _ _ _ (c .before .before .collect .ensures), row .kept)
+    (some-listed _ _ _ _ (p .0) _ _ (rw (c .before .before .before .before .before .before .before .before .before .before .before .first-weekday .ensures) at row) _ (part-size _ _ _ (omega (arith, row .within, row .kept .size))) (λ k h. piece-at _ _ _ k _ h) _ _ _ _ (c .before .before .collect .ensures), row .kept)
 
 pub list-some-spec : {M : Type 1} → statement M
 list-some-spec =

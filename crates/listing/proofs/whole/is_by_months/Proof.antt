@@ -6,22 +6,22 @@ use borrow.Author.Needs.{needs}
 use Rattle.listing.proofs.whole.is_by_months.Statement.{statement}
 use Rattle.listing.proofs.whole.is_by_months.Tie as tie
 
-counts-in-months-requires : tie.Need-counts-in-months-requires
-counts-in-months-requires c κs = search needs
+positions-in-months-requires : tie.Need-positions-in-months-requires
+positions-in-months-requires c κs = search needs
 
 returns : tie.Need-returns
 returns c =
-    (λ e. absurd (false≢true e), λ by. sym (not-true _ (c .if1 .taken)) ∙ c .before .counts-in-months .ensures .1 (by .monthly))
+    (λ e. absurd (false≢true e), λ by. sym (not-true _ (c .if1 .taken)) ∙ c .before .positions-in-months .ensures .1 (by .monthly))
 
 is-alike-requires : tie.Need-is-alike-requires
 is-alike-requires c κs = search needs
 
 returns-2 : tie.Need-returns-2
 returns-2 c = (
-  λ e. record { alike = c .is-alike .ensures .0 e; monthly = c .before .before .counts-in-months .ensures .0 (not-false _ (c .before .if1 .left)) },
+  λ e. record { alike = c .is-alike .ensures .0 e; monthly = c .before .before .positions-in-months .ensures .0 (not-false _ (c .before .if1 .left)) },
   λ by. c .is-alike .ensures .1 (by .alike),
 )
 
 pub is-by-months-spec : {M : Type 1} → statement M
 is-by-months-spec =
-    tie.close (tie.spec counts-in-months-requires returns is-alike-requires returns-2)
+    tie.close (tie.spec positions-in-months-requires returns is-alike-requires returns-2)

@@ -35,21 +35,16 @@ returns-2 c =
       kept = p .1 .0;
     }
 
-add-weekday : tie.Need-add-weekday
-add-weekday c = omega (arith, asked-day _ _ _ (c .before .before .before .before .before .before .before .before .pre .1 .1 .0) .weekday)
-
-sub-weekday : tie.Need-sub-weekday
-sub-weekday c =
-    let facts = asked-day _ _ _ (c .before .before .before .before .before .before .before .before .before .pre .1 .1 .0) in
-    omega (arith, facts .monthday-high, facts .monthdays)
+first-weekday-requires : tie.Need-first-weekday-requires
+first-weekday-requires c κs = asked-day _ _ _ (c .before .before .before .before .before .before .before .pre .1 .1 .0)
 
 keep-requires : tie.Need-keep-requires
 keep-requires c κs =
-    let p = c .before .before .before .before .before .before .before .before .before .before .pre .1 in
-    (p .1 .0 .row-length, (month-kind _ (p .1 .0 .day) (known _ _ _ (p .1 .0)), p .0))
+    let p = c .before .before .before .before .before .before .before .before .before .pre .1 in
+    (p .1 .0 .row-length, (rw (c .before .first-weekday .ensures) (month-kind _ (p .1 .0 .day) (known _ _ _ (p .1 .0))), p .0))
 
 sub-before : tie.Need-sub-before
-sub-before c = omega (arith, asked-day _ _ _ (c .before .before .before .before .before .before .before .before .before .before .before .before .before .before .pre .1 .1 .0) .monthday-low)
+sub-before c = omega (arith, asked-day _ _ _ (c .before .before .before .before .before .before .before .before .before .before .before .before .before .pre .1 .1 .0) .monthday-low)
 
 cast-lay : tie.Need-cast-lay
 cast-lay c = search needs
@@ -60,7 +55,7 @@ add-lay c = search needs
 lay-requires : tie.Need-lay-requires
 unfolding toMonthEnd
 lay-requires c κs =
-    let p = c .before .before .before .before .before .before .before .before .before .before .before .before .before .before .before .before .pre .1 .1 in
+    let p = c .before .before .before .before .before .before .before .before .before .before .before .before .before .before .before .pre .1 .1 in
     let facts = asked-day _ _ _ (p .0) in
     let k = c .before .before .before .before .before .keep .ensures in
     omega (arith, k .within, k .kept .size, p .1 .within, facts .monthday-low, facts .monthday-high)
@@ -73,14 +68,14 @@ same-length-2 c = search needs
 
 returns-3 : tie.Need-returns-3
 returns-3 c =
-    let p = c .before .before .before .before .before .before .before .before .before .before .before .before .before .before .before .before .before .before .before .pre in
+    let p = c .before .before .before .before .before .before .before .before .before .before .before .before .before .before .before .before .before .before .pre in
     let k = c .before .before .before .before .before .before .before .before .keep .ensures in
     record {
       marks =
           kind-marked _ _ (p .0 .0) _ (p .1 .1 .0)
-          (sym (c .before .before .before .before .before .before .before .before .before .before .before .before .before .before .before .on-month .ensures) ∙ not-false (c .before .before .before .before .before .before .before .before .before .before .before .before .before .before .before .on-month .result) (c .before .before .before .before .before .before .before .before .before .before .before .before .before .before .if1 .left))
-          (sym (c .before .before .before .before .before .before .before .before .before .before .before .before .before .in-step .ensures) ∙ not-false (c .before .before .before .before .before .before .before .before .before .before .before .before .before .in-step .result) (c .before .before .before .before .before .before .before .before .before .before .before .before .if2 .left))
-          (p .0 .1) _ _ k _ _ _ (p .1 .1 .1) (c .before .before .lay .ensures);
+          (sym (c .before .before .before .before .before .before .before .before .before .before .before .before .before .before .on-month .ensures) ∙ not-false (c .before .before .before .before .before .before .before .before .before .before .before .before .before .before .on-month .result) (c .before .before .before .before .before .before .before .before .before .before .before .before .before .if1 .left))
+          (sym (c .before .before .before .before .before .before .before .before .before .before .before .before .in-step .ensures) ∙ not-false (c .before .before .before .before .before .before .before .before .before .before .before .before .in-step .result) (c .before .before .before .before .before .before .before .before .before .before .before .if2 .left))
+          (p .0 .1) _ _ (rw (c .before .before .before .before .before .before .before .before .before .before .first-weekday .ensures) at k) _ _ _ (p .1 .1 .1) (c .before .before .lay .ensures);
       kept = k .kept;
     }
 
@@ -92,8 +87,7 @@ mark-alike-spec =
     returns
     in-step-requires
     returns-2
-    add-weekday
-    sub-weekday
+    first-weekday-requires
     keep-requires
     sub-before
     cast-lay

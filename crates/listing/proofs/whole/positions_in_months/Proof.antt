@@ -1,4 +1,4 @@
--- `listing::whole::counts_in_months` meets its contract.
+-- `listing::whole::positions_in_months` meets its contract.
 use mathlib.Core.Bool.{true, false≢true}
 use mathlib.Core.Path.{_≡_, refl, sym, ap, _∙_}
 use borrow.Author.Tests.{not-true, not-false}
@@ -6,8 +6,8 @@ use Rattle.rule.specs.declared.Frequency.{Frequency}
 use Rattle.rule.specs.declared.Frequency.the-variants.{Daily, Weekly, Monthly, Yearly}
 use Rattle.listing.specs.Inner.Parts.{isMonthly}
 use borrow.Author.Needs.{needs}
-use Rattle.listing.proofs.whole.counts_in_months.Statement.{statement}
-use Rattle.listing.proofs.whole.counts_in_months.Tie as tie
+use Rattle.listing.proofs.whole.positions_in_months.Statement.{statement}
+use Rattle.listing.proofs.whole.positions_in_months.Tie as tie
 
 monthly-is : (f : Frequency) → isMonthly f ≡ true → f ≡ Monthly
 unfolding isMonthly
@@ -32,5 +32,5 @@ returns-2 c = (
   λ all. c .is-monthly .ensures ∙ is-monthly-of _ (all (not-false _ (c .before .if1 .left))),
 )
 
-pub counts-in-months-spec : {M : Type 1} → statement M
-counts-in-months-spec = tie.close (tie.spec returns is-monthly-requires returns-2)
+pub positions-in-months-spec : {M : Type 1} → statement M
+positions-in-months-spec = tie.close (tie.spec returns is-monthly-requires returns-2)
