@@ -2,13 +2,12 @@
 use Prim.Native.Nat.{ℕ}
 use mathlib.Core.Bool.{Bool, true, false}
 use mathlib.Core.List.{List}
-use mathlib.Core.Path.{_≡_, sym, ap, subst, _∙_}
+use mathlib.Core.Path.{_≡_, sym, ap, _∙_}
 use lib.IntN.{ℤ}
 use mir.Syntax.{w64}
 use mir.Val.{SFits, toZ, ofZ}
 use mir.Facts.{toZ-ofZ}
 use Rattle.signed.proofs.Parts.{passed}
-use Rattle.words.specs.declared.Privacy.{Privacy}
 use Rattle.property.specs.Inner.From.{nameIn}
 use Rattle.event.specs.Event.{eventOf}
 use Rattle.event_text.specs.Inner.Front.{frontOf, inner}
@@ -18,7 +17,7 @@ use Rattle.event_text.specs.declared.Head.{Head}
 use Rattle.event_text.proofs.FromHead.{head-privacy, head-zone}
 use Rattle.window.specs.Inner.Handed.{Span}
 use Rattle.call_definitions.specs.Window.{since1600, validWindow}
-use Rattle.call_definitions.specs.Bytes.{ZoneTable, trailerOf}
+use Rattle.call_definitions.specs.Bytes.{trailerOf}
 use Rattle.call_definitions.specs.Answer.{isSecret, expanded}
 use Rattle.call_definitions.specs.Call.{textFault, expandText}
 use Rattle.call_definitions.specs.Results.{zonesOf, Gives}

@@ -1,23 +1,19 @@
 -- The answers of a call, one after the other: a refusal is the whole outcome, and what is not refused is the table, as far as it fits.
 use Prim.Native.Nat.{ℕ}
-use mathlib.Core.Bool.{Bool, true, false}
+use mathlib.Core.Bool.{true, false}
 use mathlib.Core.List.{List, _++_}
-use mathlib.Core.Option.{Option}
 use mathlib.Core.Path.{_≡_, refl, sym, ap, subst, _∙_}
-use lib.Dec.{eqb, ltb}
 use lib.IntN.{ℤ}
 use lib.ListN.{length}
-use borrow.Author.Tests.{eqb-true, eqb-false, eq-eqb, ne-eqb}
-use Rattle.signed.specs.Choose.{if_then_else_}
+use borrow.Author.Tests.{ne-eqb}
 use Rattle.signed.proofs.Parts.{false-true, true-false}
-use Rattle.json.specs.Answer.{answerOf}
 use Rattle.words.specs.declared.Privacy.{Privacy}
 use Rattle.words.specs.declared.Privacy.the-variants.{Public, Private, Secret}
 use Rattle.event.specs.Types.{Event}
-use Rattle.event.specs.Event.{eventFault, eventOf}
+use Rattle.event.specs.Event.{eventOf}
 use Rattle.call_definitions.specs.Window.{since1600}
 use Rattle.call_definitions.specs.Bytes.{ZoneTable, recordsOf, trailerOf, listed, tableOf}
-use Rattle.call_definitions.specs.Answer.{isSecret, Outcome, answerFor, outcomeBy, expanded}
+use Rattle.call_definitions.specs.Answer.{isSecret, Outcome, outcomeBy, expanded}
 use Rattle.call_definitions.specs.Call.{textFault, expandText}
 use Rattle.call_definitions.specs.Results.{Gives}
 use Rattle.opening.specs.Inner.Refusal.{refusalFor}

@@ -1,12 +1,12 @@
 -- What the calls of `put_visible` say of an accepted event, joined: hd is its head, o its own details.
-use Prim.Native.Nat.{ℕ, _+_, _*_, _/_, _<_, _≤_}
+use Prim.Native.Nat.{ℕ, _*_, _/_, _<_, _≤_}
 use mathlib.Core.Bool.{Bool, true, false}
 use mathlib.Core.List.{List, [], map}
-use mathlib.Core.Path.{_≡_, refl, sym, ap, subst, _∙_}
+use mathlib.Core.Path.{_≡_, sym, ap, subst, _∙_}
 use native.Mathlib.Omega.{arith}
 use lib.IntN.{ℤ}
 use lib.ListN.{length, take}
-use lib.Seq.{sets, length-sets}
+use lib.Seq.{length-sets}
 use mir.Syntax.{w64}
 use mir.Val.{SFits, toZ, ofZ}
 use mir.Facts.{toZ-ofZ}
@@ -33,8 +33,7 @@ use Rattle.dates.specs.Inner.Tracked.{Tracked}
 use Rattle.window.specs.Inner.Chunks.{Window}
 use Rattle.window.specs.Inner.Handed.{Span}
 use Rattle.call_definitions.specs.Occurrence.{datesOf}
-use Rattle.call_definitions.specs.Bytes.{ZoneTable, isFloating}
-use Rattle.call_definitions.specs.Answer.{Outcome}
+use Rattle.call_definitions.specs.Bytes.{isFloating}
 use Rattle.call_definitions.specs.Results.{zonesOf, Gives}
 use Rattle.writer.specs.Inner.Details.{detailsBy, rowBy}
 use Rattle.writer.specs.Inner.Runs.{Overridden, Timed}
