@@ -9,6 +9,9 @@ pub const NTHS: usize = 84;
 
 pub const NTHS_BACK: usize = 462;
 
+// All places of all weekdays.
+pub const NTHS_SIZE: u32 = 756;
+
 pub const POSITIONS: usize = 840;
 
 pub const POSITIONS_BACK: usize = 1207;

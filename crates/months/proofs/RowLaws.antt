@@ -13,7 +13,9 @@ use Rattle.rule.specs.Lists.{countIn}
 use Rattle.rule.proofs.Bools.{by}
 use Rattle.rule.proofs.Counting.{count-split, count-most, count-place, count-same}
 use Rattle.matcher.specs.Inner.Flags.{Places, named}
+use Rattle.matcher.specs.Inner.Layout.{positionsAt, positionsBack, rowSize}
 use Rattle.months.specs.Inner.Kinds.{Kind, staysIn, chosenIn, picksIn}
+use Rattle.months.specs.Inner.Layout.{kindsSize, readyAt, plainAt, answersSize}
 use Rattle.months.specs.Inner.Week.{Week, Prepared}
 use Rattle.months.specs.Inner.Rows.{answerAt, Wrote, rowOf, Kept, KeptAt}
 
@@ -66,7 +68,7 @@ count-next p n = count-split p 0 n 1 ∙ ap (λ (k : ℕ). countIn p 0 n + k) (c
 -- ---- choosing
 
 module _ (fl : List Bool) (p : ℕ → Bool) (n k seen total : ℕ) (more : k < n) (is-seen : seen ≡ countIn p 0 k) (is-total : total ≡ countIn p 0 n) where
-  pub chosen-place : n ≤ 31 → length fl ≡ 1574 → p k ≡ true → Places (length fl) 840 1207 (seen + 1) total
+  pub chosen-place : n ≤ 31 → length fl ≡ rowSize → p k ≡ true → Places (length fl) positionsAt positionsBack (seen + 1) total
   chosen-place few size e =
       let most = count-most p 0 n in
       let here : p (0 + k) ≡ true = ap p (omega arith) ∙ e in
@@ -80,7 +82,7 @@ module _ (fl : List Bool) (p : ℕ → Bool) (n k seen total : ℕ) (more : k < 
         row = omega arith;
       }
 
-  pub chosen-is : (b stays : Bool) → stays ≡ p k → b ≡ (if stays then named fl 840 1207 (seen + 1) total else false) → b ≡ chosenIn fl p n k
+  pub chosen-is : (b stays : Bool) → stays ≡ p k → b ≡ (if stays then named fl positionsAt positionsBack (seen + 1) total else false) → b ≡ chosenIn fl p n k
   unfolding chosenIn
   chosen-is b stays same is = is ∙ rw (same, is-seen, is-total)
 
@@ -96,12 +98,12 @@ chosen-same fl p q n same k h =
 
 -- ---- the rows that are kept
 
-pub kept-none : (placed : Bool) (fl : List Bool) → Kept placed fl (replicate 960 false)
+pub kept-none : (placed : Bool) (fl : List Bool) → Kept placed fl (replicate answersSize false)
 kept-none placed fl =
     record {
-      size = length-replicate 960 false;
-      ready = λ e. absurd (false≢true (sym (getD-replicate 960 958 false false (omega arith)) ∙ e));
-      row = λ w days kind e. absurd (false≢true (sym (getD-replicate 960 (rowOf w days + 31) false false (omega (arith, kind .week, kind .low, kind .high))) ∙ e));
+      size = length-replicate answersSize false;
+      ready = λ e. absurd (false≢true (sym (getD-replicate answersSize readyAt false false (omega arith)) ∙ e));
+      row = λ w days kind e. absurd (false≢true (sym (getD-replicate answersSize (rowOf w days + 31) false false (omega (arith, kind .week, kind .low, kind .high))) ∙ e));
     }
 
 -- the week is written after the rows
@@ -130,8 +132,8 @@ module _ (placed : Bool) (fl : List Bool) (weekday days : ℕ) (kind : Kind week
   week-stays : Week fl (set after (rowOf weekday days + 31) true)
   week-stays =
       record {
-        days = λ k h. above (896 + k) (omega (arith, kind .week, kind .low, kind .high)) ∙ week .days k h;
-        plain = λ e. week .plain (sym (above 959 (omega (arith, kind .week, kind .low, kind .high))) ∙ e);
+        days = λ k h. above (kindsSize + k) (omega (arith, kind .week, kind .low, kind .high)) ∙ week .days k h;
+        plain = λ e. week .plain (sym (above plainAt (omega (arith, kind .week, kind .low, kind .high))) ∙ e);
       }
 
   each : (w n : ℕ) → Kind w n → getD (set after (rowOf weekday days + 31) true) (rowOf w n + 31) false ≡ true

@@ -20,6 +20,10 @@ nthsAt = 84
 abbrev pub nthsBack : ℕ
 nthsBack = 462
 
+-- All places of all weekdays.
+abbrev pub nthsSize : ℕ
+nthsSize = 756
+
 abbrev pub positionsAt : ℕ
 positionsAt = 840
 
