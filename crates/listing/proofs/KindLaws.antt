@@ -9,6 +9,7 @@ use lib.ListN.{length, take, drop, getD, set, length-set, length-append, replica
 use lib.Seq.{length-take-le, getD-take, getD-drop, getD-append-add, getD-set-same, getD-set-other}
 use borrow.Author.Tests.{ltb-true, ltb-false}
 use Rattle.rule.proofs.Bools.{by}
+use Rattle.months.specs.Inner.Layout.{kindsSize}
 use Rattle.window.specs.Inner.Lists.{listIn}
 use Rattle.rule.proofs.Counting.{count-most}
 use Rattle.window.proofs.ListLaws.{list-same, list-length}
@@ -65,11 +66,11 @@ module _ (row : List Bool) (before : List ℕ) (at : ℕ) (mid : List ℕ) (end 
 
 -- ---- the lists that are kept
 
-pub lists-none : (placed : Bool) (fl : List Bool) → KeptLists placed fl (replicate 896 0)
+pub lists-none : (placed : Bool) (fl : List Bool) → KeptLists placed fl (replicate kindsSize 0)
 lists-none placed fl =
     record {
-      size = length-replicate {A = ℕ} 896 0;
-      list = λ w days kind more. absurd (omega (arith, more, getD-replicate {A = ℕ} 896 (rowOf w days + 31) 0 0 (omega (arith, kind .week, kind .low, kind .high))));
+      size = length-replicate {A = ℕ} kindsSize 0;
+      list = λ w days kind more. absurd (omega (arith, more, getD-replicate {A = ℕ} kindsSize (rowOf w days + 31) 0 0 (omega (arith, kind .week, kind .low, kind .high))));
     }
 
 held-moves : (xs before after : List ℕ) (at : ℕ) → length xs ≤ 31 → ((j : ℕ) → at ≤ j → j < at + 32 → getD after j 0 ≡ getD before j 0) → Held xs before at → Held xs after at

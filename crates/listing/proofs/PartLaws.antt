@@ -17,6 +17,7 @@ use Rattle.matcher.specs.Inner.Flags.{monthBy}
 use Rattle.matcher.specs.Inner.Walk.{Asked, stepBy, picksOnBy}
 use Rattle.matcher.proofs.WalkLaws.{in-calendar}
 use Rattle.months.specs.Inner.Kinds.{Kind, picksIn}
+use Rattle.months.specs.Inner.Layout.{kindsSize, answersSize}
 use Rattle.months.specs.Inner.Rows.{KeptAt}
 use Rattle.months.proofs.RowLaws.{kept-none}
 use Rattle.track.specs.Inner.Skips.{toMonthEnd}
@@ -225,7 +226,7 @@ module _ (t : Terms) (row : List Bool) (x : Day) (c : Chosen t row x (x .monthda
 
 -- ---- before any month
 
-pub kinds-none : (t : Terms) (row : List Bool) → Kinds t row (replicate 960 false) (replicate 896 0)
+pub kinds-none : (t : Terms) (row : List Bool) → Kinds t row (replicate answersSize false) (replicate kindsSize 0)
 kinds-none t row = record { rows-kept = kept-none (t .placed) row; lists-kept = lists-none (t .placed) row }
 
 -- days of one month are few

@@ -4,6 +4,7 @@ ghost use Prim.Native.Nat.{_+_, _≤_};
 ghost use lib.ListN.{length};
 ghost use Rattle.matcher.specs.Inner.Flags.{Row};
 ghost use Rattle.months.specs.Inner.Kinds.{Kind};
+ghost use Rattle.months.specs.Inner.Layout.{kindsSize};
 ghost use Rattle.months.specs.Inner.Rows.{Kept};
 ghost use Rattle.listing.specs.Inner.Kinds.{KeptLists, ListAt, Wrote};
 use crate::collect::collect;
@@ -12,7 +13,7 @@ use months::kinds::row_of;
 
 // The days of a row that are set, and 31 places on one more than their number.
 fn write_list(row: &[bool], lists: &mut [u32], at: usize)
-    requires { ⌜ (length (now row) ≤ 31) × ((at + 32 ≤ length (now lists)) × (length (now lists) ≡ 896)) ⌝ }
+    requires { ⌜ (length (now row) ≤ 31) × ((at + 32 ≤ length (now lists)) × (length (now lists) ≡ kindsSize)) ⌝ }
     ensures { λ _. ⌜ Wrote (now (row .entry)) (now (lists .entry)) at (now (lists .exit)) ⌝ }
 {
     let end = collect(row, 0, lists, at);

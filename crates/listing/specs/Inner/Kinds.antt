@@ -5,6 +5,7 @@ use mathlib.Core.List.{List}
 use mathlib.Core.Path.{_≡_}
 use lib.ListN.{length, getD}
 use Rattle.months.specs.Inner.Kinds.{Kind, picksIn}
+use Rattle.months.specs.Inner.Layout.{kindsSize}
 use Rattle.months.specs.Inner.Rows.{rowOf, Kept}
 use Rattle.window.specs.Inner.Lists.{listIn}
 use Rattle.listing.specs.Inner.Lists.{hitOn}
@@ -20,7 +21,7 @@ pub record Held (xs lists : List ℕ) (at : ℕ) : Type 0 where
 
 -- 32 places for each kind; where the last is 0, its days are not listed yet.
 pub record KeptLists (placed : Bool) (fl : List Bool) (lists : List ℕ) : Type 0 where
-  pub size : length lists ≡ 896
+  pub size : length lists ≡ kindsSize
   pub list : (weekday days : ℕ) → Kind weekday days → 0 < getD lists (rowOf weekday days + 31) 0
       → Held (kindDays placed fl weekday days) lists (rowOf weekday days)
 
@@ -28,7 +29,7 @@ pub record KeptLists (placed : Bool) (fl : List Bool) (lists : List ℕ) : Type 
 pub record ListAt (placed : Bool) (fl : List Bool) (weekday days : ℕ) (rows : List Bool) (lists : List ℕ) (at : ℕ) : Type 0 where
   pub rows-kept : Kept placed fl rows
   pub kept : KeptLists placed fl lists
-  pub within : at + 32 ≤ 896
+  pub within : at + 32 ≤ kindsSize
   pub held : Held (kindDays placed fl weekday days) lists at
 
 -- The days of a row were listed at a place, and nothing else was written but to its 32 places.
