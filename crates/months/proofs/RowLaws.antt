@@ -15,7 +15,7 @@ use Rattle.rule.proofs.Counting.{count-split, count-most, count-place, count-sa
 use Rattle.matcher.specs.Inner.Flags.{Places, named}
 use Rattle.matcher.specs.Inner.Layout.{positionsAt, positionsBack, rowSize}
 use Rattle.months.specs.Inner.Kinds.{Kind, staysIn, chosenIn, picksIn}
-use Rattle.months.specs.Inner.Layout.{kindsSize, readyAt, plainAt, answersSize}
+use Rattle.months.specs.Inner.Layout.{kindsSize, kindSize, lastAt, readyAt, plainAt, answersSize}
 use Rattle.months.specs.Inner.Week.{Week, Prepared}
 use Rattle.months.specs.Inner.Rows.{answerAt, Wrote, rowOf, Kept, KeptAt}
 
@@ -103,7 +103,7 @@ kept-none placed fl =
     record {
       size = length-replicate answersSize false;
       ready = λ e. absurd (false≢true (sym (getD-replicate answersSize readyAt false false (omega arith)) ∙ e));
-      row = λ w days kind e. absurd (false≢true (sym (getD-replicate answersSize (rowOf w days + 31) false false (omega (arith, kind .week, kind .low, kind .high))) ∙ e));
+      row = λ w days kind e. absurd (false≢true (sym (getD-replicate answersSize (rowOf w days + lastAt) false false (omega (arith, kind .week, kind .low, kind .high))) ∙ e));
     }
 
 -- the week is written after the rows
@@ -114,58 +114,58 @@ kept-prepared placed fl rows after kept p =
       ready = λ e. p .week;
       row = λ w days kind e k h.
           p .same (rowOf w days + k) (omega (arith, kind .week, kind .low, kind .high))
-          ∙ kept .row w days kind (sym (p .same (rowOf w days + 31) (omega (arith, kind .week, kind .low, kind .high))) ∙ e) k h;
+          ∙ kept .row w days kind (sym (p .same (rowOf w days + lastAt) (omega (arith, kind .week, kind .low, kind .high))) ∙ e) k h;
     }
 
 module _ (placed : Bool) (fl : List Bool) (weekday days : ℕ) (kind : Kind weekday days) (rows after : List Bool) (kept : Kept placed fl rows)
     (week : Week fl rows) (wrote : Wrote (picksIn placed fl weekday days) rows (rowOf weekday days) days after) where
-  own : (k : ℕ) → k < days → getD (set after (rowOf weekday days + 31) true) (rowOf weekday days + k) false ≡ picksIn placed fl weekday days k
-  own k h = getD-set-other after (rowOf weekday days + 31) (rowOf weekday days + k) true false (λ same. omega (arith, kind .high)) ∙ wrote .here k h
+  own : (k : ℕ) → k < days → getD (set after (rowOf weekday days + lastAt) true) (rowOf weekday days + k) false ≡ picksIn placed fl weekday days k
+  own k h = getD-set-other after (rowOf weekday days + lastAt) (rowOf weekday days + k) true false (λ same. omega (arith, kind .high)) ∙ wrote .here k h
 
   -- the other rows are as they were
-  below : (j : ℕ) → j < rowOf weekday days → getD (set after (rowOf weekday days + 31) true) j false ≡ getD rows j false
-  below j h = getD-set-other after (rowOf weekday days + 31) j true false (λ same. omega arith) ∙ wrote .low j h
+  below : (j : ℕ) → j < rowOf weekday days → getD (set after (rowOf weekday days + lastAt) true) j false ≡ getD rows j false
+  below j h = getD-set-other after (rowOf weekday days + lastAt) j true false (λ same. omega arith) ∙ wrote .low j h
 
-  above : (j : ℕ) → rowOf weekday days + 32 ≤ j → getD (set after (rowOf weekday days + 31) true) j false ≡ getD rows j false
-  above j h = getD-set-other after (rowOf weekday days + 31) j true false (λ same. omega arith) ∙ wrote .high j (omega (arith, kind .high))
+  above : (j : ℕ) → rowOf weekday days + kindSize ≤ j → getD (set after (rowOf weekday days + lastAt) true) j false ≡ getD rows j false
+  above j h = getD-set-other after (rowOf weekday days + lastAt) j true false (λ same. omega arith) ∙ wrote .high j (omega (arith, kind .high))
 
-  week-stays : Week fl (set after (rowOf weekday days + 31) true)
+  week-stays : Week fl (set after (rowOf weekday days + lastAt) true)
   week-stays =
       record {
         days = λ k h. above (kindsSize + k) (omega (arith, kind .week, kind .low, kind .high)) ∙ week .days k h;
         plain = λ e. week .plain (sym (above plainAt (omega (arith, kind .week, kind .low, kind .high))) ∙ e);
       }
 
-  each : (w n : ℕ) → Kind w n → getD (set after (rowOf weekday days + 31) true) (rowOf w n + 31) false ≡ true
-      → (k : ℕ) → k < n → getD (set after (rowOf weekday days + 31) true) (rowOf w n + k) false ≡ picksIn placed fl w n k
+  each : (w n : ℕ) → Kind w n → getD (set after (rowOf weekday days + lastAt) true) (rowOf w n + lastAt) false ≡ true
+      → (k : ℕ) → k < n → getD (set after (rowOf weekday days + lastAt) true) (rowOf w n + k) false ≡ picksIn placed fl w n k
   each w n other e k h =
       by (ltb (rowOf w n) (rowOf weekday days))
       (λ b.
       let less = ltb-true (rowOf w n) (rowOf weekday days) b in
       below (rowOf w n + k) (omega (arith, other .high))
-      ∙ kept .row w n other (sym (below (rowOf w n + 31) (omega arith)) ∙ e) k h)
+      ∙ kept .row w n other (sym (below (rowOf w n + lastAt) (omega arith)) ∙ e) k h)
       (λ b.
       by (ltb (rowOf weekday days) (rowOf w n))
       (λ d.
       let less = ltb-true (rowOf weekday days) (rowOf w n) d in
       above (rowOf w n + k) (omega arith)
-      ∙ kept .row w n other (sym (above (rowOf w n + 31) (omega arith)) ∙ e) k h)
+      ∙ kept .row w n other (sym (above (rowOf w n + lastAt) (omega arith)) ∙ e) k h)
       (λ d.
       let low = ltb-false (rowOf w n) (rowOf weekday days) b in
       let high = ltb-false (rowOf weekday days) (rowOf w n) d in
       let sameDays : days ≡ n = omega (arith, kind .week, kind .low, other .week, other .low) in
       let sameWeekday : weekday ≡ w = omega (arith, kind .week, kind .low, other .week, other .low) in
-      subst (λ (v : ℕ). getD (set after (rowOf weekday days + 31) true) (rowOf v n + k) false ≡ picksIn placed fl v n k) sameWeekday
-      (subst (λ (m : ℕ). getD (set after (rowOf weekday days + 31) true) (rowOf weekday m + k) false ≡ picksIn placed fl weekday m k) sameDays
+      subst (λ (v : ℕ). getD (set after (rowOf weekday days + lastAt) true) (rowOf v n + k) false ≡ picksIn placed fl v n k) sameWeekday
+      (subst (λ (m : ℕ). getD (set after (rowOf weekday days + lastAt) true) (rowOf weekday m + k) false ≡ picksIn placed fl weekday m k) sameDays
       (own k (omega arith)))))
 
-  pub keeps : KeptAt placed fl weekday days (set after (rowOf weekday days + 31) true) (rowOf weekday days)
+  pub keeps : KeptAt placed fl weekday days (set after (rowOf weekday days + lastAt) true) (rowOf weekday days)
   keeps =
       record {
         is = refl;
         kept =
             record {
-              size = length-set after (rowOf weekday days + 31) true ∙ (wrote .size ∙ kept .size);
+              size = length-set after (rowOf weekday days + lastAt) true ∙ (wrote .size ∙ kept .size);
               ready = λ e. week-stays;
               row = each;
             };
@@ -175,7 +175,7 @@ module _ (placed : Bool) (fl : List Bool) (weekday days : ℕ) (kind : Kind week
 
 -- a row that was kept already
 pub kept-already : (placed : Bool) (fl : List Bool) (weekday days : ℕ) → Kind weekday days → (rows : List Bool) → Kept placed fl rows
-    → getD rows (rowOf weekday days + 31) false ≡ true → KeptAt placed fl weekday days rows (rowOf weekday days)
+    → getD rows (rowOf weekday days + lastAt) false ≡ true → KeptAt placed fl weekday days rows (rowOf weekday days)
 kept-already placed fl weekday days kind rows kept e =
     record { is = refl; kept = kept; within = omega (arith, kind .week, kind .low, kind .high); row = kept .row weekday days kind e }
 

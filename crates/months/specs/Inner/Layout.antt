@@ -1,7 +1,14 @@
 -- The places in the list of answers that a run keeps. src/layout.rt has the same numbers.
 use Prim.Native.Nat.{ℕ}
 
--- The rows of the 28 kinds of months. The week follows them.
+-- The row of a kind of months; its last place says whether it is written.
+abbrev pub kindSize : ℕ
+kindSize = 32
+
+abbrev pub lastAt : ℕ
+lastAt = 31
+
+-- The rows of the 28 kinds. The week follows them.
 abbrev pub kindsSize : ℕ
 kindsSize = 896
 

@@ -6,7 +6,7 @@ use mathlib.Core.Path.{_≡_}
 use lib.ListN.{length, getD}
 use Rattle.matcher.specs.Inner.Layout.{rowSize}
 use Rattle.months.specs.Inner.Kinds.{Kind, picksIn}
-use Rattle.months.specs.Inner.Layout.{kindsSize, readyAt, answersSize}
+use Rattle.months.specs.Inner.Layout.{kindsSize, lastAt, readyAt, answersSize}
 use Rattle.months.specs.Inner.Week.{Week}
 
 unfoldable pub answerAt : List Bool → ℕ → ℕ → Bool
@@ -27,7 +27,7 @@ rowOf weekday days = 224 * (days - 28) + 32 * weekday
 pub record Kept (placed : Bool) (fl rows : List Bool) : Type 0 where
   pub size : length rows ≡ answersSize
   pub ready : getD rows readyAt false ≡ true → Week fl rows
-  pub row : (weekday days : ℕ) → Kind weekday days → getD rows (rowOf weekday days + 31) false ≡ true
+  pub row : (weekday days : ℕ) → Kind weekday days → getD rows (rowOf weekday days + lastAt) false ≡ true
       → (k : ℕ) → k < days → getD rows (rowOf weekday days + k) false ≡ picksIn placed fl weekday days k
 
 -- The kind's row begins at a place. Which other kinds are written is left open: a row that is not written is written when it is asked for.
