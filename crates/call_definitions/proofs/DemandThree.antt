@@ -16,8 +16,8 @@ use Rattle.recurrence.specs.Inner.Candidates.{inWindow}
 use Rattle.recurrence.specs.Inner.Order.{among}
 use Rattle.recurrence.proofs.Ordered.{head-among}
 use Rattle.recurrence.proofs.Exactly.{ids-exactly}
-use Rattle.words.specs.declared.Privacy.{Privacy}
-use Rattle.words.specs.declared.Privacy.the-variants.{Public, Private, Secret}
+use Rattle.keywords.specs.declared.Privacy.{Privacy}
+use Rattle.keywords.specs.declared.Privacy.the-variants.{Public, Private, Secret}
 use Rattle.event.specs.Types.{Text, Details, Event}
 use Rattle.call_definitions.specs.Window.{since1600, since1970}
 use Rattle.call_definitions.specs.Occurrence.{datesOf, isOccurrence, occurrences, detailsAt}

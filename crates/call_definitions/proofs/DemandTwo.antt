@@ -18,8 +18,8 @@ use Rattle.little_endian.proofs.ByteLaws.{bytes-length}
 use Rattle.recurrence.specs.Inner.Order.{StrictlyIncreases, among}
 use Rattle.recurrence.specs.Inner.Within.{OccursWithin}
 use Rattle.recurrence.proofs.Exactly as recurrence
-use Rattle.words.specs.declared.Privacy.{Privacy}
-use Rattle.words.specs.declared.Privacy.the-variants.{Public, Private, Secret}
+use Rattle.keywords.specs.declared.Privacy.{Privacy}
+use Rattle.keywords.specs.declared.Privacy.the-variants.{Public, Private, Secret}
 use Rattle.event.specs.Types.{Details, Event}
 use Rattle.call_definitions.specs.Window.{since1600, since1970}
 use Rattle.call_definitions.specs.Occurrence.{datesOf, occurrences, detailsAt}

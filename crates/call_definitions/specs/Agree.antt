@@ -4,7 +4,7 @@ use mathlib.Core.List.{List}
 use mathlib.Core.Bool.{Bool, true, false}
 use mathlib.Core.Path.{_≡_}
 use Rattle.recurrence.specs.Event.{overrideExcludes, overrideNames}
-use Rattle.words.specs.declared.Privacy.{Privacy}
+use Rattle.keywords.specs.declared.Privacy.{Privacy}
 use Rattle.event.specs.Types.{Details, Event}
 use Rattle.event.specs.Event.{eventOf}
 use Rattle.call_definitions.specs.Occurrence.{datesOf, detailsAt}

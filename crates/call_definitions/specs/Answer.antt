@@ -11,8 +11,8 @@ use lib.Signed.{leZ}
 use Rattle.signed.specs.Choose.{if_then_else_}
 use Rattle.json_walk.specs.Strings.{same}
 use Rattle.zone.specs.Table.{validTable}
-use Rattle.words.specs.declared.Privacy.{Privacy}
-use Rattle.words.specs.declared.Privacy.the-variants.{Public, Private, Secret}
+use Rattle.keywords.specs.declared.Privacy.{Privacy}
+use Rattle.keywords.specs.declared.Privacy.the-variants.{Public, Private, Secret}
 use Rattle.event.specs.Types.{Event}
 use Rattle.call_definitions.specs.Window.{epoch, since1600, validWindow}
 use Rattle.call_definitions.specs.Occurrence.{isOccurrence}

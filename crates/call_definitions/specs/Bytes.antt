@@ -8,8 +8,8 @@ use lib.ListN.{length}
 use Rattle.signed.specs.Choose.{if_then_else_}
 use Rattle.little_endian.specs.Bytes.{bytesOf, twos}
 use Rattle.zone.specs.Lookup.{utcAt}
-use Rattle.words.specs.declared.Privacy.{Privacy}
-use Rattle.words.specs.declared.Privacy.the-variants.{Public, Private, Secret}
+use Rattle.keywords.specs.declared.Privacy.{Privacy}
+use Rattle.keywords.specs.declared.Privacy.the-variants.{Public, Private, Secret}
 use Rattle.event.specs.Types.{Length, Details, Event}
 use Rattle.call_definitions.specs.Window.{since1600, since1970}
 use Rattle.call_definitions.specs.Occurrence.{occurrences, detailsAt}

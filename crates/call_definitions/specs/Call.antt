@@ -8,7 +8,7 @@ use lib.IntN.{ℤ}
 use lib.ListN.{length}
 use Rattle.signed.specs.Choose.{if_then_else_}
 use Rattle.json.specs.Answer.{answerOf}
-use Rattle.words.specs.declared.Privacy.{Privacy}
+use Rattle.keywords.specs.declared.Privacy.{Privacy}
 use Rattle.event.specs.Types.{Text, Details, Event}
 use Rattle.event.specs.Event.{eventFault, eventOf}
 use Rattle.call_definitions.specs.Occurrence.{detailsAt}

@@ -12,7 +12,7 @@ use lib.ListN.{take, drop}
 use borrow.Author.Tests.{eqb-true, eq-eqb, ne-eqb}
 use Rattle.signed.specs.Choose.{if_then_else_}
 use Rattle.rule.proofs.Bools.{by}
-use Rattle.words.specs.declared.Privacy.{Privacy}
+use Rattle.keywords.specs.declared.Privacy.{Privacy}
 use Rattle.event.specs.Types.{Text, Details, Event}
 use Rattle.event.specs.Event.{eventOf}
 use Rattle.call_definitions.specs.Occurrence.{isOccurrence, detailsAt}

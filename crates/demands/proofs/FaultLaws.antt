@@ -16,15 +16,15 @@ use Rattle.json_tree.specs.Tree.{Json, Fields, noField, field}
 use Rattle.rule.specs.declared.Frequency.{Frequency}
 use Rattle.rule.specs.declared.Frequency.the-variants as frequency
 use Rattle.rule.specs.Written.{NDay}
-use Rattle.words.specs.Rules.{frequencyOf, weekdayOf, skipFault, rscaleFault}
-use Rattle.words.specs.Months.{monthWritten, monthOf}
-use Rattle.words.specs.Marks.{freeBusyOf}
-use Rattle.words.specs.declared.Rate.{Rate}
-use Rattle.words.specs.declared.Rate.the-variants as rate
-use Rattle.words.specs.declared.Named.{Named}
-use Rattle.words.specs.declared.Named.the-variants as named-as
-use Rattle.words.specs.declared.FreeBusy.{FreeBusy}
-use Rattle.words.specs.declared.FreeBusy.the-variants as status
+use Rattle.keywords.specs.Rules.{frequencyOf, weekdayOf, skipFault, rscaleFault}
+use Rattle.keywords.specs.Months.{monthWritten, monthOf}
+use Rattle.keywords.specs.Marks.{freeBusyOf}
+use Rattle.keywords.specs.declared.Rate.{Rate}
+use Rattle.keywords.specs.declared.Rate.the-variants as rate
+use Rattle.keywords.specs.declared.Named.{Named}
+use Rattle.keywords.specs.declared.Named.the-variants as named-as
+use Rattle.keywords.specs.declared.FreeBusy.{FreeBusy}
+use Rattle.keywords.specs.declared.FreeBusy.the-variants as status
 use Rattle.date_time.specs.declared.DateTime.{DateTime}
 use Rattle.date_time.specs.declared.DateTime.the-variants as local
 use Rattle.date_time.specs.Local.{isLocal, secondsAt, fractionFault, localOf}

@@ -20,8 +20,8 @@ use Rattle.sheet.specs.Records.{idAt, marksAt, zerosAt}
 use Rattle.sheet.specs.Reading.{before, sizeOf, versionOf, countOf, distanceOf, risesAt, markedAt, clearAt, faultOf}
 use Rattle.sheet.proofs.RunLaws.{every-all}
 use Rattle.sheet.proofs.Accepted.{is-accepted}
-use Rattle.words.specs.declared.Privacy.{Privacy}
-use Rattle.words.specs.declared.Privacy.the-variants.{Public, Private, Secret}
+use Rattle.keywords.specs.declared.Privacy.{Privacy}
+use Rattle.keywords.specs.declared.Privacy.the-variants.{Public, Private, Secret}
 use Rattle.event.specs.Types.{Details}
 use Rattle.event.specs.Event.{eventOf}
 use Rattle.call_definitions.specs.Agree.{Accepted as Event-accepted}

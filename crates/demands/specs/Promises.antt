@@ -21,7 +21,7 @@ use Rattle.weeks.specs.Weeks.{isMonday, inWeek, touches}
 use Rattle.weeks.specs.Touching.{Shares}
 use Rattle.weeks.specs.Calendar.{weekOf}
 use Rattle.weeks.specs.Replay.{replayOf, Replays}
-use Rattle.words.specs.declared.Privacy.the-variants.{Public, Private, Secret}
+use Rattle.keywords.specs.declared.Privacy.the-variants.{Public, Private, Secret}
 use Rattle.event.specs.Types.{Text, Details}
 use Rattle.event.specs.Event.{eventOf}
 use Rattle.call_definitions.specs.Agree.{Agree, Accepted}

@@ -20,9 +20,9 @@ use Rattle.json_tree.specs.Inner.Members.{findIn}
 use Rattle.json_tree.specs.Integers.{decimal, goesOn, signed, sizeAt, wholeAt, integerAt}
 use Rattle.json_tree.specs.Tree.{scalarTree, fieldsOf, itemsOf, treeBy, treeAt, textTree}
 use Rattle.json_tree.specs.Inner.Kinds.{kindAt}
-use Rattle.words.specs.Marks.{freeBusyOf, privacyOf}
-use Rattle.words.specs.Months.{monthWritten, monthOf}
-use Rattle.words.specs.Rules.{frequencyOf, weekdayOf, skipFault, rscaleFault}
+use Rattle.keywords.specs.Marks.{freeBusyOf, privacyOf}
+use Rattle.keywords.specs.Months.{monthWritten, monthOf}
+use Rattle.keywords.specs.Rules.{frequencyOf, weekdayOf, skipFault, rscaleFault}
 use Rattle.date_time.specs.Local.{isLocal, fractionFault, secondsAt, localOf}
 use Rattle.date_time.specs.Parts.{dateAt, isTime, isReal, secondOfDay}
 use Rattle.date_time.specs.Picture.{meets, follows}

@@ -6,7 +6,7 @@ use mathlib.Core.Option.{Option, none, some}
 use Rattle.signed.specs.Choose.{if_then_else_}
 use Rattle.fault.specs.Fault.{lower}
 use Rattle.json_tree.specs.Tree.{Json, Fields, textTree}
-use Rattle.words.specs.declared.Privacy.the-variants.{Public}
+use Rattle.keywords.specs.declared.Privacy.the-variants.{Public}
 use Rattle.json_text.specs.Ascii.{ascii}
 use Rattle.event.specs.Values.{object, member, isType}
 use Rattle.event.specs.Types.{Details, Event}

@@ -12,11 +12,11 @@ use Rattle.date_time.specs.Utc.{isUtc}
 use Rattle.duration.specs.declared.Span.{Span}
 use Rattle.duration.specs.declared.Span.the-variants as span
 use Rattle.duration.specs.Length.{lengthOf}
-use Rattle.words.specs.declared.FreeBusy.{FreeBusy}
-use Rattle.words.specs.declared.FreeBusy.the-variants as status
-use Rattle.words.specs.declared.Privacy.{Privacy}
-use Rattle.words.specs.declared.Privacy.the-variants.{Private}
-use Rattle.words.specs.Marks.{freeBusyOf, privacyOf}
+use Rattle.keywords.specs.declared.FreeBusy.{FreeBusy}
+use Rattle.keywords.specs.declared.FreeBusy.the-variants as status
+use Rattle.keywords.specs.declared.Privacy.{Privacy}
+use Rattle.keywords.specs.declared.Privacy.the-variants.{Private}
+use Rattle.keywords.specs.Marks.{freeBusyOf, privacyOf}
 use Rattle.event.specs.Types.{Text, Length}
 use Rattle.event.specs.Values.{isNull, boolean, string, word}
 use Rattle.event.specs.Reading.{Reading, right, wrong, orWrong}

@@ -11,12 +11,12 @@ use Rattle.json_tree.specs.Tree.{Json, Fields}
 use Rattle.rule.specs.declared.Frequency.{Frequency}
 use Rattle.rule.specs.declared.Frequency.the-variants.{Daily, Weekly, Monthly, Yearly}
 use Rattle.rule.specs.Written.{NDay, RecurrenceRule}
-use Rattle.words.specs.declared.Rate.{Rate}
-use Rattle.words.specs.declared.Rate.the-variants as rate
-use Rattle.words.specs.declared.Named.{Named}
-use Rattle.words.specs.declared.Named.the-variants.{Number, Wrong}
-use Rattle.words.specs.Rules.{frequencyOf, weekdayOf, skipFault, rscaleFault}
-use Rattle.words.specs.Months.{monthOf}
+use Rattle.keywords.specs.declared.Rate.{Rate}
+use Rattle.keywords.specs.declared.Rate.the-variants as rate
+use Rattle.keywords.specs.declared.Named.{Named}
+use Rattle.keywords.specs.declared.Named.the-variants.{Number, Wrong}
+use Rattle.keywords.specs.Rules.{frequencyOf, weekdayOf, skipFault, rscaleFault}
+use Rattle.keywords.specs.Months.{monthOf}
 use Rattle.json_text.specs.Ascii.{ascii}
 use Rattle.event.specs.Values.{word, array, object, integer, member, isType}
 use Rattle.event.specs.Properties.{readUntil}

@@ -4,7 +4,7 @@ use mathlib.Core.Bool.{Bool}
 use mathlib.Core.List.{List}
 use mathlib.Core.Option.{Option}
 use Rattle.rule.specs.Written.{RecurrenceRule}
-use Rattle.words.specs.declared.Privacy.{Privacy}
+use Rattle.keywords.specs.declared.Privacy.{Privacy}
 
 -- A text: the place of its first byte, and the bytes between the quotes.
 pub record Text : Type 0 where

@@ -2,7 +2,7 @@
 use Prim.Native.Nat.{ℕ}
 use mathlib.Core.List.{List, []}
 use mathlib.Core.Path.{_≡_, ap, sym, subst, _∙_}
-use Rattle.words.specs.declared.Privacy.{Privacy}
+use Rattle.keywords.specs.declared.Privacy.{Privacy}
 use Rattle.property.specs.Inner.From.{nameIn, valueIn}
 use Rattle.event.specs.Event.{eventFault, eventOf}
 use Rattle.event.specs.Overrides.{readOverrides}

@@ -65,7 +65,7 @@ fn is_type(text: &[u8], at: usize) -> bool
     if byte(text, at) != 0x22 {
         return false;
     }
-    words::types::is_event(word(text, at))
+    keywords::types::is_event(word(text, at))
 }
 
 fn is_event(text: &[u8], ends: &[u32], at: usize) -> bool

@@ -8,8 +8,8 @@ mod spots;
 mod times;
 pub mod whole;
 
+use keywords::Privacy;
 use property::Place;
-use words::Privacy;
 
 // What was read of a member, with its fault, 0 where there is none: a moment, in seconds from 1600-01-01T00:00:00;
 pub struct Moment {

@@ -2,7 +2,7 @@
 ghost use Prim.Native.Nat.{ℕ};
 ghost use mathlib.Core.Bool.{true, false};
 ghost use mathlib.Core.Path.{_≡_};
-ghost use Rattle.words.specs.declared.Privacy.the-variants.{Public};
+ghost use Rattle.keywords.specs.declared.Privacy.the-variants.{Public};
 ghost use Rattle.property.specs.Inner.From.{fromFlag, fromSetting, fieldsIn};
 ghost use Rattle.json_text.specs.Ascii.{ascii};
 ghost use Rattle.event.specs.Properties.{fromStatus, readBusy, readBoolean, readPrivacy};
@@ -12,6 +12,8 @@ ghost use Rattle.event_text.specs.Inner.Held.{fromMark, fromAccess};
 ghost use Rattle.property.specs.Inner.Rows.{RowTo};
 use crate::Access;
 use crate::Mark;
+use keywords::FreeBusy;
+use keywords::Privacy;
 use property::Flag;
 use property::Place;
 use property::Setting;
@@ -22,8 +24,6 @@ use property::rows::place;
 use property::vocabulary::ALL_DAY;
 use property::vocabulary::PRIVACY;
 use property::vocabulary::STATUS;
-use words::FreeBusy;
-use words::Privacy;
 
 fn status(read: FreeBusy) -> Mark
     ensures { λ r. ⌜ fromMark r ≡ fromStatus read ⌝ }

@@ -5,10 +5,10 @@ use crate::print::number;
 use crate::print::passage;
 use crate::print::say;
 use event_text::Head;
+use keywords::Privacy;
 use override_text::Own;
 use override_text::patches::patch;
 use property::Place;
-use words::Privacy;
 
 fn privacy(p: Privacy) {
     match p {

@@ -1,5 +1,4 @@
 // The expansion of an event: whatever arrives, one answer, the table's length, and the table or an untouched buffer.
-ghost use mathlib.Core.Path.{_≡_};
 ghost use Rattle.json_ends.specs.Inner.Ends.{Ends};
 ghost use Rattle.call_definitions.specs.Call.{expandText};
 ghost use Rattle.call_definitions.specs.Results.{zonesOf, Gives};
@@ -11,13 +10,6 @@ use opening::whole::open_text;
 use record::window::since_1600;
 use writer::Done;
 use writer::nothing::put_trailer_alone;
-
-// A number without a table.
-fn refused(answer: u32) -> Done
-    ensures { λ r. ⌜ (r .answer ≡ answer) × (r .length ≡ 0) ⌝ }
-{
-    Done { answer, length: 0 }
-}
 
 // 10 to 12 are found before the lists are read; a secret event shows none of them. The table of ends says nothing yet.
 pub fn expand_in(
@@ -35,11 +27,11 @@ pub fn expand_in(
     ensures { λ r. ⌜ Gives (expandText (zonesOf (now (name .entry)) initial (now (instants .entry)) (now (offsets .entry))) (now (text .entry)) from to (now (buffer .entry))) (r .answer) (r .length) (now (buffer .exit)) ⌝ }
 {
     match open_text(text, ends) {
-        Opening::Refused(answer) => refused(answer),
+        Opening::Refused(answer) => Done { answer, length: 0 },
         Opening::Accepted(head) => {
             let answer = call_fault(text, head, name, initial, instants, offsets, from, to);
             if answer != 0 {
-                return refused(answer);
+                return Done { answer, length: 0 };
             }
             let privacy = head.privacy;
             if is_secret(privacy) {

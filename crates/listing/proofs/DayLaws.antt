@@ -15,7 +15,7 @@ use Rattle.track.proofs.PlainLaws.{has-early, has-over, has-picked}
 use Rattle.matcher.specs.declared.Terms.{Terms}
 use Rattle.matcher.specs.Inner.Walk.{picksOnBy}
 use Rattle.window.specs.Inner.Lists.{listIn}
-use Rattle.window.proofs.ListLaws.{list-split, list-same, list-nothing, list-first}
+use Rattle.window.proofs.ListLaws.{list-parts, list-same, list-nothing, list-first}
 use Rattle.listing.specs.Inner.Lists.{Listed, startOr}
 use Rattle.listing.specs.Inner.Chunks.{Listable, Stopped}
 
@@ -69,9 +69,8 @@ module _ (p : ℕ → Bool) (first end : ℕ) (before : List ℕ) (at : ℕ) whe
 
     more-days : (n : ℕ) → listIn p first (day + n - first) ≡ listIn p first (day - first) ++ listIn p day n
     more-days n =
-        let parts : day + n - first ≡ (day - first) + n = omega (arith, l .low) in
-        let there : first + (day - first) ≡ day = omega (arith, l .low) in
-        ap (listIn p first) parts ∙ (list-split p first (day - first) n ∙ ap (λ (d : ℕ). listIn p first (day - first) ++ listIn p d n) there)
+        let rest : day + n - day ≡ n = omega arith in
+        list-parts p first day (day + n) (l .low) (omega arith) ∙ ap (λ (k : ℕ). listIn p first (day - first) ++ listIn p day k) rest
 
     -- days that the rule has not
     pub days-pass : (x n : ℕ) → x ≡ day → day + n ≤ end → ((j : ℕ) → x ≤ j → j < x + n → p j ≡ false) → DaysAt p first end before at after (day + n) count
@@ -159,15 +158,12 @@ module _ (t : Track) (row : List Bool) (begin from end to : ℕ) (e : EarlierOf 
         let all : next ≡ to = omega (arith, l .high) in
         let least = l .low in
         let most = e .first in
-        let parts : end - from ≡ (next - from) + (end - next) = omega arith in
-        let there : from + (next - from) ≡ next = omega arith in
         let whole : listIn (hasDay t row begin) from (end - from) ≡ listIn (picksOnBy (t .terms) row) from (next - from) =
-        ap (listIn (hasDay t row begin) from) parts
-        ∙ (list-split (hasDay t row begin) from (next - from) (end - next)
+        list-parts (hasDay t row begin) from next end least (omega arith)
         ∙ (ap (λ (xs : List ℕ). listIn (hasDay t row begin) from (next - from) ++ xs)
-        (list-nothing (hasDay t row begin) (from + (next - from)) (end - next) (λ j low high. behind j (omega arith) (omega arith)))
+        (list-nothing (hasDay t row begin) next (end - next) (λ j low high. behind j (omega arith) (omega arith)))
         ∙ (append-nil (listIn (hasDay t row begin) from (next - from))
-        ∙ list-same (hasDay t row begin) (picksOnBy (t .terms) row) from (next - from) (λ j low high. sym (picked j low (omega arith)))))) in
+        ∙ list-same (hasDay t row begin) (picksOnBy (t .terms) row) from (next - from) (λ j low high. sym (picked j low (omega arith))))) in
         record {
           size = l .size;
           few = l .few;
@@ -210,18 +206,16 @@ module _ (t : Track) (row : List Bool) (begin first end : ℕ) where
   from-start : first ≤ begin → (next : ℕ) → begin + 1 ≤ next
       → listIn (startOr t row begin) first (next - first) ≡ begin ∷ listIn (hasDay t row begin) (begin + 1) (next - (begin + 1))
   from-start low next high =
-      let parts : next - first ≡ (begin - first) + suc (next - (begin + 1)) = omega arith in
-      let there : first + (begin - first) ≡ begin = omega arith in
+      let parts : next - begin ≡ suc (next - (begin + 1)) = omega arith in
       let one : suc begin ≡ begin + 1 = omega arith in
-      ap (listIn (startOr t row begin) first) parts
-      ∙ (list-split (startOr t row begin) first (begin - first) (suc (next - (begin + 1)))
-      ∙ (ap (λ (xs : List ℕ). xs ++ listIn (startOr t row begin) (first + (begin - first)) (suc (next - (begin + 1))))
+      list-parts (startOr t row begin) first begin next low (omega arith)
+      ∙ (ap (λ (xs : List ℕ). xs ++ listIn (startOr t row begin) begin (next - begin))
       (list-nothing (startOr t row begin) first (begin - first) (λ j least most. start-early j (omega arith)))
-      ∙ (ap (λ (d : ℕ). listIn (startOr t row begin) d (suc (next - (begin + 1)))) there
+      ∙ (ap (listIn (startOr t row begin) begin) parts
       ∙ (list-first (startOr t row begin) begin (next - (begin + 1)) start-own
       ∙ ap (λ (xs : List ℕ). begin ∷ xs)
       (ap (λ (d : ℕ). listIn (startOr t row begin) d (next - (begin + 1))) one
-      ∙ list-same (startOr t row begin) (hasDay t row begin) (begin + 1) (next - (begin + 1)) (λ j least most. start-other j (λ same. omega arith)))))))
+      ∙ list-same (startOr t row begin) (hasDay t row begin) (begin + 1) (next - (begin + 1)) (λ j least most. start-other j (λ same. omega arith))))))
 
   pub start-within : first ≤ begin → (before after : List ℕ) (count next : ℕ) → 1 ≤ length before
       → Stopped (hasDay t row begin) (begin + 1) end (set before 0 begin) 1 after count next

@@ -27,7 +27,7 @@ use Rattle.track.proofs.LeapLaws.{month-not-early}
 use Rattle.track.proofs.PlainLaws.{part-size}
 use Rattle.track.proofs.AlikeLaws.{month-kind, picks-kind, unset-none, out-none}
 use Rattle.window.specs.Inner.Lists.{listIn}
-use Rattle.window.proofs.ListLaws.{list-same, list-nothing}
+use Rattle.window.proofs.ListLaws.{list-same, list-nothing, list-below}
 use Rattle.listing.specs.Inner.Lists.{hitOn, Listed, Collected, Offsets, Copied}
 use Rattle.listing.specs.Inner.Kinds.{kindDays, ListAt}
 use Rattle.listing.specs.Inner.Parts.{ByMonths, Chosen, Kinds, Room, ListedPart}
@@ -49,19 +49,6 @@ list-shift p q first a (suc n) h =
         → map (λ d. first + d) (if b then a ∷ listIn q (suc a) n else listIn q (suc a) n) ≡ (if c then (first + a) ∷ listIn p (suc (first + a)) n else listIn p (suc (first + a)) n)
     go true c e later = rw (← e) (ap (λ (l : List ℕ). (first + a) ∷ l) later)
     go false c e later = rw (← e) later
-
--- its entries lie where it begins and ends
-list-below : (p : ℕ → Bool) (a n k : ℕ) → k < length (listIn p a n) → getD (listIn p a n) k 0 < a + n
-unfolding listIn
-list-below p a zero k h = absurd (omega arith)
-list-below p a (suc n) k h = go (p a) k h (λ i. list-below p (suc a) n i)
-  where
-    go : (b : Bool) (k : ℕ) → k < length (if b then a ∷ listIn p (suc a) n else listIn p (suc a) n)
-        → ((i : ℕ) → i < length (listIn p (suc a) n) → getD (listIn p (suc a) n) i 0 < suc a + n)
-        → getD (if b then a ∷ listIn p (suc a) n else listIn p (suc a) n) k 0 < a + suc n
-    go true zero h later = omega arith
-    go true (suc k) h later = omega (arith, later k (omega arith))
-    go false k h later = omega (arith, later k h)
 
 -- ---- no day
 

@@ -3,7 +3,7 @@ use dates::Dates;
 use writer::Form;
 
 pub mod limits;
-pub mod lists;
+mod lists;
 mod rules;
 pub mod whole;
 

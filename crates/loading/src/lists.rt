@@ -21,7 +21,7 @@ use override_text::lists::overrides;
 use property::Place;
 
 // The rules of a list that was read without a fault. The flags are room for eight rows.
-pub fn load_list(
+pub(crate) fn load_list(
     text: &[u8],
     ends: &[u32],
     place: Place,
@@ -40,7 +40,7 @@ pub fn load_list(
 }
 
 // The first 256 overrides: more are not accepted. They do not depend on the event's own details but for what their patches leave as it is.
-pub fn load_overrides(
+pub(crate) fn load_overrides(
     text: &[u8],
     ends: &[u32],
     place: Place,

@@ -13,7 +13,7 @@ use mir.Val.{SFits, toZ, ofZ}
 use mir.Facts.{toZ-ofZ}
 use Rattle.signed.specs.Choose.{if_then_else_}
 use Rattle.zone.specs.Table.{validTable}
-use Rattle.words.specs.declared.Privacy.{Privacy}
+use Rattle.keywords.specs.declared.Privacy.{Privacy}
 use Rattle.call_definitions.specs.Window.{validWindow}
 use Rattle.call_definitions.specs.Bytes.{ZoneTable}
 use Rattle.call_definitions.specs.Answer.{isSecret, otherZone, answerFor}

@@ -6,10 +6,10 @@ ghost use Rattle.call_definitions.specs.Results.{zonesOf};
 ghost use Rattle.property.specs.Inner.From.{nameIn};
 ghost use Rattle.opening.specs.Inner.Refusal.{refusalFor};
 use event_text::Head;
+use keywords::Privacy;
 use property::Place;
 use property::strings::word;
 use record::window::valid_window;
-use words::Privacy;
 
 pub fn is_secret(privacy: Privacy) -> bool
     ensures { λ r. ⌜ r ≡ isSecret privacy ⌝ }
@@ -47,7 +47,7 @@ fn other_zone(text: &[u8], zone: Place, name: &[u8]) -> bool
 {
     match zone {
         Place::None => false,
-        Place::At(at) => !words::is(word(text, at), name),
+        Place::At(at) => !keywords::is(word(text, at), name),
     }
 }
 

@@ -9,10 +9,10 @@ use crate::Shown;
 use crate::When;
 use date_time::DateTime;
 use duration::Span;
+use keywords::FreeBusy;
 use property::Flag;
 use property::Passage;
 use property::Place;
-use words::FreeBusy;
 
 pub(crate) fn when(d: DateTime) -> When
     ensures { λ r. ⌜ whenIn r ≡ fromLocal d ⌝ }

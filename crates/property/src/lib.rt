@@ -19,7 +19,7 @@ pub enum Flag {
 
 // Who may see an event, or the fault.
 pub enum Setting {
-    Is(words::Privacy),
+    Is(keywords::Privacy),
     Fault(u32),
 }
 

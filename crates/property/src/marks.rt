@@ -10,9 +10,9 @@ use crate::strings::is_word;
 use crate::strings::word;
 use json_tree::Kind;
 use json_tree::kinds::kind;
-use words::FreeBusy;
-use words::marks::free_busy;
-use words::marks::privacy;
+use keywords::FreeBusy;
+use keywords::marks::free_busy;
+use keywords::marks::privacy;
 
 pub fn read_busy(text: &[u8], at: usize) -> FreeBusy
     ensures { λ r. ⌜ ((l : ℕ) → fromStatus r ≡ readBusy (treeAt l (now (text .entry)) at)) ⌝ }

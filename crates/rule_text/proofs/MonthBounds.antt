@@ -11,9 +11,9 @@ use borrow.Author.Tests.{leb-true}
 use Rattle.signed.specs.Choose.{if_then_else_}
 use Rattle.json_text.specs.Bytes.{byte, isDigit}
 use Rattle.digits.specs.Digits.{digit}
-use Rattle.words.specs.declared.Named.{Named}
-use Rattle.words.specs.declared.Named.the-variants.{Number, Wrong}
-use Rattle.words.specs.Months.{monthWritten, monthOf}
+use Rattle.keywords.specs.declared.Named.{Named}
+use Rattle.keywords.specs.declared.Named.the-variants.{Number, Wrong}
+use Rattle.keywords.specs.Months.{monthWritten, monthOf}
 use Rattle.json_tree.specs.Tree.{Json}
 use Rattle.event.specs.Values.{word}
 use Rattle.event.specs.Reading.{orWrong}

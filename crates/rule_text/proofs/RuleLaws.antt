@@ -17,9 +17,9 @@ use Rattle.rule.specs.declared.End.{End}
 use Rattle.rule.specs.declared.Rule.{Rule}
 use Rattle.rule.specs.Written.{NDay, RecurrenceRule}
 use Rattle.rule.specs.Inner.Read.{written, Sized}
-use Rattle.words.specs.declared.Named.{Named}
-use Rattle.words.specs.declared.Named.the-variants.{Number, Wrong}
-use Rattle.words.specs.Rules.{weekdayOf}
+use Rattle.keywords.specs.declared.Named.{Named}
+use Rattle.keywords.specs.declared.Named.the-variants.{Number, Wrong}
+use Rattle.keywords.specs.Rules.{weekdayOf}
 use Rattle.json_text.specs.Ascii.{ascii}
 use Rattle.event.specs.Values.{word}
 use Rattle.event.specs.Reading.{wrong, orWrong, optional}

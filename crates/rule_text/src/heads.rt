@@ -11,8 +11,8 @@ use crate::members::type_in;
 use crate::spelled::fault_of;
 use crate::spelled::number_of;
 use fault::lower;
+use keywords::Rate;
 use rule::Frequency;
-use words::Rate;
 
 fn frequency_of(x: Rate) -> Frequency
     ensures { λ r. ⌜ r ≡ fromRate x .value ⌝ }

@@ -20,6 +20,8 @@ use crate::spelled::read_scale;
 use crate::spelled::read_skip;
 use crate::spelled::read_type;
 use crate::spelled::read_weekday;
+use keywords::Named;
+use keywords::Rate;
 use property::Place;
 use property::rows::place;
 use property::vocabulary::DAY;
@@ -30,8 +32,6 @@ use property::vocabulary::NTH;
 use property::vocabulary::RSCALE;
 use property::vocabulary::SKIP;
 use property::vocabulary::TYPE;
-use words::Named;
-use words::Rate;
 
 // The fault of the `@type`.
 pub(crate) fn type_in(text: &[u8], at: usize, row: &[usize], name: &[u8]) -> u32

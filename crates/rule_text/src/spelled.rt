@@ -5,10 +5,10 @@ ghost use mathlib.Core.Path.{_≡_};
 ghost use Rattle.json_tree.specs.Tree.{treeAt};
 ghost use Rattle.event.specs.Rules.{typed, fromRate, fromNamed, readFrequency, readWeekday, readMonth, readScale, readSkip};
 use json_text::bytes::byte;
+use keywords::Named;
+use keywords::Rate;
 use property::strings::is_word;
 use property::strings::word;
-use words::Named;
-use words::Rate;
 
 pub(crate) fn read_frequency(text: &[u8], at: usize) -> Rate
     ensures { λ r. ⌜ ((l : ℕ) → fromRate r ≡ readFrequency (treeAt l (now (text .entry)) at)) ⌝ }
@@ -16,7 +16,7 @@ pub(crate) fn read_frequency(text: &[u8], at: usize) -> Rate
     if !is_word(text, at) {
         return Rate::Fault(6);
     }
-    words::rules::frequency(word(text, at))
+    keywords::rules::frequency(word(text, at))
 }
 
 pub(crate) fn read_weekday(text: &[u8], at: usize) -> Named
@@ -25,7 +25,7 @@ pub(crate) fn read_weekday(text: &[u8], at: usize) -> Named
     if !is_word(text, at) {
         return Named::Wrong(6);
     }
-    words::rules::weekday(word(text, at))
+    keywords::rules::weekday(word(text, at))
 }
 
 pub(crate) fn read_month(text: &[u8], at: usize) -> Named
@@ -34,7 +34,7 @@ pub(crate) fn read_month(text: &[u8], at: usize) -> Named
     if !is_word(text, at) {
         return Named::Wrong(6);
     }
-    words::months::month(word(text, at))
+    keywords::months::month(word(text, at))
 }
 
 // The fault of an `rscale`.
@@ -44,7 +44,7 @@ pub(crate) fn read_scale(text: &[u8], at: usize) -> u32
     if !is_word(text, at) {
         return 6;
     }
-    words::rules::rscale(word(text, at))
+    keywords::rules::rscale(word(text, at))
 }
 
 // The fault of a `skip`.
@@ -54,7 +54,7 @@ pub(crate) fn read_skip(text: &[u8], at: usize) -> u32
     if !is_word(text, at) {
         return 6;
     }
-    words::rules::skip(word(text, at))
+    keywords::rules::skip(word(text, at))
 }
 
 // The fault of an `@type` that must be this one.
@@ -64,7 +64,7 @@ pub(crate) fn read_type(text: &[u8], at: usize, name: &[u8]) -> u32
     if byte(text, at) != 0x22 {
         return 6;
     }
-    if words::is(word(text, at), name) {
+    if keywords::is(word(text, at), name) {
         return 0;
     }
     6

@@ -13,7 +13,7 @@ use dates::Dates;
 use window::Chunk;
 use window::next::day_from;
 
-pub fn count_ids(dates: Dates, rows: &[bool], ids: &[u64], gone: &[bool], from: u64, to: u64) -> u64
+fn count_ids(dates: Dates, rows: &[bool], ids: &[u64], gone: &[bool], from: u64, to: u64) -> u64
     requires { ⌜ Whole dates (length (now rows)) (length (now ids)) (length (now gone)) × Span from to ⌝ }
     ensures { λ r. ⌜ r ≡ length (listIn (datesIn dates (now (rows .entry)) (now (ids .entry)) (now (gone .entry))) from (to - from)) ⌝ }
 {

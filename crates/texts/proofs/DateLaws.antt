@@ -13,8 +13,8 @@ use mir.Facts.{toZ-ofZ}
 use Rattle.signed.specs.Parts.{posPart, negPart}
 use Rattle.signed.proofs.Parts.{parts-le}
 use Rattle.signed.specs.Choose.{if_then_else_}
-use Rattle.words.specs.declared.Privacy.{Privacy}
-use Rattle.words.specs.declared.Privacy.the-variants.{Public, Private, Secret}
+use Rattle.keywords.specs.declared.Privacy.{Privacy}
+use Rattle.keywords.specs.declared.Privacy.the-variants.{Public, Private, Secret}
 use Rattle.event.specs.Types.{Text, Details, Event}
 use Rattle.call_definitions.specs.Window.{epoch, since1600}
 use Rattle.call_definitions.specs.Answer.{isSecret, isPublic, textAnswerFor, textAnswer, dateTimeOf}

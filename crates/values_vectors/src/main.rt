@@ -6,12 +6,12 @@ ghost use lib.ListN.{length};
 use date_time::DateTime;
 use duration::Span;
 use json_text::bytes::byte;
+use keywords::FreeBusy;
+use keywords::Named;
+use keywords::Privacy;
+use keywords::Rate;
 use libc::STDIN_FILENO;
 use libc::STDOUT_FILENO;
-use words::FreeBusy;
-use words::Named;
-use words::Privacy;
-use words::Rate;
 
 fn number(n: u64) {
     io::print_decimal(STDOUT_FILENO, n);
@@ -84,44 +84,44 @@ fn flag(b: bool) {
 // The words of a rule, by the letter of the reader.
 fn rule_word(kind: u8, raw: &[u8]) {
     if kind == b'f' {
-        rate(words::rules::frequency(raw));
+        rate(keywords::rules::frequency(raw));
         return;
     }
     if kind == b'w' {
-        named(words::rules::weekday(raw));
+        named(keywords::rules::weekday(raw));
         return;
     }
     if kind == b'm' {
-        named(words::months::month(raw));
+        named(keywords::months::month(raw));
         return;
     }
     if kind == b'k' {
-        fault(words::rules::skip(raw));
+        fault(keywords::rules::skip(raw));
         return;
     }
-    fault(words::rules::rscale(raw));
+    fault(keywords::rules::rscale(raw));
 }
 
 // The other words.
 fn word(kind: u8, raw: &[u8]) {
     if kind == b'b' {
-        free_busy(words::marks::free_busy(raw));
+        free_busy(keywords::marks::free_busy(raw));
         return;
     }
     if kind == b'p' {
-        privacy(words::marks::privacy(raw));
+        privacy(keywords::marks::privacy(raw));
         return;
     }
     if kind == b'E' {
-        flag(words::types::is_event(raw));
+        flag(keywords::types::is_event(raw));
         return;
     }
     if kind == b'R' {
-        flag(words::types::is_rule(raw));
+        flag(keywords::types::is_rule(raw));
         return;
     }
     if kind == b'N' {
-        flag(words::types::is_nday(raw));
+        flag(keywords::types::is_nday(raw));
         return;
     }
     rule_word(kind, raw);

@@ -106,10 +106,3 @@ first-is p (suc n) d = go (p d) refl (first-is p n (suc d))
               by (ltb d j) (λ f. later .none j (ltb-true d j f) b)
               (λ f. let same : d ≡ j = omega (arith, ltb-false d j f) in subst (λ (k : ℕ). p k ≡ false) same e);
         }
-
--- two tests that agree on the days of a run have the same first day there
-pub first-same : (p q : ℕ → Bool) (n d : ℕ) → ((j : ℕ) → d ≤ j → j < d + n → p j ≡ q j) → firstFrom p n d ≡ firstFrom q n d
-unfolding firstFrom
-first-same p q zero d h = refl
-first-same p q (suc n) d h =
-    rw (h d (omega arith) (omega arith), first-same p q n (suc d) (λ j low high. h j (omega arith) (omega arith)))

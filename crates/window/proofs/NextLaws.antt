@@ -7,7 +7,7 @@ use lib.Dec.{ltb}
 use borrow.Author.Tests.{ltb-true, ltb-false}
 use Rattle.signed.specs.Choose.{if_then_else_}
 use Rattle.rule.proofs.Bools.{by, or-left, or-right}
-use Rattle.window.proofs.FirstLaws.{first-is, first-same}
+use Rattle.window.proofs.FirstLaws.{first-is}
 use Rattle.window.specs.Inner.Next.{nextOf, lower}
 
 pub record Next (p : ℕ → Bool) (a to r : ℕ) : Type 0 where
@@ -38,11 +38,6 @@ module _ (p : ℕ → Bool) (a to : ℕ) (order : a ≤ to) where
 
   pub next-made : (r : ℕ) → Next p a to r → r ≡ nextOf p a to
   next-made r f = next-unique r (nextOf p a to) f next-is
-
--- tests that agree have the same next
-pub next-same : (p q : ℕ → Bool) (a to : ℕ) → ((j : ℕ) → a ≤ j → j < to → p j ≡ q j) → a ≤ to → nextOf p a to ≡ nextOf q a to
-unfolding nextOf
-next-same p q a to h order = first-same p q (to - a) a (λ j low high. h j low (omega arith))
 
 -- the nearer of two
 pub next-lower : (p q : ℕ → Bool) (a to r s : ℕ) → Next p a to r → Next q a to s → Next (λ x. p x || q x) a to (lower r s)

@@ -78,7 +78,7 @@ fn next_unsorted(ids: &[u64], gone: &[bool], at: u64, to: u64) -> u64
 
 // The first date-time from `at` on, and before `to`, that an override names and none excludes; `to` where there is none. Where the ids
 // increase, as those of most texts do, it is found by halving.
-pub fn next_kept(ids: &[u64], gone: &[bool], sorted: bool, at: u64, to: u64) -> u64
+pub(crate) fn next_kept(ids: &[u64], gone: &[bool], sorted: bool, at: u64, to: u64) -> u64
     requires { ⌜ Ordered (now ids) sorted × ((length (now ids) ≡ length (now gone)) × (at ≤ to)) ⌝ }
     ensures { λ r. ⌜ r ≡ nextOf (isKept (now (ids .entry)) (now (gone .entry))) at to ⌝ }
 {
@@ -89,7 +89,7 @@ pub fn next_kept(ids: &[u64], gone: &[bool], sorted: bool, at: u64, to: u64) -> 
 }
 
 // What was next among the overrides, looked for again only where it was passed.
-pub fn renew(ids: &[u64], gone: &[bool], sorted: bool, pending: u64, at: u64, to: u64) -> u64
+pub(crate) fn renew(ids: &[u64], gone: &[bool], sorted: bool, pending: u64, at: u64, to: u64) -> u64
     requires { ⌜ Ordered (now ids) sorted × ((length (now ids) ≡ length (now gone)) × (at ≤ to)) ⌝ }
     ensures { λ r. ⌜ r ≡ renewed (now (ids .entry)) (now (gone .entry)) pending at to ⌝ }
 {
@@ -192,7 +192,7 @@ fn next_hit(hits: &[bool], first: u32, start: u64, at: u64, to: u64) -> u64
 }
 
 // The first date-time of the set from `at` on, and before `to`; `pending` is what comes next among the overrides.
-pub fn next_in(hits: &[bool], first: u32, start: u64, pending: u64, at: u64, to: u64) -> u64
+pub(crate) fn next_in(hits: &[bool], first: u32, start: u64, pending: u64, at: u64, to: u64) -> u64
     requires { ⌜ Stretch first (length (now hits)) at to ⌝ }
     ensures { λ r. ⌜ r ≡ lower (nextOf (isHit (now (hits .entry)) first start) at to) pending ⌝ }
 {

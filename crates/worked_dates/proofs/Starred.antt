@@ -23,8 +23,8 @@ use Rattle.zone.specs.Table as zone
 use Rattle.zone.specs.Table.{transitions, larger, mark, allWithin, increasing, validTable}
 use Rattle.zone.specs.Lookup.{lastAfter, offsetAt, utcAt}
 use Rattle.json_walk.specs.Strings.{same}
-use Rattle.words.specs.declared.Privacy.{Privacy}
-use Rattle.words.specs.declared.Privacy.the-variants.{Public, Private, Secret}
+use Rattle.keywords.specs.declared.Privacy.{Privacy}
+use Rattle.keywords.specs.declared.Privacy.the-variants.{Public, Private, Secret}
 use Rattle.event.specs.Types.{Event}
 use Rattle.call_definitions.specs.Window.{since1600, since1970, validWindow}
 use Rattle.call_definitions.specs.Occurrence.{datesOf, occurrences, overrideAt, withStart, patchedBy, detailsAt}

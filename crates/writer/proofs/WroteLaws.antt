@@ -10,7 +10,7 @@ use lib.Seq.{sets, length-sets}
 use Rattle.record.proofs.RowLaws.{sets-append}
 use Rattle.window.specs.Inner.Lists.{listIn}
 use Rattle.window.specs.Inner.Handed.{Handed}
-use Rattle.window.proofs.ListLaws.{list-split, list-nothing}
+use Rattle.window.proofs.ListLaws.{list-parts, list-nothing}
 use Rattle.writer.specs.declared.Form.{Form}
 use Rattle.writer.specs.Inner.Rows.{rowsOf}
 use Rattle.writer.specs.Inner.Writes.{Writes, WritesAt, WroteChunk}
@@ -35,20 +35,10 @@ module _ (row : ℕ → List ℕ) (p : ℕ → Bool) (from to at : ℕ) (before 
         let nothing : rowsOf row (listIn p second (to - second)) ≡ [] = ap (rowsOf row) none ∙ rows-none row in
         record { bytes = sym (ap (sets buf place) nothing) ∙ w .rest; place = omega (arith, ap length none, w .room) }
 
-    -- and what was written from there on
-    pub wrote-on : (later end : ℕ) (after : List ℕ) → WroteTo row p second to place buf later end after → WroteTo row p from to at before later end after
-    wrote-on later end after l =
-        record { low = omega (arith, w .low, l .low); order = l .order; same = l .same ∙ w .same; room = l .room ∙ w .room; rest = l .rest ∙ w .rest }
-
     module _ (room out : List ℕ) (count next : ℕ) (h : Handed p second to room out count next) where
       lists : listIn p second (to - second) ≡ take count out ++ listIn p next (to - next)
       lists =
-          let parts : to - second ≡ (next - second) + (to - next) = omega (arith, h .low, h .high) in
-          let there : second + (next - second) ≡ next = omega (arith, h .low) in
-          ap (listIn p second) parts
-          ∙ (list-split p second (next - second) (to - next)
-          ∙ (ap (λ (k : ℕ). listIn p second (next - second) ++ listIn p k (to - next)) there
-          ∙ ap (λ (l : List ℕ). l ++ listIn p next (to - next)) (sym (h .ids))))
+          list-parts p second next to (h .low) (h .high) ∙ ap (λ (l : List ℕ). l ++ listIn p next (to - next)) (sym (h .ids))
 
       sum : length (listIn p second (to - second)) ≡ length (take count out) + length (listIn p next (to - next))
       sum = ap length lists ∙ length-append (take count out) (listIn p next (to - next))

@@ -5,8 +5,8 @@ use mathlib.Core.List.{List, []}
 use mathlib.Core.Option.{Option, none, some}
 use Rattle.fault.specs.Fault.{lower}
 use Rattle.json_tree.specs.Tree.{Json, Fields, noField, textTree}
-use Rattle.words.specs.declared.Privacy.{Privacy}
-use Rattle.words.specs.declared.Privacy.the-variants.{Public}
+use Rattle.keywords.specs.declared.Privacy.{Privacy}
+use Rattle.keywords.specs.declared.Privacy.the-variants.{Public}
 use Rattle.json_text.specs.Ascii.{ascii}
 use Rattle.event.specs.Event.{detailsIn}
 use Rattle.event.specs.Properties.{readUid, readUpdated, readZone, readPrivacy}

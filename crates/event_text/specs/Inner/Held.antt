@@ -3,7 +3,7 @@ use Prim.Native.Nat.{ℕ}
 use mathlib.Core.Bool.{Bool}
 use mathlib.Core.List.{List}
 use mathlib.Core.Option.{Option}
-use Rattle.words.specs.declared.Privacy.{Privacy}
+use Rattle.keywords.specs.declared.Privacy.{Privacy}
 use Rattle.property.specs.Inner.From.{textIn, nameIn, valueIn}
 use Rattle.event.specs.Types
 use Rattle.event.specs.Types.{Text, Length}

@@ -6,7 +6,7 @@ use mathlib.Core.Option.{Option}
 use lib.IntN.{ℤ}
 use Rattle.signed.specs.Choose.{if_then_else_}
 use Rattle.zone.specs.Table.{validTable}
-use Rattle.words.specs.declared.Privacy.{Privacy}
+use Rattle.keywords.specs.declared.Privacy.{Privacy}
 use Rattle.call_definitions.specs.Window.{validWindow}
 use Rattle.call_definitions.specs.Bytes.{ZoneTable}
 use Rattle.call_definitions.specs.Answer.{isSecret, otherZone}

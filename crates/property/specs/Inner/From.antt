@@ -5,8 +5,8 @@ use mathlib.Core.List.{List}
 use mathlib.Core.Option.{Option, none, some}
 use Rattle.json_walk.specs.Walk.{membersOf}
 use Rattle.json_tree.specs.Tree.{Json, Fields, fieldsOf, treeAt}
-use Rattle.words.specs.declared.Privacy.{Privacy}
-use Rattle.words.specs.declared.Privacy.the-variants.{Private}
+use Rattle.keywords.specs.declared.Privacy.{Privacy}
+use Rattle.keywords.specs.declared.Privacy.the-variants.{Private}
 use Rattle.event.specs.Types.{Text}
 use Rattle.event.specs.Reading.{Reading, right, wrong}
 use Rattle.property.specs.Inner.Words.{wordAt}

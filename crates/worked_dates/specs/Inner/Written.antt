@@ -9,7 +9,7 @@ use Rattle.gregorian.specs.Days.{dayOf}
 use Rattle.rule.specs.declared.Frequency.{Frequency}
 use Rattle.rule.specs.Written.{NDay, RecurrenceRule}
 use Rattle.little_endian.specs.Bytes.{bytesOf, twos}
-use Rattle.words.specs.declared.Privacy.the-variants.{Public}
+use Rattle.keywords.specs.declared.Privacy.the-variants.{Public}
 use Rattle.event.specs.Types.{Details, Override, Event}
 use Rattle.call_definitions.specs.Window.{since1970}
 use Rattle.call_definitions.specs.Bytes.{ZoneTable, trailerOf}

@@ -12,27 +12,21 @@ open-text-requires c κs = search needs
 enum-known-answer : tie.Need-enum-known-answer
 enum-known-answer c = search needs
 
-refused-requires : tie.Need-refused-requires
-refused-requires c κs = search needs
-
 enum-known-head : tie.Need-enum-known-head
 enum-known-head c = search needs
 
 call-fault-requires : tie.Need-call-fault-requires
 call-fault-requires c κs = search needs
 
-refused-requires-2 : tie.Need-refused-requires-2
-refused-requires-2 c κs = search needs
-
 same-length : tie.Need-same-length
 same-length c = search needs
 
 returns : tie.Need-returns
 returns c =
-    let f = c .before .before in
+    let f = c .before in
     let q = f .before .before .before .before .before .before .before .before .before .before .before .before in
     let fine = was-accepted _ _ _ (f .before .before .before .before .before .before .open-text .ensures) _ (f .before .before .head .given .1) in
-    rw (c .refused2 .ensures .0, c .refused2 .ensures .1) (refused-gives _ _ _ fine _ _ _ _ _ _ (q .fits .initial) (q .fits .from) (q .fits .to) _ (f .call-fault .ensures) _ (c .before .if1 .taken))
+    refused-gives _ _ _ fine _ _ _ _ _ _ (q .fits .initial) (q .fits .from) (q .fits .to) _ (f .call-fault .ensures) _ (c .if1 .taken)
 
 is-secret-requires : tie.Need-is-secret-requires
 is-secret-requires c κs = search needs
@@ -71,8 +65,7 @@ same-length-4 c = search needs
 
 returns-3 : tie.Need-returns-3
 returns-3 c =
-    let said = was-refused _ _ _ (c .before .before .before .before .before .before .open-text .ensures) _ (c .before .before .answer .given .1) in
-    rw (c .refused .ensures .0, c .refused .ensures .1) (text-refused _ _ _ _ _ _ said)
+    text-refused _ _ _ _ _ _ (was-refused _ _ _ (c .before .before .before .before .before .open-text .ensures) _ (c .before .answer .given .1))
 
 same-length-5 : tie.Need-same-length-5
 same-length-5 c = search needs
@@ -94,10 +87,8 @@ expand-in-spec =
     (tie.spec
     open-text-requires
     enum-known-answer
-    refused-requires
     enum-known-head
     call-fault-requires
-    refused-requires-2
     same-length
     returns
     is-secret-requires

@@ -1,3 +1,4 @@
+-- `smocurant_description` meets its contract, which is that of `texts::calls::description_place`.
 use mir.Facts.{toZ-ofZ}
 use borrow.Author.Needs.{needs}
 use Rattle.smocurant.proofs.occurrence_texts.smocurant_description.Statement.{statement}

@@ -1,3 +1,4 @@
+-- `smocurant_title` meets its contract, which is that of `texts::calls::title_place`.
 use mir.Facts.{toZ-ofZ}
 use borrow.Author.Needs.{needs}
 use Rattle.smocurant.proofs.occurrence_texts.smocurant_title.Statement.{statement}
