@@ -8,6 +8,7 @@ use lib.ListN.{length, take, drop, length-append, length-drop, drop-of-length-le
 use lib.Seq.{length-sets, length-take-le, take-at, drop-at, drop-drop}
 use Rattle.matcher.specs.Inner.Layout.{listSize, listsSize}
 use Rattle.property.specs.Inner.From.{nameIn, valueIn}
+use Rattle.event.specs.Event.{eventOf}
 use Rattle.event.specs.Overrides.{readOverrides}
 use Rattle.event.specs.Reading.{optional}
 use Rattle.event.specs.Rules.{readRules}
@@ -20,7 +21,10 @@ use Rattle.event_text.specs.Inner.Held.{fromHead}
 use Rattle.event_text.specs.declared.Head.{Head}
 use Rattle.event_text.proofs.FromHead.{head-zone, head-accepted}
 use Rattle.call_definitions.specs.Bytes.{isFloating}
+use Rattle.call_definitions.specs.Occurrence.{datesOf}
 use Rattle.dates.specs.declared.Tracks.{Tracks}
+use Rattle.dates.specs.Inner.Loaded.{loaded}
+use Rattle.dates.specs.Inner.Stands.{Stands}
 use Rattle.dates.specs.Inner.Tracked.{Tracked}
 use Rattle.window.specs.Inner.Sorted.{Ordered}
 use Rattle.loading.specs.Inner.Loads.{Loadable, Loads}
@@ -111,6 +115,12 @@ module _ (s t : List ℕ) (h : Head) (limit rows : ℕ) (ids₀ : List ℕ) (gon
       (kept : SettledRules false (h .start) limit (optional [] readRules (valueIn inner s (h .rules)) .value) rules first)
       (left : SettledRules true (h .start) limit (optional [] readRules (valueIn inner s (h .excluded)) .value) excluded second)
     where
+      first-rows : first ≡ take listSize rows₁
+      first-rows = sym (ap (take listSize) parts ∙ take-at first second listSize (halves .0))
+
+      second-rows : second ≡ drop listSize rows₁
+      second-rows = sym (ap (drop listSize) parts ∙ drop-at first second listSize (halves .0))
+
       -- the event as it is kept
       pub event-kept : (floating sorted : Bool) → floating ≡ isFloating (nameIn s (h .zone)) → Ordered (take n ids₁) sorted
           → Loads s limit rows₁ ids₁ gone₁ places₁
@@ -133,7 +143,7 @@ module _ (s t : List ℕ) (h : Head) (limit rows : ℕ) (ids₀ : List ℕ) (gon
               begins = season s t h limit _ _ _ _ p .high;
             };
             stands =
-                rw (parts, take-at first second listSize (halves .0), drop-at first second listSize (halves .0))
+                subst (Stands (datesOf (eventOf s)) limit) (λ i. loaded (h .start) rules (first-rows i) excluded (second-rows i) (take n ids₁) (take n gone₁))
                 (kept-stands s h (p .taken .head) (p .taken .accepted) o (own s) ids₀ ids₁ gone₀ gone₁ places₀ places₁ n room filled limit (p .within) rules first excluded second kept left);
             details = kept-details s h (p .taken .head) (p .taken .accepted) o (own s) ids₀ ids₁ gone₀ gone₁ places₀ places₁ n room filled;
             floating = floats ∙ ap isFloating (sym (head-zone s h (p .taken .head)));
