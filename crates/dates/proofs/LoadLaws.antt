@@ -11,6 +11,7 @@ use Rattle.rule.specs.declared.Rule.{Rule}
 use Rattle.rule.specs.Written.{RecurrenceRule}
 use Rattle.rule.specs.Gives.{endDay}
 use Rattle.rule.specs.Inner.Read.{written}
+use Rattle.matcher.specs.Inner.Layout.{rowSize}
 use Rattle.track.specs.declared.Track.{Track}
 use Rattle.track.specs.Inner.Settle.{cleared, SettledBy, Settled}
 use Rattle.track.proofs.SettleLaws.{settled}
@@ -25,19 +26,19 @@ module _ (flags row rest : List Bool) (at : ℕ) (room : at ≤ length flags) wh
   pub rows-kept : take at (take at flags ++ (row ++ rest)) ≡ take at flags
   rows-kept = take-at (take at flags) (row ++ rest) at (length-take-le at flags room)
 
-  pub row-back : length row ≡ 1574 → take 1574 (drop at (take at flags ++ (row ++ rest))) ≡ row
-  row-back size = rw (drop-at (take at flags) (row ++ rest) at (length-take-le at flags room)) (take-at row rest 1574 size)
+  pub row-back : length row ≡ rowSize → take rowSize (drop at (take at flags ++ (row ++ rest))) ≡ row
+  row-back size = rw (drop-at (take at flags) (row ++ rest) at (length-take-le at flags room)) (take-at row rest rowSize size)
 
 pub row-added : (excluded : Bool) (r : Rule) (start limit : ℕ) (ts next : Tracks) (before row rest : List Bool) (t : Track) (n : ℕ)
-    → 1574 * ts .count ≤ length before → n ≡ 1574 → length row ≡ n → next ≡ put ts t → SettledBy excluded r start limit (cleared n) row t
-    → Added excluded r start limit ts before (take (1574 * ts .count) before ++ (row ++ rest)) next
+    → rowSize * ts .count ≤ length before → n ≡ rowSize → length row ≡ n → next ≡ put ts t → SettledBy excluded r start limit (cleared n) row t
+    → Added excluded r start limit ts before (take (rowSize * ts .count) before ++ (row ++ rest)) next
 row-added excluded r start limit ts next before row rest t n room size same is s =
     record {
       track = t;
       list = is;
-      kept = rows-kept before row rest (1574 * ts .count) room;
+      kept = rows-kept before row rest (rowSize * ts .count) room;
       settled =
-          rw (row-back before row rest (1574 * ts .count) room (same ∙ size))
+          rw (row-back before row rest (rowSize * ts .count) room (same ∙ size))
           (subst (λ (k : ℕ). SettledBy excluded r start limit (cleared k) row t) size s);
     }
 
@@ -57,27 +58,27 @@ drop-take (suc n) m (x ∷ l) =
 
 module _ (excluded : Bool) (start limit : ℕ) where
   pub settles-more : (rs : List RecurrenceRule) (ts : List Track) (before after : List Bool) (r : RecurrenceRule) (t : Track)
-      → Settles excluded start limit rs ts before → take (1574 * length ts) after ≡ take (1574 * length ts) before
-      → Settled excluded start limit r (take 1574 (drop (1574 * length ts) after)) t
+      → Settles excluded start limit rs ts before → take (rowSize * length ts) after ≡ take (rowSize * length ts) before
+      → Settled excluded start limit r (take rowSize (drop (rowSize * length ts) after)) t
       → Settles excluded start limit (rs ++ (r ∷ [])) (ts ++ (t ∷ [])) after
   settles-more [] [] before after r t s same new = (new, tt)
   settles-more [] (u ∷ ts) before after r t s same new = absurd s
   settles-more (q ∷ rs) [] before after r t s same new = absurd s
   settles-more (q ∷ rs) (u ∷ ts) before after r t s same new =
-      let long : 1574 * length (u ∷ ts) ≡ 1574 + 1574 * length ts = omega arith in
-      let parts : take (1574 + 1574 * length ts) after ≡ take (1574 + 1574 * length ts) before = subst (λ (n : ℕ). take n after ≡ take n before) long same in
-      let head : take 1574 after ≡ take 1574 before =
-      sym (take-take 1574 (1574 + 1574 * length ts) after (omega arith)) ∙ (ap (take 1574) parts ∙ take-take 1574 (1574 + 1574 * length ts) before (omega arith))
+      let long : rowSize * length (u ∷ ts) ≡ rowSize + rowSize * length ts = omega arith in
+      let parts : take (rowSize + rowSize * length ts) after ≡ take (rowSize + rowSize * length ts) before = subst (λ (n : ℕ). take n after ≡ take n before) long same in
+      let head : take rowSize after ≡ take rowSize before =
+      sym (take-take rowSize (rowSize + rowSize * length ts) after (omega arith)) ∙ (ap (take rowSize) parts ∙ take-take rowSize (rowSize + rowSize * length ts) before (omega arith))
       in
-      let tail : take (1574 * length ts) (drop 1574 after) ≡ take (1574 * length ts) (drop 1574 before) =
-      sym (drop-take 1574 (1574 * length ts) after) ∙ (ap (drop 1574) parts ∙ drop-take 1574 (1574 * length ts) before)
+      let tail : take (rowSize * length ts) (drop rowSize after) ≡ take (rowSize * length ts) (drop rowSize before) =
+      sym (drop-take rowSize (rowSize * length ts) after) ∙ (ap (drop rowSize) parts ∙ drop-take rowSize (rowSize * length ts) before)
       in
-      let place : drop (1574 * length (u ∷ ts)) after ≡ drop (1574 * length ts) (drop 1574 after) =
-      ap (λ (n : ℕ). drop n after) long ∙ sym (drop-drop (1574 * length ts) 1574 after)
+      let place : drop (rowSize * length (u ∷ ts)) after ≡ drop (rowSize * length ts) (drop rowSize after) =
+      ap (λ (n : ℕ). drop n after) long ∙ sym (drop-drop (rowSize * length ts) rowSize after)
       in (
         subst (λ (row : List Bool). Settled excluded start limit q row u) (sym head) (s .0),
-        settles-more rs ts (drop 1574 before) (drop 1574 after) r t (s .1) tail
-            (subst (λ (l : List Bool). Settled excluded start limit r (take 1574 l) t) place new),
+        settles-more rs ts (drop rowSize before) (drop rowSize after) r t (s .1) tail
+            (subst (λ (l : List Bool). Settled excluded start limit r (take rowSize l) t) place new),
       )
 
 weeks-more : (ts : List Track) (t : Track) → Weeks ts → t .terms .first < 7 → Weeks (ts ++ (t ∷ []))
@@ -87,7 +88,7 @@ weeks-more (u ∷ ts) t w h = (w .0, weeks-more ts t (w .1) h)
 module _ (excluded : Bool) (r : Rule) (start limit : ℕ) (ts : Tracks) (before after : List Bool) (next : Tracks)
     (room : Loading (ts .count) (length (ts .list)) (length before) start limit) (same-length : length after ≡ length before)
     (a : Added excluded r start limit ts before after next) where
-  added : Settled excluded start limit (written r) (take 1574 (drop (1574 * ts .count) after)) (a .track)
+  added : Settled excluded start limit (written r) (take rowSize (drop (rowSize * ts .count) after)) (a .track)
   added = settled excluded r start limit _ (a .track) (room .low) (room .within) (a .settled)
 
   more : tracksOf next ≡ tracksOf ts ++ (a .track ∷ [])
@@ -102,8 +103,8 @@ module _ (excluded : Bool) (r : Rule) (start limit : ℕ) (ts : Tracks) (before 
   loaded-settles rs s =
       let few = room .room in
       let size : length (tracksOf ts) ≡ ts .count = length-take-le (ts .count) (ts .list) (omega arith) in
-      let kept : take (1574 * length (tracksOf ts)) after ≡ take (1574 * length (tracksOf ts)) before = rw size (a .kept) in
-      let new : Settled excluded start limit (written r) (take 1574 (drop (1574 * length (tracksOf ts)) after)) (a .track) = rw size added in
+      let kept : take (rowSize * length (tracksOf ts)) after ≡ take (rowSize * length (tracksOf ts)) before = rw size (a .kept) in
+      let new : Settled excluded start limit (written r) (take rowSize (drop (rowSize * length (tracksOf ts)) after)) (a .track) = rw size added in
       rw more (settles-more excluded start limit rs (tracksOf ts) before after (written r) (a .track) s kept new)
 
   pub loaded-tracked : Tracked ts (length before) → Tracked next (length after)

@@ -12,6 +12,7 @@ use Rattle.rule.specs.Written.{RecurrenceRule}
 use Rattle.rule.specs.Lists.{any}
 use Rattle.rule.specs.Gives.{endDay, onDay, gives}
 use Rattle.rule.proofs.Bools.{by}
+use Rattle.matcher.specs.Inner.Layout.{rowSize}
 use Rattle.matcher.specs.Inner.Member.{isFirst}
 use Rattle.matcher.proofs.GiveLaws.{never-timed, not-falling, early-day}
 use Rattle.track.specs.declared.Track.{Track}
@@ -47,7 +48,7 @@ module _ (excluded : Bool) (start limit : ℕ) where
   some-gives [] (t ∷ ts) flags s d low high other = absurd s
   some-gives (r ∷ rs) [] flags s d low high other = absurd s
   some-gives (r ∷ rs) (t ∷ ts) flags s d low high other =
-      rw (s .0 .days d low high other) (ap (λ (b : Bool). hasDay t (take 1574 flags) (start / 86400) d || b) (some-gives rs ts (drop 1574 flags) (s .1) d low high other))
+      rw (s .0 .days d low high other) (ap (λ (b : Bool). hasDay t (take rowSize flags) (start / 86400) d || b) (some-gives rs ts (drop rowSize flags) (s .1) d low high other))
 
   none-gives : (rs : List RecurrenceRule) (x : ℕ) → ((r : RecurrenceRule) → gives excluded r start x ≡ false) → someGives excluded rs start x ≡ false
   unfolding someGives any
@@ -57,7 +58,7 @@ module _ (excluded : Bool) (start limit : ℕ) where
 some-early : (ts : List Track) (flags : List Bool) (begin d : ℕ) → d < begin → someHas ts flags begin d ≡ false
 unfolding someHas hasDay
 some-early [] flags begin d h = refl
-some-early (t ∷ ts) flags begin d h = rw (lt-ltb d begin h) (some-early ts (drop 1574 flags) begin d h)
+some-early (t ∷ ts) flags begin d h = rw (lt-ltb d begin h) (some-early ts (drop rowSize flags) begin d h)
 
 -- ---- the set
 

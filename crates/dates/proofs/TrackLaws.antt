@@ -8,6 +8,7 @@ use native.Mathlib.Numerals.{add-one}
 use lib.ListN.{length, take, drop, getD, length-drop}
 use lib.Seq.{drop-cons, drop-drop, drop-length, length-take-le, getD-take}
 use Rattle.signed.specs.Choose.{if_then_else_}
+use Rattle.matcher.specs.Inner.Layout.{rowSize}
 use Rattle.track.specs.declared.Track.{Track}
 use Rattle.track.specs.Inner.Runs.{hasDay, marked, run, Marking}
 use Rattle.track.proofs.RunLaws.{marked-length, marked-run, run-same}
@@ -24,28 +25,28 @@ weeks-at (t ∷ l) (suc i) d w h = weeks-at l i d (w .1) (omega arith)
 pub record EachAt (list : List Track) (flags : List Bool) (value : Bool) (first begin : ℕ) (before hits : List Bool) (i : ℕ) : Type 0 where
   pub within : i ≤ length list
   pub size : length hits ≡ length before
-  pub same : markEach (drop i list) (drop (1574 * i) flags) value first begin hits ≡ markEach list flags value first begin before
+  pub same : markEach (drop i list) (drop (rowSize * i) flags) value first begin hits ≡ markEach list flags value first begin before
 
 module _ (list : List Track) (flags : List Bool) (value : Bool) (first begin : ℕ) (before : List Bool) where
   pub each-starts : EachAt list flags value first begin before before 0
   each-starts = record { within = omega arith; size = refl; same = refl }
 
   pub each-goes-on : (hits next : List Bool) (i : ℕ) (d t : Track) (row : List Bool) → EachAt list flags value first begin before hits i → i < length list
-      → t ≡ getD list i d → row ≡ take 1574 (drop (1574 * i) flags) → next ≡ marked (hasDay t row begin) value first hits
+      → t ≡ getD list i d → row ≡ take rowSize (drop (rowSize * i) flags) → next ≡ marked (hasDay t row begin) value first hits
       → EachAt list flags value first begin before next (i + 1)
   unfolding markEach
   each-goes-on hits next i d t row a more is-t is-row is-next =
       let rest : drop i list ≡ getD list i d ∷ drop (suc i) list = drop-cons list i d more in
-      let further : 1574 * suc i ≡ 1574 * i + 1574 = omega arith in
-      let rows : drop (1574 * suc i) flags ≡ drop 1574 (drop (1574 * i) flags) = ap (λ (n : ℕ). drop n flags) further ∙ sym (drop-drop 1574 (1574 * i) flags) in
-      let made : next ≡ marked (hasDay (getD list i d) (take 1574 (drop (1574 * i) flags)) begin) value first hits = is-next ∙ rw (is-t, is-row) in
+      let further : rowSize * suc i ≡ rowSize * i + rowSize = omega arith in
+      let rows : drop (rowSize * suc i) flags ≡ drop rowSize (drop (rowSize * i) flags) = ap (λ (n : ℕ). drop n flags) further ∙ sym (drop-drop rowSize (rowSize * i) flags) in
+      let made : next ≡ marked (hasDay (getD list i d) (take rowSize (drop (rowSize * i) flags)) begin) value first hits = is-next ∙ rw (is-t, is-row) in
       rw (add-one i)
       (record {
         within = more;
         size = ap length is-next ∙ (marked-length (hasDay t row begin) value first hits ∙ a .size);
         same =
             rw (rows, made)
-            (sym (ap (λ (l : List Track). markEach l (drop (1574 * i) flags) value first begin hits) rest) ∙ a .same);
+            (sym (ap (λ (l : List Track). markEach l (drop (rowSize * i) flags) value first begin hits) rest) ∙ a .same);
       })
 
   pub each-ends : (hits : List Bool) (i : ℕ) → EachAt list flags value first begin before hits i → length list ≤ i
@@ -68,15 +69,15 @@ pub each-run : (list : List Track) (flags : List Bool) (value : Bool) (q : ℕ �
 unfolding markEach someHas
 each-run [] flags value q first begin n = refl
 each-run (t ∷ ts) flags value q first begin n =
-    ap (markEach ts (drop 1574 flags) value first begin) (marked-run (hasDay t (take 1574 flags) begin) q value first n)
-    ∙ (each-run ts (drop 1574 flags) value (λ d. if hasDay t (take 1574 flags) begin d then value else q d) first begin n
-    ∙ run-same _ _ first n (λ d low high. either (hasDay t (take 1574 flags) begin d) (someHas ts (drop 1574 flags) begin d) value (q d)))
+    ap (markEach ts (drop rowSize flags) value first begin) (marked-run (hasDay t (take rowSize flags) begin) q value first n)
+    ∙ (each-run ts (drop rowSize flags) value (λ d. if hasDay t (take rowSize flags) begin d then value else q d) first begin n
+    ∙ run-same _ _ first n (λ d low high. either (hasDay t (take rowSize flags) begin d) (someHas ts (drop rowSize flags) begin d) value (q d)))
 
 -- ---- the i-th rule and its row
 
-pub row-is : (flags : List Bool) (i : ℕ) → take (1574 * i + 1574 - 1574 * i) (drop (1574 * i) flags) ≡ take 1574 (drop (1574 * i) flags)
+pub row-is : (flags : List Bool) (i : ℕ) → take (rowSize * i + rowSize - rowSize * i) (drop (rowSize * i) flags) ≡ take rowSize (drop (rowSize * i) flags)
 row-is flags i =
-    let less : 1574 * i + 1574 - 1574 * i ≡ 1574 = omega arith in
+    let less : rowSize * i + rowSize - rowSize * i ≡ rowSize = omega arith in
     rw less
 
 module _ (ts : Tracks) (flags : List Bool) (k : Tracked ts (length flags)) (i : ℕ) (h : i < ts .count) (d : Track) where
@@ -87,12 +88,12 @@ module _ (ts : Tracks) (flags : List Bool) (k : Tracked ts (length flags)) (i : 
   track-at = sym (getD-take (ts .count) (ts .list) i d h)
 
   pub marking : (first n m : ℕ) → Run first n → m ≡ n
-      → Marking (getD (ts .list) i d) (length (take (1574 * i + 1574 - 1574 * i) (drop (1574 * i) flags))) first m
+      → Marking (getD (ts .list) i d) (length (take (rowSize * i + rowSize - rowSize * i) (drop (rowSize * i) flags))) first m
   marking first n m r same =
-      let rest = length-drop (1574 * i) flags in
-      let size : 1574 ≤ length (drop (1574 * i) flags) = omega (arith, k .rows) in
+      let rest = length-drop (rowSize * i) flags in
+      let size : rowSize ≤ length (drop (rowSize * i) flags) = omega (arith, k .rows) in
       record {
-        row-length = ap length (row-is flags i) ∙ length-take-le 1574 (drop (1574 * i) flags) size;
+        row-length = ap length (row-is flags i) ∙ length-take-le rowSize (drop (rowSize * i) flags) size;
         week = rw track-at (weeks-at (tracksOf ts) i d (k .weeks) (omega (arith, tracks-length)));
         low = r .low;
         high = omega (arith, r .high);

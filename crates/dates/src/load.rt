@@ -6,6 +6,7 @@ ghost use Rattle.rule.specs.Inner.Read.{Sized};
 ghost use Rattle.track.specs.Inner.Settle.{cleared, Settling, SettledBy};
 ghost use Rattle.dates.specs.Inner.Load.{put, Loading, Added};
 use super::Tracks;
+use matcher::layout::ROW;
 use rule::Frequency;
 use rule::Rule;
 use track::Track;
@@ -61,7 +62,7 @@ pub fn load(
     ensures { λ r. ⌜ Added excluded rule start limit tracks (now (flags .entry)) (now (flags .exit)) r ⌝ }
 {
     let i = tracks.count;
-    let at = 1574 * i;
-    let track = settle_row(excluded, rule, start, limit, &mut flags[at..at + 1574]);
+    let at = ROW * i;
+    let track = settle_row(excluded, rule, start, limit, &mut flags[at..at + ROW]);
     put_track(tracks, track)
 }

@@ -7,6 +7,7 @@ ghost use Rattle.track.specs.Inner.Settle.{cleared};
 ghost use Rattle.dates.specs.Inner.Tracked.{markEach, tracksOf, Tracked, Run};
 ghost use Rattle.dates.specs.Inner.Overrides.{counts, isDate, namesDay};
 use super::Tracks;
+use matcher::layout::ROW;
 
 // The days of each rule of a list get the value; the event begins on the day `begin`.
 pub(crate) fn mark_tracks(
@@ -24,8 +25,8 @@ pub(crate) fn mark_tracks(
     let list = tracks.list;
     let mut i = 0;
     while i < count {
-        let at = 1574 * i;
-        let row = &flags[at..at + 1574];
+        let at = ROW * i;
+        let row = &flags[at..at + ROW];
         track::runs::mark_run(list[i], row, hits, first, begin, value);
         i += 1;
     }

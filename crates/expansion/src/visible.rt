@@ -9,6 +9,7 @@ use crate::table::put_table;
 use event_text::Head;
 use loading::limits::limit_of;
 use loading::whole::load;
+use matcher::layout::LISTS;
 use writer::Done;
 
 // The room of the longest lists: 16 rules, and 256 overrides.
@@ -26,7 +27,7 @@ pub(crate) fn put_visible(
     requires { ⌜ Visible (now text) (now ends) head initial (now instants) (now offsets) from to ⌝ }
     ensures { λ r. ⌜ ((name : List ℕ) → Gives (fitted (tableFor (zonesOf name initial (now (instants .entry)) (now (offsets .entry))) (eventOf (now (text .entry))) from to) (now (buffer .entry))) (r .answer) (r .length) (now (buffer .exit))) ⌝ }
 {
-    let mut rows = [false; 25184];
+    let mut rows = [false; LISTS];
     let mut ids = [0u64; 256];
     let mut gone = [false; 256];
     let mut places = [0usize; 256];

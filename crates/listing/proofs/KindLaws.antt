@@ -9,6 +9,7 @@ use lib.ListN.{length, take, drop, getD, set, length-set, length-append, replica
 use lib.Seq.{length-take-le, getD-take, getD-drop, getD-append-add, getD-set-same, getD-set-other}
 use borrow.Author.Tests.{ltb-true, ltb-false}
 use Rattle.rule.proofs.Bools.{by}
+use Rattle.months.specs.Inner.Layout.{kindsSize, kindSize, lastAt}
 use Rattle.window.specs.Inner.Lists.{listIn}
 use Rattle.rule.proofs.Counting.{count-most}
 use Rattle.window.proofs.ListLaws.{list-same, list-length}
@@ -25,7 +26,7 @@ piece-at l at n k d h = getD-take (at + n - at) (drop at l) k d (omega arith) �
 -- ---- one list
 
 module _ (row : List Bool) (before : List ℕ) (at : ℕ) (mid : List ℕ) (end : ℕ) (c : Collected row 0 before at mid end) (few : length row ≤ 31)
-    (room : at + 32 ≤ length before) where
+    (room : at + kindSize ≤ length before) where
   xs : List ℕ
   xs = listIn (hitOn row 0) 0 (length row)
 
@@ -46,36 +47,36 @@ module _ (row : List Bool) (before : List ℕ) (at : ℕ) (mid : List ℕ) (end 
       ∙ (ap (λ (l : List ℕ). getD l (at + k) 0) (c .listed .days)
       ∙ (ap (λ (n : ℕ). getD (take at before ++ xs) (n + k) 0) (sym front) ∙ getD-append-add (take at before) xs k 0))
 
-  pub list-written : (number : ℕ) → number ≡ end - at + 1 → Wrote row before at (set mid (at + 31) number)
+  pub list-written : (number : ℕ) → number ≡ end - at + 1 → Wrote row before at (set mid (at + lastAt) number)
   unfolding xs
   list-written number is =
       let whole = count in
       let most = c .listed .most in
       let size = c .listed .size in
       record {
-        size = length-set mid (at + 31) number ∙ c .listed .size;
+        size = length-set mid (at + lastAt) number ∙ c .listed .size;
         held =
             record {
-              number = getD-set-same mid (at + 31) number 0 (omega arith) ∙ omega arith;
-              each = λ k h. getD-set-other mid (at + 31) (at + k) number 0 (λ same. omega arith) ∙ there k h;
+              number = getD-set-same mid (at + lastAt) number 0 (omega arith) ∙ omega arith;
+              each = λ k h. getD-set-other mid (at + lastAt) (at + k) number 0 (λ same. omega arith) ∙ there k h;
             };
-        low = λ j h. getD-set-other mid (at + 31) j number 0 (λ same. omega arith) ∙ c .low j h;
-        high = λ j h. getD-set-other mid (at + 31) j number 0 (λ same. omega arith) ∙ c .high j (omega arith);
+        low = λ j h. getD-set-other mid (at + lastAt) j number 0 (λ same. omega arith) ∙ c .low j h;
+        high = λ j h. getD-set-other mid (at + lastAt) j number 0 (λ same. omega arith) ∙ c .high j (omega arith);
       }
 
 -- ---- the lists that are kept
 
-pub lists-none : (placed : Bool) (fl : List Bool) → KeptLists placed fl (replicate 896 0)
+pub lists-none : (placed : Bool) (fl : List Bool) → KeptLists placed fl (replicate kindsSize 0)
 lists-none placed fl =
     record {
-      size = length-replicate {A = ℕ} 896 0;
-      list = λ w days kind more. absurd (omega (arith, more, getD-replicate {A = ℕ} 896 (rowOf w days + 31) 0 0 (omega (arith, kind .week, kind .low, kind .high))));
+      size = length-replicate {A = ℕ} kindsSize 0;
+      list = λ w days kind more. absurd (omega (arith, more, getD-replicate {A = ℕ} kindsSize (rowOf w days + lastAt) 0 0 (omega (arith, kind .week, kind .low, kind .high))));
     }
 
-held-moves : (xs before after : List ℕ) (at : ℕ) → length xs ≤ 31 → ((j : ℕ) → at ≤ j → j < at + 32 → getD after j 0 ≡ getD before j 0) → Held xs before at → Held xs after at
+held-moves : (xs before after : List ℕ) (at : ℕ) → length xs ≤ 31 → ((j : ℕ) → at ≤ j → j < at + kindSize → getD after j 0 ≡ getD before j 0) → Held xs before at → Held xs after at
 held-moves xs before after at few same h =
     record {
-      number = same (at + 31) (omega arith) (omega arith) ∙ h .number;
+      number = same (at + lastAt) (omega arith) (omega arith) ∙ h .number;
       each = λ k less. same (at + k) (omega arith) (omega arith) ∙ h .each k less;
     }
 
@@ -85,7 +86,7 @@ kind-few placed fl w days = omega (arith, list-length (picksIn placed fl w days)
 
 -- a kind whose list was there already
 pub list-already : (placed : Bool) (fl : List Bool) (w days : ℕ) → Kind w days → (rows : List Bool) (lists : List ℕ) → Kept placed fl rows → KeptLists placed fl lists
-    → 0 < getD lists (rowOf w days + 31) 0 → ListAt placed fl w days rows lists (rowOf w days)
+    → 0 < getD lists (rowOf w days + lastAt) 0 → ListAt placed fl w days rows lists (rowOf w days)
 list-already placed fl w days kind rows lists kept held more =
     record {
       rows-kept = kept;
@@ -108,7 +109,7 @@ module _ (placed : Bool) (fl : List Bool) (weekday days : ℕ) (kind : Kind week
     own : Held (kindDays placed fl weekday days) after (rowOf weekday days)
     own = subst (λ (l : List ℕ). Held l after (rowOf weekday days)) row-listed (wrote .held)
 
-    each : (w n : ℕ) → Kind w n → 0 < getD after (rowOf w n + 31) 0 → Held (kindDays placed fl w n) after (rowOf w n)
+    each : (w n : ℕ) → Kind w n → 0 < getD after (rowOf w n + lastAt) 0 → Held (kindDays placed fl w n) after (rowOf w n)
     each w n other more =
         by (ltb (rowOf w n) (rowOf weekday days))
         (λ b.
@@ -127,10 +128,10 @@ module _ (placed : Bool) (fl : List Bool) (weekday days : ℕ) (kind : Kind week
         subst (λ (v : ℕ). Held (kindDays placed fl v n) after (rowOf v n)) same-weekday
         (subst (λ (m : ℕ). Held (kindDays placed fl weekday m) after (rowOf weekday m)) same-days own)))
       where
-        moved : ((j : ℕ) → rowOf w n ≤ j → j < rowOf w n + 32 → getD after j 0 ≡ getD before j 0) → Held (kindDays placed fl w n) after (rowOf w n)
+        moved : ((j : ℕ) → rowOf w n ≤ j → j < rowOf w n + kindSize → getD after j 0 ≡ getD before j 0) → Held (kindDays placed fl w n) after (rowOf w n)
         moved same =
             held-moves (kindDays placed fl w n) before after (rowOf w n) (omega (arith, kind-few placed fl w n, other .high)) same
-            (kept .list w n other (subst (λ (v : ℕ). 0 < v) (same (rowOf w n + 31) (omega arith) (omega arith)) more))
+            (kept .list w n other (subst (λ (v : ℕ). 0 < v) (same (rowOf w n + lastAt) (omega arith) (omega arith)) more))
 
     pub list-kept : ListAt placed fl weekday days rows after (rowOf weekday days)
     list-kept =

@@ -17,6 +17,7 @@ use Rattle.matcher.specs.Inner.Flags.{monthBy}
 use Rattle.matcher.specs.Inner.Walk.{Asked, stepBy, picksOnBy}
 use Rattle.matcher.proofs.WalkLaws.{in-calendar}
 use Rattle.months.specs.Inner.Kinds.{Kind, picksIn}
+use Rattle.months.specs.Inner.Layout.{kindsSize, lastAt, answersSize}
 use Rattle.months.specs.Inner.Rows.{KeptAt}
 use Rattle.months.proofs.RowLaws.{kept-none}
 use Rattle.track.specs.Inner.Skips.{toMonthEnd}
@@ -158,14 +159,14 @@ module _ (t : Terms) (row : List Bool) (x : Day) (c : Chosen t row x (x .monthda
       ∙ ap (λ (k : ℕ). listIn (picksOnBy t row) k (x .monthdays)) (omega arith)
 
   module _ (rows : List Bool) (lists : List ℕ) (at : ℕ) (l : ListAt (t .placed) row (firstWeekday x) (x .monthdays) rows lists at) where
-    pub month-number : 1 ≤ getD lists (at + 31) 0
+    pub month-number : 1 ≤ getD lists (at + lastAt) 0
     month-number = omega (arith, l .held .number)
 
-    pub month-few : getD lists (at + 31) 0 ≤ 32
+    pub month-few : getD lists (at + lastAt) 0 ≤ 32
     month-few = omega (arith, l .held .number, kind-few (t .placed) row (firstWeekday x) (x .monthdays), chosen-kind t row x (x .monthdays) c .high)
 
     -- the days of its kind, which are lent
-    module _ (n : ℕ) (is : n ≡ getD lists (at + 31) 0 - 1) where
+    module _ (n : ℕ) (is : n ≡ getD lists (at + lastAt) 0 - 1) where
       pub month-fits : at + n ≤ length lists
       month-fits = omega (arith, month-few, l .within, l .kept .size)
 
@@ -212,7 +213,7 @@ module _ (t : Terms) (row : List Bool) (x : Day) (c : Chosen t row x (x .monthda
 
 -- ---- before any month
 
-pub kinds-none : (t : Terms) (row : List Bool) → Kinds t row (replicate 960 false) (replicate 896 0)
+pub kinds-none : (t : Terms) (row : List Bool) → Kinds t row (replicate answersSize false) (replicate kindsSize 0)
 kinds-none t row = record { rows-kept = kept-none (t .placed) row; lists-kept = lists-none (t .placed) row }
 
 -- days of one month are few

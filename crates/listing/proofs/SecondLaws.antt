@@ -10,6 +10,7 @@ use borrow.Author.Tests.{ltb-true, ltb-false, eqb-true, eq-eqb}
 use Rattle.signed.specs.Choose.{if_then_else_}
 use Rattle.rule.specs.Gives.{onDay}
 use Rattle.rule.proofs.Bools.{by}
+use Rattle.matcher.specs.Inner.Layout.{rowSize}
 use Rattle.track.specs.declared.Track.{Track}
 use Rattle.track.specs.Inner.Runs.{hasDay}
 use Rattle.dates.specs.declared.Tracks.{Tracks}
@@ -96,9 +97,9 @@ module _ (start : ℕ) (rules : Tracks) (ruleFlags : List Bool) (excluded : Trac
   no-rule : tracksOf excluded ≡ []
   no-rule = ap (λ (n : ℕ). take n (excluded .list)) none
 
-  by-rule : (d : ℕ) → byRules (loaded start rules ruleFlags excluded excludedFlags ids gone) d ≡ startOr rule (take 1574 ruleFlags) (start / 86400) d
+  by-rule : (d : ℕ) → byRules (loaded start rules ruleFlags excluded excludedFlags ids gone) d ≡ startOr rule (take rowSize ruleFlags) (start / 86400) d
   unfolding byRules someHas startOr
-  by-rule d = rw (only-rule, no-rule) (go (eqb d (start / 86400)) (hasDay rule (take 1574 ruleFlags) (start / 86400) d))
+  by-rule d = rw (only-rule, no-rule) (go (eqb d (start / 86400)) (hasDay rule (take rowSize ruleFlags) (start / 86400) d))
     where
       go : (a b : Bool) → (if a then true else (b || false)) ≡ (if a then true else b)
       go true b = refl
@@ -106,6 +107,6 @@ module _ (start : ℕ) (rules : Tracks) (ruleFlags : List Bool) (excluded : Trac
       go false false = refl
 
   pub timed : (x : ℕ) → isIn (loaded start rules ruleFlags excluded excludedFlags ids gone) x
-      ≡ (if eqb (x % 86400) (start % 86400) then startOr rule (take 1574 ruleFlags) (start / 86400) (x / 86400) else false)
+      ≡ (if eqb (x % 86400) (start % 86400) then startOr rule (take rowSize ruleFlags) (start / 86400) (x / 86400) else false)
   unfolding isIn
   timed x = rw (none-named true ids gone x few, none-named false ids gone x few, by-rule (x / 86400))

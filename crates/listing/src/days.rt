@@ -5,6 +5,8 @@ ghost use Rattle.listing.specs.Inner.Chunks.{Listable, Stopped};
 use crate::DayChunk;
 use crate::parts::list_part;
 use matcher::Terms;
+use months::layout::ANSWERS;
+use months::layout::KINDS;
 
 // The days from `first` on and before `end`, after the first entries of the list, up to the month that might not have room.
 pub(crate) fn list_days(
@@ -18,8 +20,8 @@ pub(crate) fn list_days(
     requires { ⌜ Listable terms (now flags) first end at (length (now days)) ⌝ }
     ensures { λ r. ⌜ Stopped (picksOnBy terms (now (flags .entry))) first end (now (days .entry)) at (now (days .exit)) (r .count) (r .next) ⌝ }
 {
-    let mut rows = [false; 960];
-    let mut lists = [0u32; 896];
+    let mut rows = [false; ANSWERS];
+    let mut lists = [0u32; KINDS];
     let mut x = rule::days::day_of(first);
     let mut count = at;
     let mut day = first;

@@ -12,6 +12,7 @@ use crate::collect::copy_from;
 use crate::kinds::keep_list;
 use matcher::Terms;
 use months::kinds::keep;
+use months::layout::LAST;
 use rule::Day;
 use track::alike::first_weekday;
 
@@ -30,7 +31,7 @@ fn list_month(
 {
     let weekday = first_weekday(x);
     let list = keep_list(flags, terms.placed, weekday, x.monthdays, rows, lists);
-    let n = lists[list + 31] as usize - 1;
+    let n = lists[list + LAST] as usize - 1;
     copy_from(&lists[list..list + n], x.number, days, at)
 }
 

@@ -4,6 +4,7 @@ ghost use mathlib.Core.Path.{_≡_};
 ghost use Prim.Native.Nat.{_-_, _≤_};
 ghost use lib.ListN.{length};
 ghost use Rattle.rule.specs.declared.Frequency.the-variants.{Monthly};
+ghost use Rattle.matcher.specs.Inner.Layout.{rowSize};
 ghost use Rattle.track.specs.Inner.Runs.{hasDay};
 ghost use Rattle.listing.specs.Inner.Chunks.{Listable, Stopped};
 ghost use Rattle.listing.specs.Inner.Lists.{startOr};
@@ -38,7 +39,7 @@ fn positions_in_months(terms: Terms) -> bool
 
 // Months alike have the same days of the rule.
 pub fn is_by_months(terms: Terms, flags: &[bool]) -> bool
-    requires { ⌜ length (now flags) ≡ 1574 ⌝ }
+    requires { ⌜ length (now flags) ≡ rowSize ⌝ }
     ensures { λ r. ⌜ (r ≡ true → ByMonths terms (now (flags .entry))) × (ByMonths terms (now (flags .entry)) → r ≡ true) ⌝ }
 {
     if !positions_in_months(terms) {

@@ -6,7 +6,9 @@ use mathlib.Core.Path.{_≡_, sym, ap, subst, _∙_}
 use native.Mathlib.Omega.{arith}
 use lib.ListN.{length, take, drop, length-append, length-drop, drop-of-length-le}
 use lib.Seq.{length-sets, length-take-le, take-at, drop-at, drop-drop}
+use Rattle.matcher.specs.Inner.Layout.{listSize, listsSize}
 use Rattle.property.specs.Inner.From.{nameIn, valueIn}
+use Rattle.event.specs.Event.{eventOf}
 use Rattle.event.specs.Overrides.{readOverrides}
 use Rattle.event.specs.Reading.{optional}
 use Rattle.event.specs.Rules.{readRules}
@@ -19,7 +21,10 @@ use Rattle.event_text.specs.Inner.Held.{fromHead}
 use Rattle.event_text.specs.declared.Head.{Head}
 use Rattle.event_text.proofs.FromHead.{head-zone, head-accepted}
 use Rattle.call_definitions.specs.Bytes.{isFloating}
+use Rattle.call_definitions.specs.Occurrence.{datesOf}
 use Rattle.dates.specs.declared.Tracks.{Tracks}
+use Rattle.dates.specs.Inner.Loaded.{loaded}
+use Rattle.dates.specs.Inner.Stands.{Stands}
 use Rattle.dates.specs.Inner.Tracked.{Tracked}
 use Rattle.window.specs.Inner.Sorted.{Ordered}
 use Rattle.loading.specs.Inner.Loads.{Loadable, Loads}
@@ -29,30 +34,30 @@ use Rattle.loading.proofs.KeptLaws.{kept-season, kept-bounds, kept-even
 
 -- ---- the two halves of the rows, lent one after the other
 
-pub first-size : (rows : List Bool) → length rows ≡ 25184 → length (take 12592 rows) ≡ 12592
-first-size rows size = length-take-le 12592 rows (omega (arith, size))
+pub first-size : (rows : List Bool) → length rows ≡ listsSize → length (take listSize rows) ≡ listSize
+first-size rows size = length-take-le listSize rows (omega (arith, size))
 
-module _ (rows first : List Bool) (size : length rows ≡ 25184) (half : length first ≡ 12592) where
+module _ (rows first : List Bool) (size : length rows ≡ listsSize) (half : length first ≡ listSize) where
   once : List Bool
-  once = first ++ drop 12592 rows
+  once = first ++ drop listSize rows
 
-  once-size : length once ≡ 25184
+  once-size : length once ≡ listsSize
   unfolding once
-  once-size = omega (arith, size, half, length-append first (drop 12592 rows), length-drop 12592 rows)
+  once-size = omega (arith, size, half, length-append first (drop listSize rows), length-drop listSize rows)
 
-  pub second-size : length (take (length (first ++ drop 12592 rows) - 12592) (drop 12592 (first ++ drop 12592 rows))) ≡ 12592
+  pub second-size : length (take (length (first ++ drop listSize rows) - listSize) (drop listSize (first ++ drop listSize rows))) ≡ listSize
   unfolding once
-  second-size = length-take-le (length once - 12592) (drop 12592 once) (omega (arith, length-drop 12592 once)) ∙ omega (arith, once-size)
+  second-size = length-take-le (length once - listSize) (drop listSize once) (omega (arith, length-drop listSize once)) ∙ omega (arith, once-size)
 
-  front : take 12592 once ≡ first
+  front : take listSize once ≡ first
   unfolding once
-  front = take-at first (drop 12592 rows) 12592 half
+  front = take-at first (drop listSize rows) listSize half
 
-  nothing-after : drop (length once - 12592) (drop 12592 once) ≡ []
-  nothing-after = drop-drop (length once - 12592) 12592 once ∙ drop-of-length-le once {i = 12592 + (length once - 12592)} (omega (arith, once-size))
+  nothing-after : drop (length once - listSize) (drop listSize once) ≡ []
+  nothing-after = drop-drop (length once - listSize) listSize once ∙ drop-of-length-le once {i = listSize + (length once - listSize)} (omega (arith, once-size))
 
   pub both-back : (second : List Bool)
-      → take 12592 (first ++ drop 12592 rows) ++ (second ++ drop (length (first ++ drop 12592 rows) - 12592) (drop 12592 (first ++ drop 12592 rows)))
+      → take listSize (first ++ drop listSize rows) ++ (second ++ drop (length (first ++ drop listSize rows) - listSize) (drop listSize (first ++ drop listSize rows)))
       ≡ first ++ second
   unfolding once
   both-back second = rw (front, nothing-after, append-nil second)
@@ -106,10 +111,16 @@ module _ (s t : List ℕ) (h : Head) (limit rows : ℕ) (ids₀ : List ℕ) (gon
   pub ids-taken : n ≡ length (take n ids₁)
   ids-taken = sym (length-take-le n ids₁ ids-fit)
 
-  module _ (rules excluded : Tracks) (first second rows₁ : List Bool) (halves : (length first ≡ 12592) × (length second ≡ 12592)) (parts : rows₁ ≡ first ++ second)
+  module _ (rules excluded : Tracks) (first second rows₁ : List Bool) (halves : (length first ≡ listSize) × (length second ≡ listSize)) (parts : rows₁ ≡ first ++ second)
       (kept : SettledRules false (h .start) limit (optional [] readRules (valueIn inner s (h .rules)) .value) rules first)
       (left : SettledRules true (h .start) limit (optional [] readRules (valueIn inner s (h .excluded)) .value) excluded second)
     where
+      first-rows : first ≡ take listSize rows₁
+      first-rows = sym (ap (take listSize) parts ∙ take-at first second listSize (halves .0))
+
+      second-rows : second ≡ drop listSize rows₁
+      second-rows = sym (ap (drop listSize) parts ∙ drop-at first second listSize (halves .0))
+
       -- the event as it is kept
       pub event-kept : (floating sorted : Bool) → floating ≡ isFloating (nameIn s (h .zone)) → Ordered (take n ids₁) sorted
           → Loads s limit rows₁ ids₁ gone₁ places₁
@@ -132,7 +143,7 @@ module _ (s t : List ℕ) (h : Head) (limit rows : ℕ) (ids₀ : List ℕ) (gon
               begins = season s t h limit _ _ _ _ p .high;
             };
             stands =
-                rw (parts, take-at first second 12592 (halves .0), drop-at first second 12592 (halves .0))
+                subst (Stands (datesOf (eventOf s)) limit) (λ i. loaded (h .start) rules (first-rows i) excluded (second-rows i) (take n ids₁) (take n gone₁))
                 (kept-stands s h (p .taken .head) (p .taken .accepted) o (own s) ids₀ ids₁ gone₀ gone₁ places₀ places₁ n room filled limit (p .within) rules first excluded second kept left);
             details = kept-details s h (p .taken .head) (p .taken .accepted) o (own s) ids₀ ids₁ gone₀ gone₁ places₀ places₁ n room filled;
             floating = floats ∙ ap isFloating (sym (head-zone s h (p .taken .head)));

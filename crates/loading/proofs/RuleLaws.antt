@@ -11,6 +11,7 @@ use Rattle.json_tree.specs.Tree.{treeAt}
 use Rattle.rule.specs.declared.Rule.{Rule}
 use Rattle.rule.specs.Written.{RecurrenceRule}
 use Rattle.rule.specs.Inner.Read.{written, Sized}
+use Rattle.matcher.specs.Inner.Layout.{listSize}
 use Rattle.event.specs.Rules.{readRule, readRules}
 use Rattle.rule_text.specs.Inner.Parts.{RuleRead}
 use Rattle.rule_text.specs.Inner.Places.{Places, placesAt}
@@ -26,7 +27,7 @@ pub record LoadedTo (excluded : Bool) (start limit : ℕ) (s places : List ℕ) 
   pub within : i ≤ length places
   pub count : ts .count ≡ i
   pub list : length (ts .list) ≡ 8
-  pub rows : length flags ≡ 12592
+  pub rows : length flags ≡ listSize
   pub settled : SettledRules excluded start limit (rulesAt s (take i places)) ts flags
 
 map-append : (f : ℕ → RecurrenceRule) (a b : List ℕ) → map f (a ++ b) ≡ map f a ++ map f b
@@ -41,7 +42,7 @@ rules-more s places i h =
     ap (map (λ v. readRule (treeAt 14 s v) .value)) one ∙ map-append (λ v. readRule (treeAt 14 s v) .value) (take i places) (getD places i 0 ∷ [])
 
 module _ (excluded : Bool) (start limit : ℕ) (s places : List ℕ) where
-  pub loading-starts : (ts : Tracks) (flags : List Bool) → ts .count ≡ 0 → length (ts .list) ≡ 8 → length flags ≡ 12592 → LoadedTo excluded start limit s places ts flags 0
+  pub loading-starts : (ts : Tracks) (flags : List Bool) → ts .count ≡ 0 → length (ts .list) ≡ 8 → length flags ≡ listSize → LoadedTo excluded start limit s places ts flags 0
   unfolding rulesAt
   loading-starts ts flags c l r =
       record {

@@ -4,6 +4,7 @@ ghost use mathlib.Core.Path.{_≡_};
 ghost use Prim.Native.Nat.{_≤_};
 ghost use lib.ListN.{length};
 ghost use Rattle.json_ends.specs.Inner.Ends.{Ends};
+ghost use Rattle.matcher.specs.Inner.Layout.{listSize};
 ghost use Rattle.property.specs.Inner.From.{valueIn};
 ghost use Rattle.event.specs.Overrides.{readOverrides};
 ghost use Rattle.event.specs.Reading.{optional};
@@ -29,7 +30,7 @@ pub(crate) fn load_list(
     limit: u32,
     flags: &mut [bool],
 ) -> Tracks
-    requires { ⌜ (optional [] readRules (valueIn inner (now text) place) .fault ≡ 0) × (Season start limit × ((length (now flags) ≡ 12592) × Ends (now text) (now ends))) ⌝ }
+    requires { ⌜ (optional [] readRules (valueIn inner (now text) place) .fault ≡ 0) × (Season start limit × ((length (now flags) ≡ listSize) × Ends (now text) (now ends))) ⌝ }
     ensures { λ r. ⌜ SettledRules excluded start limit (optional [] readRules (valueIn inner (now (text .entry)) place) .value) r (now (flags .exit)) ⌝ }
 {
     match place {

@@ -3,6 +3,7 @@ ghost use mathlib.Core.Path.{_≡_};
 ghost use lib.ListN.{length};
 ghost use Rattle.json_ends.specs.Inner.Ends.{Ends};
 ghost use Rattle.json_tree.specs.Tree.{treeAt};
+ghost use Rattle.matcher.specs.Inner.Layout.{listSize};
 ghost use Rattle.event.specs.Rules.{readRules};
 ghost use Rattle.loading.specs.Inner.Rules.{Season, Faultless, rulesAt, SettledRules};
 use dates::Tracks;
@@ -21,7 +22,7 @@ fn load_places(
     limit: u32,
     flags: &mut [bool],
 ) -> Tracks
-    requires { ⌜ Faultless (now text) (now places) × (Season start limit × ((length (now flags) ≡ 12592) × Ends (now text) (now ends))) ⌝ }
+    requires { ⌜ Faultless (now text) (now places) × (Season start limit × ((length (now flags) ≡ listSize) × Ends (now text) (now ends))) ⌝ }
     ensures { λ r. ⌜ SettledRules excluded start limit (rulesAt (now (text .entry)) (now (places .entry))) r (now (flags .exit)) ⌝ }
 {
     let mut tracks = no_tracks();
@@ -45,7 +46,7 @@ pub(crate) fn load_rules(
     limit: u32,
     flags: &mut [bool],
 ) -> Tracks
-    requires { ⌜ (readRules (treeAt 15 (now text) at) .fault ≡ 0) × (Season start limit × ((length (now flags) ≡ 12592) × Ends (now text) (now ends))) ⌝ }
+    requires { ⌜ (readRules (treeAt 15 (now text) at) .fault ≡ 0) × (Season start limit × ((length (now flags) ≡ listSize) × Ends (now text) (now ends))) ⌝ }
     ensures { λ r. ⌜ SettledRules excluded start limit (readRules (treeAt 15 (now (text .entry)) at) .value) r (now (flags .exit)) ⌝ }
 {
     let mut places = [0usize; 8];

@@ -7,11 +7,12 @@ use crate::lists::load_overrides;
 use dates::Dates;
 use event_text::Head;
 use event_text::heads::own_of;
+use matcher::layout::LIST;
 use opening::calls::is_floating;
 use window::sorted::rises;
 use writer::Form;
 
-// Rules are settled up to the day `limit`. The rows are 16 of 1574 flags: eight for the rules, then eight for the excluded rules.
+// Rules are settled up to the day `limit`. The rows are 16: eight for the rules, then eight for the excluded rules.
 pub fn load(
     text: &[u8],
     ends: &[u32],
@@ -31,8 +32,8 @@ pub fn load(
     let barred = head.excluded;
     let overridden = head.overrides;
     let zone = head.zone;
-    let rules = load_list(text, ends, ruled, false, start, limit, &mut rows[..12592]);
-    let excluded = load_list(text, ends, barred, true, start, limit, &mut rows[12592..]);
+    let rules = load_list(text, ends, ruled, false, start, limit, &mut rows[..LIST]);
+    let excluded = load_list(text, ends, barred, true, start, limit, &mut rows[LIST..]);
     let count = load_overrides(text, ends, overridden, ids, gone, places);
     let sorted = rises(&ids[..count]);
     let floating = is_floating(text, zone);

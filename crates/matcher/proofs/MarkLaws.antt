@@ -19,6 +19,7 @@ use Rattle.rule.specs.Inner.Read.{nthFrom, ndays}
 use Rattle.rule.specs.Lists.{any, meets}
 use Rattle.rule.proofs.Bools.{by, or-left, or-right, both, left, right, same-tests}
 use Rattle.matcher.specs.Inner.Flags.{named}
+use Rattle.matcher.specs.Inner.Layout.{weekdaysAt, nthsAt, nthsBack}
 use Rattle.matcher.specs.Inner.Marks.{markOne, markEach, markPlace, markPlaces, markNth, markDays, markAll}
 
 -- ---- one flag
@@ -300,7 +301,7 @@ module _ (fl₀ : List Bool) (at n : ℕ) where
       let none : left ≡ 0 = omega arith in
       rw none at (w .same)
 
-pub weekday-made : (fl next : List Bool) (w : ℕ) (z : ℤ) → w < 7 → next ≡ markPlace fl (84 + 54 * w) (462 + 54 * w) 54 z → next ≡ markNth fl w (some z)
+pub weekday-made : (fl next : List Bool) (w : ℕ) (z : ℤ) → w < 7 → next ≡ markPlace fl (nthsAt + 54 * w) (nthsBack + 54 * w) 54 z → next ≡ markNth fl w (some z)
 unfolding markNth
 weekday-made fl next w z h e = rw (lt-ltb w 7 h) e
 
@@ -312,17 +313,17 @@ pub nth-back : (fl next : List Bool) (w : ℕ) (z : ℤ) → posPart z ≤ 0 →
 unfolding nthFrom
 nth-back fl next w z h k e = rw (le-ltb 0 (posPart z) h, lt-ltb 0 (negPart z) k) e
 
-pub nth-none : (fl next : List Bool) (w : ℕ) (z : ℤ) → posPart z ≤ 0 → negPart z ≤ 0 → next ≡ markOne fl 77 7 w → next ≡ markNth fl w (nthFrom z)
+pub nth-none : (fl next : List Bool) (w : ℕ) (z : ℤ) → posPart z ≤ 0 → negPart z ≤ 0 → next ≡ markOne fl weekdaysAt 7 w → next ≡ markNth fl w (nthFrom z)
 unfolding nthFrom markNth
 nth-none fl next w z h k e = rw (le-ltb 0 (posPart z) h, le-ltb 0 (negPart z) k) e
 
 nth-size : (fl : List Bool) (w : ℕ) (o : Option ℤ) → length (markNth fl w o) ≡ length fl
 unfolding markNth
-nth-size fl w none = mark-length fl 77 7 w
+nth-size fl w none = mark-length fl weekdaysAt 7 w
 nth-size fl w (some z) = go (ltb w 7)
   where
-    go : (b : Bool) → length (if b then markPlace fl (84 + 54 * w) (462 + 54 * w) 54 z else fl) ≡ length fl
-    go true = place-length fl (84 + 54 * w) (462 + 54 * w) 54 z
+    go : (b : Bool) → length (if b then markPlace fl (nthsAt + 54 * w) (nthsBack + 54 * w) 54 z else fl) ≡ length fl
+    go true = place-length fl (nthsAt + 54 * w) (nthsBack + 54 * w) 54 z
     go false = refl
 
 pub record DaysAt (fl₀ : List Bool) (ws : List ℕ) (zs : List ℤ) (fl : List Bool) (i : ℕ) : Type 0 where

@@ -19,6 +19,7 @@ use Rattle.rule.specs.Implied.{daysFrom, monthDaysFrom, monthsFrom}
 use Rattle.rule.specs.Stays.{countsInYear, isNth, meetsNth, meetsDay, meetsMonthDay, meetsMonth, stays, isPlace}
 use Rattle.rule.specs.Inner.Bounds.{InCalendar}
 use Rattle.matcher.specs.Inner.Flags.{named, nthBy, monthBy, dateBy, dayBy, staysBy}
+use Rattle.matcher.specs.Inner.Layout.{rowSize, datesAt, datesBack, weekdaysAt, nthsAt, nthsBack, positionsAt, positionsBack}
 use Rattle.matcher.specs.Inner.Marks.{markEach, markPlaces, markDays, markAll, markMonths, markDates, markWeekdays, markRow}
 use Rattle.matcher.proofs.MarkLaws.{any-same, any-never, or-none, hits, hits-in, hits-below, hits-above, hitsPlace, each-length, each-flag, places-length, places-flag, all-length, all-other, all-flag, all-below, named-places}
 use Rattle.matcher.proofs.WeekdayLaws.{nthIs, days-length, days-outside, weekday-named}
@@ -46,82 +47,82 @@ places-above fl on back limit l j room more out order =
 
 months-length : (fl : List Bool) (l : List ℕ) → length (markMonths fl l) ≡ length fl
 unfolding markMonths
-months-length fl [] = all-length fl 0 13
-months-length fl (m ∷ l) = each-length fl 0 13 (m ∷ l)
+months-length fl [] = all-length fl 0 datesAt
+months-length fl (m ∷ l) = each-length fl 0 datesAt (m ∷ l)
 
-months-above : (fl : List Bool) (l : List ℕ) (j : ℕ) → length fl ≡ 1574 → 13 ≤ j → getD (markMonths fl l) j false ≡ getD fl j false
+months-above : (fl : List Bool) (l : List ℕ) (j : ℕ) → length fl ≡ rowSize → datesAt ≤ j → getD (markMonths fl l) j false ≡ getD fl j false
 unfolding markMonths
-months-above fl [] j size h = all-other fl 0 13 j (omega arith)
-months-above fl (m ∷ l) j size h = each-above fl 0 13 (m ∷ l) j (omega arith) (omega arith)
+months-above fl [] j size h = all-other fl 0 datesAt j (omega arith)
+months-above fl (m ∷ l) j size h = each-above fl 0 datesAt (m ∷ l) j (omega arith) (omega arith)
 
-months-in : (fl : List Bool) (l : List ℕ) (m : ℕ) → length fl ≡ 1574 → getD fl m false ≡ false → m < 13
+months-in : (fl : List Bool) (l : List ℕ) (m : ℕ) → length fl ≡ rowSize → getD fl m false ≡ false → m < datesAt
     → getD (markMonths fl l) m false ≡ meets (λ i. eqb i m) l
 unfolding markMonths meets
 months-in fl [] m size clear h =
     let at : 0 + m ≡ m = omega arith in
-    subst (λ (j : ℕ). getD (markAll fl 0 13) j false ≡ true) at (all-flag fl 0 13 m (omega arith) h)
+    subst (λ (j : ℕ). getD (markAll fl 0 datesAt) j false ≡ true) at (all-flag fl 0 datesAt m (omega arith) h)
 months-in fl (i ∷ l) m size clear h =
-    each-flag fl 0 13 (i ∷ l) m (omega arith)
-    ∙ rw clear (any-same (λ i. hits 0 13 i m) (λ i. eqb i m) (i ∷ l)
+    each-flag fl 0 datesAt (i ∷ l) m (omega arith)
+    ∙ rw clear (any-same (λ i. hits 0 datesAt i m) (λ i. eqb i m) (i ∷ l)
     (λ i.
     let at : 0 + m ≡ m = omega arith in
-    subst (λ (j : ℕ). hits 0 13 i j ≡ eqb i m) at (hits-in 0 13 i m h)))
+    subst (λ (j : ℕ). hits 0 datesAt i j ≡ eqb i m) at (hits-in 0 datesAt i m h)))
 
 dates-length : (fl : List Bool) (l : List ℤ) → length (markDates fl l) ≡ length fl
 unfolding markDates
-dates-length fl [] = all-length fl 13 32
-dates-length fl (z ∷ l) = places-length fl 13 45 32 (z ∷ l)
+dates-length fl [] = all-length fl datesAt 32
+dates-length fl (z ∷ l) = places-length fl datesAt datesBack 32 (z ∷ l)
 
-dates-outside : (fl : List Bool) (l : List ℤ) (j : ℕ) → length fl ≡ 1574 → (j < 13) ⊎ (77 ≤ j) → getD (markDates fl l) j false ≡ getD fl j false
+dates-outside : (fl : List Bool) (l : List ℤ) (j : ℕ) → length fl ≡ rowSize → (j < datesAt) ⊎ (weekdaysAt ≤ j) → getD (markDates fl l) j false ≡ getD fl j false
 unfolding markDates
-dates-outside fl [] j size (inl h) = all-below fl 13 32 j h
-dates-outside fl [] j size (inr h) = all-other fl 13 32 j (omega arith)
-dates-outside fl (z ∷ l) j size (inl h) = places-below fl 13 45 32 (z ∷ l) j (omega arith) (omega arith) h (omega arith)
-dates-outside fl (z ∷ l) j size (inr h) = places-above fl 13 45 32 (z ∷ l) j (omega arith) (omega arith) (omega arith) (omega arith)
+dates-outside fl [] j size (inl h) = all-below fl datesAt 32 j h
+dates-outside fl [] j size (inr h) = all-other fl datesAt 32 j (omega arith)
+dates-outside fl (z ∷ l) j size (inl h) = places-below fl datesAt datesBack 32 (z ∷ l) j (omega arith) (omega arith) h (omega arith)
+dates-outside fl (z ∷ l) j size (inr h) = places-above fl datesAt datesBack 32 (z ∷ l) j (omega arith) (omega arith) (omega arith) (omega arith)
 
 named-yes : (fl : List Bool) (on back p n : ℕ) → getD fl (on + p) false ≡ true → named fl on back p n ≡ true
 unfolding named
 named-yes fl on back p n e = rw e
 
-dates-in : (fl : List Bool) (l : List ℤ) (p n : ℕ) → length fl ≡ 1574 → ((j : ℕ) → 13 ≤ j → getD fl j false ≡ false) → 1 ≤ p → p ≤ n → n ≤ 31
-    → named (markDates fl l) 13 45 p n ≡ meets (λ z. eqb (placeOf z n) p) l
+dates-in : (fl : List Bool) (l : List ℤ) (p n : ℕ) → length fl ≡ rowSize → ((j : ℕ) → datesAt ≤ j → getD fl j false ≡ false) → 1 ≤ p → p ≤ n → n ≤ 31
+    → named (markDates fl l) datesAt datesBack p n ≡ meets (λ z. eqb (placeOf z n) p) l
 unfolding markDates meets
-dates-in fl [] p n size clear low high small = named-yes (markAll fl 13 32) 13 45 p n (all-flag fl 13 32 p (omega arith) (omega arith))
+dates-in fl [] p n size clear low high small = named-yes (markAll fl datesAt 32) datesAt datesBack p n (all-flag fl datesAt 32 p (omega arith) (omega arith))
 dates-in fl (z ∷ l) p n size clear low high small =
-    named-places fl 13 45 32 (z ∷ l) p n (omega arith) (omega arith) (clear (13 + p) (omega arith)) (clear (45 + (n + 1 - p)) (omega arith)) low high (omega arith)
+    named-places fl datesAt datesBack 32 (z ∷ l) p n (omega arith) (omega arith) (clear (datesAt + p) (omega arith)) (clear (datesBack + (n + 1 - p)) (omega arith)) low high (omega arith)
 
 weekdays-length : (fl : List Bool) (l : List NDay) → length (markWeekdays fl l) ≡ length fl
 unfolding markWeekdays
-weekdays-length fl [] = all-length fl 77 7
+weekdays-length fl [] = all-length fl weekdaysAt 7
 weekdays-length fl (e ∷ l) = days-length fl (e ∷ l)
 
-weekdays-outside : (fl : List Bool) (l : List NDay) (j : ℕ) → length fl ≡ 1574 → (j < 77) ⊎ (840 ≤ j) → getD (markWeekdays fl l) j false ≡ getD fl j false
+weekdays-outside : (fl : List Bool) (l : List NDay) (j : ℕ) → length fl ≡ rowSize → (j < weekdaysAt) ⊎ (positionsAt ≤ j) → getD (markWeekdays fl l) j false ≡ getD fl j false
 unfolding markWeekdays
-weekdays-outside fl [] j size (inl h) = all-below fl 77 7 j h
-weekdays-outside fl [] j size (inr h) = all-other fl 77 7 j (omega arith)
+weekdays-outside fl [] j size (inl h) = all-below fl weekdaysAt 7 j h
+weekdays-outside fl [] j size (inr h) = all-other fl weekdaysAt 7 j (omega arith)
 weekdays-outside fl (e ∷ l) j size out = days-outside fl (e ∷ l) j (omega arith) out
 
 if-yes : (a b : Bool) → a ≡ true → (if a then true else b) ≡ true
 if-yes a b e = rw e
 
-weekdays-in : (fl : List Bool) (l : List NDay) (w p n : ℕ) → length fl ≡ 1574 → ((j : ℕ) → 77 ≤ j → getD fl j false ≡ false) → w < 7 → 1 ≤ p → p ≤ n → n < 54
-    → (if getD (markWeekdays fl l) (77 + w) false then true else named (markWeekdays fl l) (84 + 54 * w) (462 + 54 * w) p n)
+weekdays-in : (fl : List Bool) (l : List NDay) (w p n : ℕ) → length fl ≡ rowSize → ((j : ℕ) → weekdaysAt ≤ j → getD fl j false ≡ false) → w < 7 → 1 ≤ p → p ≤ n → n < 54
+    → (if getD (markWeekdays fl l) (weekdaysAt + w) false then true else named (markWeekdays fl l) (nthsAt + 54 * w) (nthsBack + 54 * w) p n)
     ≡ meets (λ e. eqb (e .day) w && nthIs (e .nthOfPeriod) p n) l
 unfolding markWeekdays meets
-weekdays-in fl [] w p n size clear week low high small = if-yes _ _ (all-flag fl 77 7 w (omega arith) week)
+weekdays-in fl [] w p n size clear week low high small = if-yes _ _ (all-flag fl weekdaysAt 7 w (omega arith) week)
 weekdays-in fl (e ∷ l) w p n size clear week low high small =
-    weekday-named w week fl (e ∷ l) p n (omega arith) low high small (clear (77 + w) (omega arith)) (clear (84 + 54 * w + p) (omega arith)) (clear (462 + 54 * w + (n + 1 - p)) (omega arith))
+    weekday-named w week fl (e ∷ l) p n (omega arith) low high small (clear (weekdaysAt + w) (omega arith)) (clear (nthsAt + 54 * w + p) (omega arith)) (clear (nthsBack + 54 * w + (n + 1 - p)) (omega arith))
 
 -- ---- the whole row
 
 pub record Marked (r : RecurrenceRule) (s : Day) (row : List Bool) : Type 0 where
-  pub size : length row ≡ 1574
-  pub months : (m : ℕ) → m < 13 → getD row m false ≡ meets (λ i. eqb i m) (monthsFrom r s)
-  pub dates : (p n : ℕ) → 1 ≤ p → p ≤ n → n ≤ 31 → named row 13 45 p n ≡ meets (λ z. eqb (placeOf z n) p) (monthDaysFrom r s)
+  pub size : length row ≡ rowSize
+  pub months : (m : ℕ) → m < datesAt → getD row m false ≡ meets (λ i. eqb i m) (monthsFrom r s)
+  pub dates : (p n : ℕ) → 1 ≤ p → p ≤ n → n ≤ 31 → named row datesAt datesBack p n ≡ meets (λ z. eqb (placeOf z n) p) (monthDaysFrom r s)
   pub weekdays : (w p n : ℕ) → w < 7 → 1 ≤ p → p ≤ n → n < 54
-      → (if getD row (77 + w) false then true else named row (84 + 54 * w) (462 + 54 * w) p n)
+      → (if getD row (weekdaysAt + w) false then true else named row (nthsAt + 54 * w) (nthsBack + 54 * w) p n)
       ≡ meets (λ e. eqb (e .day) w && nthIs (e .nthOfPeriod) p n) (daysFrom r s)
-  pub positions : (p n : ℕ) → 1 ≤ p → p ≤ n → n ≤ 366 → named row 840 1207 p n ≡ any (λ z. eqb (placeOf z n) p) (r .bySetPosition)
+  pub positions : (p n : ℕ) → 1 ≤ p → p ≤ n → n ≤ 366 → named row positionsAt positionsBack p n ≡ any (λ z. eqb (placeOf z n) p) (r .bySetPosition)
 
 -- flags that are the same name the same
 named-same : (a b : List Bool) (on back p n : ℕ) → getD a (on + p) false ≡ getD b (on + p) false
@@ -129,7 +130,7 @@ named-same : (a b : List Bool) (on back p n : ℕ) → getD a (on + p) false ≡
 unfolding named
 named-same a b on back p n e f = rw (e, f)
 
-module _ (fl : List Bool) (r : RecurrenceRule) (s : Day) (size : length fl ≡ 1574) (clear : (j : ℕ) → getD fl j false ≡ false) where
+module _ (fl : List Bool) (r : RecurrenceRule) (s : Day) (size : length fl ≡ rowSize) (clear : (j : ℕ) → getD fl j false ≡ false) where
   a : List Bool
   a = markMonths fl (monthsFrom r s)
 
@@ -139,77 +140,77 @@ module _ (fl : List Bool) (r : RecurrenceRule) (s : Day) (size : length fl ≡ 1
   c : List Bool
   c = markWeekdays b (daysFrom r s)
 
-  a-size : length a ≡ 1574
+  a-size : length a ≡ rowSize
   unfolding a
   a-size = months-length fl (monthsFrom r s) ∙ size
 
-  b-size : length b ≡ 1574
+  b-size : length b ≡ rowSize
   unfolding b
   b-size = dates-length a (monthDaysFrom r s) ∙ a-size
 
-  c-size : length c ≡ 1574
+  c-size : length c ≡ rowSize
   unfolding c
   c-size = weekdays-length b (daysFrom r s) ∙ b-size
 
-  a-clear : (j : ℕ) → 13 ≤ j → getD a j false ≡ false
+  a-clear : (j : ℕ) → datesAt ≤ j → getD a j false ≡ false
   unfolding a
   a-clear j h = months-above fl (monthsFrom r s) j size h ∙ clear j
 
-  b-clear : (j : ℕ) → 77 ≤ j → getD b j false ≡ false
+  b-clear : (j : ℕ) → weekdaysAt ≤ j → getD b j false ≡ false
   unfolding b
   b-clear j h = dates-outside a (monthDaysFrom r s) j a-size (inr h) ∙ a-clear j (omega arith)
 
-  c-clear : (j : ℕ) → 840 ≤ j → getD c j false ≡ false
+  c-clear : (j : ℕ) → positionsAt ≤ j → getD c j false ≡ false
   unfolding c
   c-clear j h = weekdays-outside b (daysFrom r s) j b-size (inr h) ∙ b-clear j (omega arith)
 
   -- below the positions the row is c, below the weekdays b, below the days of the month a
   row : List Bool
-  row = markPlaces c 840 1207 367 (r .bySetPosition)
+  row = markPlaces c positionsAt positionsBack 367 (r .bySetPosition)
 
-  row-c : (j : ℕ) → j < 840 → getD row j false ≡ getD c j false
+  row-c : (j : ℕ) → j < positionsAt → getD row j false ≡ getD c j false
   unfolding row
-  row-c j h = places-below c 840 1207 367 (r .bySetPosition) j (omega (arith, c-size)) (omega (arith, c-size)) h (omega arith)
+  row-c j h = places-below c positionsAt positionsBack 367 (r .bySetPosition) j (omega (arith, c-size)) (omega (arith, c-size)) h (omega arith)
 
-  row-b : (j : ℕ) → j < 77 → getD row j false ≡ getD b j false
+  row-b : (j : ℕ) → j < weekdaysAt → getD row j false ≡ getD b j false
   unfolding c
   row-b j h = row-c j (omega arith) ∙ weekdays-outside b (daysFrom r s) j b-size (inl h)
 
-  row-a : (j : ℕ) → j < 13 → getD row j false ≡ getD a j false
+  row-a : (j : ℕ) → j < datesAt → getD row j false ≡ getD a j false
   unfolding b
   row-a j h = row-b j (omega arith) ∙ dates-outside a (monthDaysFrom r s) j a-size (inl h)
 
   in-weekdays : (w p n : ℕ) → w < 7 → 1 ≤ p → p ≤ n → n < 54
-      → (if getD row (77 + w) false then true else named row (84 + 54 * w) (462 + 54 * w) p n)
+      → (if getD row (weekdaysAt + w) false then true else named row (nthsAt + 54 * w) (nthsBack + 54 * w) p n)
       ≡ meets (λ e. eqb (e .day) w && nthIs (e .nthOfPeriod) p n) (daysFrom r s)
   unfolding c
   in-weekdays w p n week low high small =
       rw (
-        row-c (77 + w) (omega arith),
-        named-same row c (84 + 54 * w) (462 + 54 * w) p n (row-c (84 + 54 * w + p) (omega arith)) (row-c (462 + 54 * w + (n + 1 - p)) (omega arith)),
+        row-c (weekdaysAt + w) (omega arith),
+        named-same row c (nthsAt + 54 * w) (nthsBack + 54 * w) p n (row-c (nthsAt + 54 * w + p) (omega arith)) (row-c (nthsBack + 54 * w + (n + 1 - p)) (omega arith)),
       )
       (weekdays-in b (daysFrom r s) w p n b-size b-clear week low high small)
 
-  in-dates : (p n : ℕ) → 1 ≤ p → p ≤ n → n ≤ 31 → named row 13 45 p n ≡ meets (λ z. eqb (placeOf z n) p) (monthDaysFrom r s)
+  in-dates : (p n : ℕ) → 1 ≤ p → p ≤ n → n ≤ 31 → named row datesAt datesBack p n ≡ meets (λ z. eqb (placeOf z n) p) (monthDaysFrom r s)
   unfolding b
   in-dates p n low high small =
-      named-same row b 13 45 p n (row-b (13 + p) (omega arith)) (row-b (45 + (n + 1 - p)) (omega arith))
+      named-same row b datesAt datesBack p n (row-b (datesAt + p) (omega arith)) (row-b (datesBack + (n + 1 - p)) (omega arith))
       ∙ dates-in a (monthDaysFrom r s) p n a-size a-clear low high small
 
-  in-months : (m : ℕ) → m < 13 → getD row m false ≡ meets (λ i. eqb i m) (monthsFrom r s)
+  in-months : (m : ℕ) → m < datesAt → getD row m false ≡ meets (λ i. eqb i m) (monthsFrom r s)
   unfolding a
   in-months m h = row-a m h ∙ months-in fl (monthsFrom r s) m size (clear m) h
 
-  in-positions : (p n : ℕ) → 1 ≤ p → p ≤ n → n ≤ 366 → named row 840 1207 p n ≡ any (λ z. eqb (placeOf z n) p) (r .bySetPosition)
+  in-positions : (p n : ℕ) → 1 ≤ p → p ≤ n → n ≤ 366 → named row positionsAt positionsBack p n ≡ any (λ z. eqb (placeOf z n) p) (r .bySetPosition)
   unfolding row
   in-positions p n low high small =
-      named-places c 840 1207 367 (r .bySetPosition) p n (omega arith) (omega (arith, c-size)) (c-clear (840 + p) (omega arith)) (c-clear (1207 + (n + 1 - p)) (omega arith)) low high (omega arith)
+      named-places c positionsAt positionsBack 367 (r .bySetPosition) p n (omega arith) (omega (arith, c-size)) (c-clear (positionsAt + p) (omega arith)) (c-clear (positionsBack + (n + 1 - p)) (omega arith)) low high (omega arith)
 
   pub row-marked : Marked r s (markRow fl r s)
   unfolding markRow row a b c
   row-marked =
       record {
-        size = places-length c 840 1207 367 (r .bySetPosition) ∙ c-size;
+        size = places-length c positionsAt positionsBack 367 (r .bySetPosition) ∙ c-size;
         months = in-months;
         dates = in-dates;
         weekdays = in-weekdays;
@@ -230,7 +231,7 @@ meets-same p q (a ∷ l) h = any-same p q (a ∷ l) h
 
 module _ (r : RecurrenceRule) (s : Day) (row : List Bool) (m : Marked r s row) (x : Day) (f : InCalendar x) where
   nth-place : (before n : ℕ) → before < n → n ≤ 366
-      → (if getD row (77 + x .weekday) false then true else nthBy row (x .weekday) before n)
+      → (if getD row (weekdaysAt + x .weekday) false then true else nthBy row (x .weekday) before n)
       ≡ meets (λ e. eqb (e .day) (x .weekday) && nthIs (e .nthOfPeriod) (before / 7 + 1) (before / 7 + 1 + (n - (before + 1)) / 7)) (daysFrom r s)
   unfolding nthBy
   nth-place before n h small = m .weekdays (x .weekday) (before / 7 + 1) (before / 7 + 1 + (n - (before + 1)) / 7) (f .weekday) (omega arith) (omega arith) (omega arith)

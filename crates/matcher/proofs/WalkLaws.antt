@@ -21,6 +21,7 @@ use Rattle.rule.proofs.DayLaws.{day-facts, of-day}
 use Rattle.rule.proofs.PeriodLaws.{day-number, since-in, days-most, period-within}
 use Rattle.matcher.specs.declared.Terms.{Terms}
 use Rattle.matcher.specs.Inner.Flags.{Places, named, staysBy}
+use Rattle.matcher.specs.Inner.Layout.{positionsAt, positionsBack}
 use Rattle.matcher.specs.Inner.Walk.{Asked, staysOnBy, stepBy, placedBy, picksBy, picksOnBy}
 
 -- ---- the interval
@@ -154,7 +155,7 @@ module _ (t : Terms) (row : ℕ) (x : Day) (a : Asked t row x) where
   pub asked-places : (fl : List Bool) (earlier count : ℕ) → staysBy fl (t .inyear) x ≡ true
       → earlier ≡ countIn (staysOnBy fl (t .inyear)) (x .number - before t x) (before t x)
       → count ≡ countIn (staysOnBy fl (t .inyear)) (x .number - before t x) (whole t x)
-      → Places row 840 1207 (earlier + 1) count
+      → Places row positionsAt positionsBack (earlier + 1) count
   asked-places fl earlier count e f g =
       let p = staysOnBy fl (t .inyear) in
       let first = x .number - before t x in

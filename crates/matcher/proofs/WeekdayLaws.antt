@@ -17,34 +17,35 @@ use Rattle.rule.specs.Written.{NDay}
 use Rattle.rule.specs.Lists.{any}
 use Rattle.rule.proofs.Bools.{by, both, left, right, same-tests}
 use Rattle.matcher.specs.Inner.Flags.{named}
+use Rattle.matcher.specs.Inner.Layout.{weekdaysAt, nthsAt, nthsBack, positionsAt}
 use Rattle.matcher.specs.Inner.Marks.{markOne, markPlace, markNth, markDays}
 use Rattle.matcher.proofs.MarkLaws.{mark-length, mark-flag, place-length, place-flag, hits, hits-in, hits-below, hits-above, hitsPlace, any-same, any-never, any-or, or-none, or-regroup, named-or, place-tests}
 
 abbrev hitsNth : ℕ → Option ℤ → ℕ → Bool
-hitsNth w none j = hits 77 7 w j
-hitsNth w (some z) j = ltb w 7 && hitsPlace (84 + 54 * w) (462 + 54 * w) 54 z j
+hitsNth w none j = hits weekdaysAt 7 w j
+hitsNth w (some z) j = ltb w 7 && hitsPlace (nthsAt + 54 * w) (nthsBack + 54 * w) 54 z j
 
 nth-length : (fl : List Bool) (w : ℕ) (o : Option ℤ) → length (markNth fl w o) ≡ length fl
 unfolding markNth
-nth-length fl w none = mark-length fl 77 7 w
+nth-length fl w none = mark-length fl weekdaysAt 7 w
 nth-length fl w (some z) = go (ltb w 7)
   where
-    go : (b : Bool) → length (if b then markPlace fl (84 + 54 * w) (462 + 54 * w) 54 z else fl) ≡ length fl
-    go true = place-length fl (84 + 54 * w) (462 + 54 * w) 54 z
+    go : (b : Bool) → length (if b then markPlace fl (nthsAt + 54 * w) (nthsBack + 54 * w) 54 z else fl) ≡ length fl
+    go true = place-length fl (nthsAt + 54 * w) (nthsBack + 54 * w) 54 z
     go false = refl
 
-nth-flag : (fl : List Bool) (w : ℕ) (o : Option ℤ) (j : ℕ) → 840 ≤ length fl
+nth-flag : (fl : List Bool) (w : ℕ) (o : Option ℤ) (j : ℕ) → positionsAt ≤ length fl
     → getD (markNth fl w o) j false ≡ (getD fl j false || hitsNth w o j)
 unfolding markNth
-nth-flag fl w none j room = mark-flag fl 77 7 w j (omega arith)
+nth-flag fl w none j room = mark-flag fl weekdaysAt 7 w j (omega arith)
 nth-flag fl w (some z) j room = go (ltb w 7) refl
   where
     go : (b : Bool) → ltb w 7 ≡ b
-        → getD (if b then markPlace fl (84 + 54 * w) (462 + 54 * w) 54 z else fl) j false
-        ≡ (getD fl j false || (b && hitsPlace (84 + 54 * w) (462 + 54 * w) 54 z j))
+        → getD (if b then markPlace fl (nthsAt + 54 * w) (nthsBack + 54 * w) 54 z else fl) j false
+        ≡ (getD fl j false || (b && hitsPlace (nthsAt + 54 * w) (nthsBack + 54 * w) 54 z j))
     go true e =
         let h = ltb-true w 7 e in
-        place-flag fl (84 + 54 * w) (462 + 54 * w) 54 z j (omega arith) (omega arith)
+        place-flag fl (nthsAt + 54 * w) (nthsBack + 54 * w) 54 z j (omega arith) (omega arith)
     go false e = sym (or-none (getD fl j false))
 
 pub days-length : (fl : List Bool) (l : List NDay) → length (markDays fl l) ≡ length fl
@@ -52,7 +53,7 @@ unfolding markDays
 days-length fl [] = refl
 days-length fl (e ∷ l) = days-length (markNth fl (e .day) (e .nthOfPeriod)) l ∙ nth-length fl (e .day) (e .nthOfPeriod)
 
-pub days-flag : (fl : List Bool) (l : List NDay) (j : ℕ) → 840 ≤ length fl
+pub days-flag : (fl : List Bool) (l : List NDay) (j : ℕ) → positionsAt ≤ length fl
     → getD (markDays fl l) j false ≡ (getD fl j false || any (λ e. hitsNth (e .day) (e .nthOfPeriod) j) l)
 unfolding markDays any
 days-flag fl [] j room = sym (or-none (getD fl j false))
@@ -88,10 +89,10 @@ and-none true = refl
 and-none false = refl
 
 module _ (w : ℕ) (h : w < 7) where
-  hits-any : (d : ℕ) (o : Option ℤ) → hitsNth d o (77 + w) ≡ (eqb d w && isNone o)
-  hits-any d none = hits-in 77 7 d w h ∙ sym (and-true (eqb d w))
+  hits-any : (d : ℕ) (o : Option ℤ) → hitsNth d o (weekdaysAt + w) ≡ (eqb d w && isNone o)
+  hits-any d none = hits-in weekdaysAt 7 d w h ∙ sym (and-true (eqb d w))
   hits-any d (some z) =
-      rw (hits-below (84 + 54 * d) 54 (posPart z) (77 + w) (omega arith), hits-below (462 + 54 * d) 54 (negPart z) (77 + w) (omega arith))
+      rw (hits-below (nthsAt + 54 * d) 54 (posPart z) (weekdaysAt + w) (omega arith), hits-below (nthsBack + 54 * d) 54 (negPart z) (weekdaysAt + w) (omega arith))
       (and-none (ltb d 7) ∙ sym (and-none (eqb d w)))
 
   -- a run of 54 flags for each weekday
@@ -109,20 +110,20 @@ module _ (w : ℕ) (h : w < 7) where
       both (ltb d 7) (hits (at + 54 * d) 54 i (at + 54 * w + k)) (lt-ltb d 7 (omega arith))
       (both (ltb i 54) (eqb (at + 54 * d + i) (at + 54 * w + k)) (lt-ltb i 54 (omega arith)) (eq-eqb (at + 54 * d + i) (at + 54 * w + k) (omega arith))))
 
-  hits-on : (p : ℕ) → p < 54 → (d : ℕ) (o : Option ℤ) → hitsNth d o (84 + 54 * w + p) ≡ (eqb d w && onIs o p)
-  hits-on p small d none = hits-above 77 7 d (84 + 54 * w + p) (omega arith) ∙ sym (and-none (eqb d w))
+  hits-on : (p : ℕ) → p < 54 → (d : ℕ) (o : Option ℤ) → hitsNth d o (nthsAt + 54 * w + p) ≡ (eqb d w && onIs o p)
+  hits-on p small d none = hits-above weekdaysAt 7 d (nthsAt + 54 * w + p) (omega arith) ∙ sym (and-none (eqb d w))
   hits-on p small d (some z) =
-      rw (hits-below (462 + 54 * d) 54 (negPart z) (84 + 54 * w + p) (omega arith), or-none (hits (84 + 54 * d) 54 (posPart z) (84 + 54 * w + p)))
-      (hits-run 84 d (posPart z) p small)
+      rw (hits-below (nthsBack + 54 * d) 54 (negPart z) (nthsAt + 54 * w + p) (omega arith), or-none (hits (nthsAt + 54 * d) 54 (posPart z) (nthsAt + 54 * w + p)))
+      (hits-run nthsAt d (posPart z) p small)
 
-  hits-back : (q : ℕ) → q < 54 → (d : ℕ) (o : Option ℤ) → hitsNth d o (462 + 54 * w + q) ≡ (eqb d w && backIs o q)
-  hits-back q small d none = hits-above 77 7 d (462 + 54 * w + q) (omega arith) ∙ sym (and-none (eqb d w))
-  hits-back q small d (some z) = lone ∙ hits-run 462 d (negPart z) q small
+  hits-back : (q : ℕ) → q < 54 → (d : ℕ) (o : Option ℤ) → hitsNth d o (nthsBack + 54 * w + q) ≡ (eqb d w && backIs o q)
+  hits-back q small d none = hits-above weekdaysAt 7 d (nthsBack + 54 * w + q) (omega arith) ∙ sym (and-none (eqb d w))
+  hits-back q small d (some z) = lone ∙ hits-run nthsBack d (negPart z) q small
     where
-      lone : (ltb d 7 && hitsPlace (84 + 54 * d) (462 + 54 * d) 54 z (462 + 54 * w + q)) ≡ (ltb d 7 && hits (462 + 54 * d) 54 (negPart z) (462 + 54 * w + q))
+      lone : (ltb d 7 && hitsPlace (nthsAt + 54 * d) (nthsBack + 54 * d) 54 z (nthsBack + 54 * w + q)) ≡ (ltb d 7 && hits (nthsBack + 54 * d) 54 (negPart z) (nthsBack + 54 * w + q))
       lone =
           by (ltb d 7)
-          (λ e. rw (e, hits-above (84 + 54 * d) 54 (posPart z) (462 + 54 * w + q) (omega (arith, ltb-true d 7 e))))
+          (λ e. rw (e, hits-above (nthsAt + 54 * d) 54 (posPart z) (nthsBack + 54 * w + q) (omega (arith, ltb-true d 7 e))))
           (λ e. rw e)
 
   -- together they say that the entry has this weekday, and this place if it has one
@@ -136,20 +137,20 @@ module _ (w : ℕ) (h : w < 7) where
       go false none = refl
       go false (some z) = refl
 
-  pub weekday-named : (fl : List Bool) (l : List NDay) (p n : ℕ) → 840 ≤ length fl → 1 ≤ p → p ≤ n → n < 54
-      → getD fl (77 + w) false ≡ false → getD fl (84 + 54 * w + p) false ≡ false → getD fl (462 + 54 * w + (n + 1 - p)) false ≡ false
-      → (if getD (markDays fl l) (77 + w) false then true else named (markDays fl l) (84 + 54 * w) (462 + 54 * w) p n)
+  pub weekday-named : (fl : List Bool) (l : List NDay) (p n : ℕ) → positionsAt ≤ length fl → 1 ≤ p → p ≤ n → n < 54
+      → getD fl (weekdaysAt + w) false ≡ false → getD fl (nthsAt + 54 * w + p) false ≡ false → getD fl (nthsBack + 54 * w + (n + 1 - p)) false ≡ false
+      → (if getD (markDays fl l) (weekdaysAt + w) false then true else named (markDays fl l) (nthsAt + 54 * w) (nthsBack + 54 * w) p n)
       ≡ any (λ e. eqb (e .day) w && nthIs (e .nthOfPeriod) p n) l
   unfolding named
   weekday-named fl l p n room low high small c0 c1 c2 =
-      let f0 : getD (markDays fl l) (77 + w) false ≡ any (λ e. eqb (e .day) w && isNone (e .nthOfPeriod)) l =
-      days-flag fl l (77 + w) room ∙ rw c0 (any-same _ _ l (λ e. hits-any (e .day) (e .nthOfPeriod)))
+      let f0 : getD (markDays fl l) (weekdaysAt + w) false ≡ any (λ e. eqb (e .day) w && isNone (e .nthOfPeriod)) l =
+      days-flag fl l (weekdaysAt + w) room ∙ rw c0 (any-same _ _ l (λ e. hits-any (e .day) (e .nthOfPeriod)))
       in
-      let f1 : getD (markDays fl l) (84 + 54 * w + p) false ≡ any (λ e. eqb (e .day) w && onIs (e .nthOfPeriod) p) l =
-      days-flag fl l (84 + 54 * w + p) room ∙ rw c1 (any-same _ _ l (λ e. hits-on p (omega arith) (e .day) (e .nthOfPeriod)))
+      let f1 : getD (markDays fl l) (nthsAt + 54 * w + p) false ≡ any (λ e. eqb (e .day) w && onIs (e .nthOfPeriod) p) l =
+      days-flag fl l (nthsAt + 54 * w + p) room ∙ rw c1 (any-same _ _ l (λ e. hits-on p (omega arith) (e .day) (e .nthOfPeriod)))
       in
-      let f2 : getD (markDays fl l) (462 + 54 * w + (n + 1 - p)) false ≡ any (λ e. eqb (e .day) w && backIs (e .nthOfPeriod) (n + 1 - p)) l =
-      days-flag fl l (462 + 54 * w + (n + 1 - p)) room ∙ rw c2 (any-same _ _ l (λ e. hits-back (n + 1 - p) (omega arith) (e .day) (e .nthOfPeriod)))
+      let f2 : getD (markDays fl l) (nthsBack + 54 * w + (n + 1 - p)) false ≡ any (λ e. eqb (e .day) w && backIs (e .nthOfPeriod) (n + 1 - p)) l =
+      days-flag fl l (nthsBack + 54 * w + (n + 1 - p)) room ∙ rw c2 (any-same _ _ l (λ e. hits-back (n + 1 - p) (omega arith) (e .day) (e .nthOfPeriod)))
       in
       rw (f0, f1, f2)
       (named-or (any (λ e. eqb (e .day) w && isNone (e .nthOfPeriod)) l) (if any (λ e. eqb (e .day) w && onIs (e .nthOfPeriod) p) l then true else any (λ e. eqb (e .day) w && backIs (e .nthOfPeriod) (n + 1 - p)) l)
@@ -160,17 +161,17 @@ module _ (w : ℕ) (h : w < 7) where
       ∙ any-same _ _ l (λ e. entry-tests p n low high (e .day) (e .nthOfPeriod)))))
 
 -- outside of its runs nothing is marked
-pub days-outside : (fl : List Bool) (l : List NDay) (j : ℕ) → 840 ≤ length fl → (j < 77) ⊎ (840 ≤ j) → getD (markDays fl l) j false ≡ getD fl j false
+pub days-outside : (fl : List Bool) (l : List NDay) (j : ℕ) → positionsAt ≤ length fl → (j < weekdaysAt) ⊎ (positionsAt ≤ j) → getD (markDays fl l) j false ≡ getD fl j false
 days-outside fl l j room out = days-flag fl l j room ∙ (rw (any-never _ l (λ e. never (e .day) (e .nthOfPeriod) out)) (or-none (getD fl j false)))
   where
-    never : (d : ℕ) (o : Option ℤ) → (j < 77) ⊎ (840 ≤ j) → hitsNth d o j ≡ false
-    never d none (inl h) = hits-below 77 7 d j h
-    never d none (inr h) = hits-above 77 7 d j (omega arith)
+    never : (d : ℕ) (o : Option ℤ) → (j < weekdaysAt) ⊎ (positionsAt ≤ j) → hitsNth d o j ≡ false
+    never d none (inl h) = hits-below weekdaysAt 7 d j h
+    never d none (inr h) = hits-above weekdaysAt 7 d j (omega arith)
     never d (some z) (inl h) =
-        rw (hits-below (84 + 54 * d) 54 (posPart z) j (omega arith), hits-below (462 + 54 * d) 54 (negPart z) j (omega arith)) (and-none (ltb d 7))
+        rw (hits-below (nthsAt + 54 * d) 54 (posPart z) j (omega arith), hits-below (nthsBack + 54 * d) 54 (negPart z) j (omega arith)) (and-none (ltb d 7))
     never d (some z) (inr h) =
         by (ltb d 7)
         (λ e.
         let less = ltb-true d 7 e in
-        rw (hits-above (84 + 54 * d) 54 (posPart z) j (omega arith), hits-above (462 + 54 * d) 54 (negPart z) j (omega arith)) (and-none (ltb d 7)))
+        rw (hits-above (nthsAt + 54 * d) 54 (posPart z) j (omega arith), hits-above (nthsBack + 54 * d) 54 (negPart z) j (omega arith)) (and-none (ltb d 7)))
         (λ e. rw e)

@@ -1,4 +1,5 @@
 pub mod Flags
+pub mod Layout
 pub mod Marks
 pub mod Member
 pub mod Rows

@@ -4,6 +4,11 @@ ghost use Prim.Native.Nat.{_+_, _-_, _<_, _≤_};
 ghost use lib.ListN.{length};
 ghost use Rattle.matcher.specs.Inner.Flags.{Row, Places, named, nthBy, monthBy, dateBy, dayBy, staysBy};
 ghost use Rattle.rule.specs.Inner.Bounds.{InCalendar};
+use super::layout::DATES;
+use super::layout::DATES_BACK;
+use super::layout::NTHS;
+use super::layout::NTHS_BACK;
+use super::layout::WEEKDAYS;
 use rule::Day;
 
 // A place of `count` places, from 1: by its own number or by its number from the end.
@@ -26,7 +31,7 @@ pub fn is_nth(flags: &[bool], weekday: u32, before: u32, count: u32) -> bool
     let place = before / 7 + 1;
     let places = place + (count - (before + 1)) / 7;
     let at = 54 * weekday as usize;
-    is_named(flags, 84 + at, 462 + at, place, places)
+    is_named(flags, NTHS + at, NTHS_BACK + at, place, places)
 }
 
 pub fn on_month(flags: &[bool], x: Day) -> bool
@@ -41,7 +46,7 @@ fn on_date(flags: &[bool], x: Day) -> bool
     requires { ⌜ Row (length (now flags)) × InCalendar x ⌝ }
     ensures { λ r. ⌜ r ≡ dateBy (now (flags .entry)) x ⌝ }
 {
-    is_named(flags, 13, 45, x.monthday, x.monthdays)
+    is_named(flags, DATES, DATES_BACK, x.monthday, x.monthdays)
 }
 
 fn on_day(flags: &[bool], inyear: bool, x: Day) -> bool
@@ -49,7 +54,7 @@ fn on_day(flags: &[bool], inyear: bool, x: Day) -> bool
     ensures { λ r. ⌜ r ≡ dayBy (now (flags .entry)) inyear x ⌝ }
 {
     let weekday = x.weekday;
-    if flags[77 + weekday as usize] {
+    if flags[WEEKDAYS + weekday as usize] {
         return true;
     }
     if inyear {

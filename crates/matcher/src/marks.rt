@@ -4,7 +4,11 @@ ghost use mathlib.Core.Path.{_≡_};
 ghost use Prim.Native.Nat.{_+_, _*_, _<_, _≤_};
 ghost use lib.ListN.{length};
 ghost use Rattle.rule.specs.Inner.Read.{ndays, nthFrom};
+ghost use Rattle.matcher.specs.Inner.Layout.{positionsAt};
 ghost use Rattle.matcher.specs.Inner.Marks.{markOne, markEach, markPlace, markPlaces, markNth, markDays, markAll};
+use super::layout::NTHS;
+use super::layout::NTHS_BACK;
+use super::layout::WEEKDAYS;
 
 // Flag i of the `limit` flags from `at` on; a number beyond them names nothing.
 pub(crate) fn mark(flags: &mut [bool], at: usize, limit: usize, i: u64)
@@ -64,19 +68,19 @@ pub(crate) fn mark_places(list: &[i64], flags: &mut [bool], on: usize, back: usi
 
 // A weekday with its place in the month or year.
 fn mark_weekday(weekday: u32, z: i64, flags: &mut [bool])
-    requires { ⌜ 840 ≤ length (now flags) ⌝ }
+    requires { ⌜ positionsAt ≤ length (now flags) ⌝ }
     ensures { λ r. ⌜ now (flags .exit) ≡ markNth (now (flags .entry)) weekday (some z) ⌝ }
 {
     if weekday < 7 {
         let at = 54 * weekday as usize;
-        mark_place(z, flags, 84 + at, 462 + at, 54);
+        mark_place(z, flags, NTHS + at, NTHS_BACK + at, 54);
         return;
     }
 }
 
 // An entry of byDay; 0 stands for no nthOfPeriod.
 fn mark_nth(weekday: u32, z: i64, flags: &mut [bool])
-    requires { ⌜ 840 ≤ length (now flags) ⌝ }
+    requires { ⌜ positionsAt ≤ length (now flags) ⌝ }
     ensures { λ r. ⌜ now (flags .exit) ≡ markNth (now (flags .entry)) weekday (nthFrom z) ⌝ }
 {
     if 0 < signed::positive_part(z) {
@@ -87,11 +91,11 @@ fn mark_nth(weekday: u32, z: i64, flags: &mut [bool])
         mark_weekday(weekday, z, flags);
         return;
     }
-    mark(flags, 77, 7, weekday as u64);
+    mark(flags, WEEKDAYS, 7, weekday as u64);
 }
 
 pub(crate) fn mark_days(weekdays: &[u32], nths: &[i64], flags: &mut [bool])
-    requires { ⌜ (840 ≤ length (now flags)) × (length (now weekdays) ≡ length (now nths)) ⌝ }
+    requires { ⌜ (positionsAt ≤ length (now flags)) × (length (now weekdays) ≡ length (now nths)) ⌝ }
     ensures { λ r. ⌜ now (flags .exit) ≡ markDays (now (flags .entry)) (ndays (now (weekdays .entry)) (now (nths .entry))) ⌝ }
 {
     let mut i = 0;

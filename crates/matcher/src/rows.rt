@@ -11,6 +11,11 @@ ghost use Rattle.matcher.specs.Inner.Flags.{Row};
 ghost use Rattle.matcher.specs.Inner.Marks.{markMonths, markDates, markWeekdays, markPlaces, markRow};
 ghost use Rattle.matcher.specs.Inner.Rows.{impliesDay, impliesDate, impliesMonth, yearly, Termed};
 use super::Terms;
+use super::layout::DATES;
+use super::layout::DATES_BACK;
+use super::layout::POSITIONS;
+use super::layout::POSITIONS_BACK;
+use super::layout::WEEKDAYS;
 use rule::Day;
 use rule::Frequency;
 use rule::Rule;
@@ -60,16 +65,16 @@ fn mark_months(rule: Rule, start: Day, flags: &mut [bool])
     let n = rule.monthcount;
     if 0 < n {
         let months = rule.months;
-        super::marks::mark_each(&months[..n], flags, 0, 13);
+        super::marks::mark_each(&months[..n], flags, 0, DATES);
         return;
     }
     let frequency = rule.frequency;
     if implies_month(frequency, rule.days, rule.datecount) {
         let month = start.month;
-        super::marks::mark(flags, 0, 13, month as u64);
+        super::marks::mark(flags, 0, DATES, month as u64);
         return;
     }
-    super::marks::mark_all(flags, 0, 13);
+    super::marks::mark_all(flags, 0, DATES);
 }
 
 fn mark_dates(rule: Rule, start: Day, flags: &mut [bool])
@@ -79,17 +84,17 @@ fn mark_dates(rule: Rule, start: Day, flags: &mut [bool])
     let n = rule.datecount;
     if 0 < n {
         let dates = rule.dates;
-        super::marks::mark_places(&dates[..n], flags, 13, 45, 32);
+        super::marks::mark_places(&dates[..n], flags, DATES, DATES_BACK, 32);
         return;
     }
     let frequency = rule.frequency;
     if implies_date(frequency, rule.days) {
         let day = start.monthday;
-        super::marks::mark(flags, 13, 32, day as u64);
-        super::marks::mark(flags, 45, 32, 0);
+        super::marks::mark(flags, DATES, 32, day as u64);
+        super::marks::mark(flags, DATES_BACK, 32, 0);
         return;
     }
-    super::marks::mark_all(flags, 13, 32);
+    super::marks::mark_all(flags, DATES, 32);
 }
 
 fn mark_weekdays(rule: Rule, start: Day, flags: &mut [bool])
@@ -106,10 +111,10 @@ fn mark_weekdays(rule: Rule, start: Day, flags: &mut [bool])
     let frequency = rule.frequency;
     if implies_day(frequency) {
         let weekday = start.weekday;
-        super::marks::mark(flags, 77, 7, weekday as u64);
+        super::marks::mark(flags, WEEKDAYS, 7, weekday as u64);
         return;
     }
-    super::marks::mark_all(flags, 77, 7);
+    super::marks::mark_all(flags, WEEKDAYS, 7);
 }
 
 // The row of a rule whose event starts on a day; before, no flag is set.
@@ -122,7 +127,7 @@ pub fn mark_row(rule: Rule, start: Day, flags: &mut [bool])
     mark_weekdays(rule, start, flags);
     let positions = rule.positions;
     let n = rule.positioncount;
-    super::marks::mark_places(&positions[..n], flags, 840, 1207, 367);
+    super::marks::mark_places(&positions[..n], flags, POSITIONS, POSITIONS_BACK, 367);
 }
 
 fn counts_in_year(frequency: Frequency, months: usize) -> bool

@@ -13,7 +13,9 @@ use Rattle.rule.specs.Lists.{countIn}
 use Rattle.rule.proofs.Bools.{by}
 use Rattle.rule.proofs.Counting.{count-split, count-most, count-place, count-same}
 use Rattle.matcher.specs.Inner.Flags.{Places, named}
+use Rattle.matcher.specs.Inner.Layout.{positionsAt, positionsBack, rowSize}
 use Rattle.months.specs.Inner.Kinds.{Kind, staysIn, chosenIn, picksIn}
+use Rattle.months.specs.Inner.Layout.{kindsSize, kindSize, lastAt, readyAt, plainAt, answersSize}
 use Rattle.months.specs.Inner.Week.{Week, Prepared}
 use Rattle.months.specs.Inner.Rows.{answerAt, Wrote, rowOf, Kept, KeptAt}
 
@@ -66,7 +68,7 @@ count-next p n = count-split p 0 n 1 ∙ ap (λ (k : ℕ). countIn p 0 n + k) (c
 -- ---- choosing
 
 module _ (fl : List Bool) (p : ℕ → Bool) (n k seen total : ℕ) (more : k < n) (is-seen : seen ≡ countIn p 0 k) (is-total : total ≡ countIn p 0 n) where
-  pub chosen-place : n ≤ 31 → length fl ≡ 1574 → p k ≡ true → Places (length fl) 840 1207 (seen + 1) total
+  pub chosen-place : n ≤ 31 → length fl ≡ rowSize → p k ≡ true → Places (length fl) positionsAt positionsBack (seen + 1) total
   chosen-place few size e =
       let most = count-most p 0 n in
       let here : p (0 + k) ≡ true = ap p (omega arith) ∙ e in
@@ -80,7 +82,7 @@ module _ (fl : List Bool) (p : ℕ → Bool) (n k seen total : ℕ) (more : k < 
         row = omega arith;
       }
 
-  pub chosen-is : (b stays : Bool) → stays ≡ p k → b ≡ (if stays then named fl 840 1207 (seen + 1) total else false) → b ≡ chosenIn fl p n k
+  pub chosen-is : (b stays : Bool) → stays ≡ p k → b ≡ (if stays then named fl positionsAt positionsBack (seen + 1) total else false) → b ≡ chosenIn fl p n k
   unfolding chosenIn
   chosen-is b stays same is = is ∙ rw (same, is-seen, is-total)
 
@@ -96,12 +98,12 @@ chosen-same fl p q n same k h =
 
 -- ---- the rows that are kept
 
-pub kept-none : (placed : Bool) (fl : List Bool) → Kept placed fl (replicate 960 false)
+pub kept-none : (placed : Bool) (fl : List Bool) → Kept placed fl (replicate answersSize false)
 kept-none placed fl =
     record {
-      size = length-replicate 960 false;
-      ready = λ e. absurd (false≢true (sym (getD-replicate 960 958 false false (omega arith)) ∙ e));
-      row = λ w days kind e. absurd (false≢true (sym (getD-replicate 960 (rowOf w days + 31) false false (omega (arith, kind .week, kind .low, kind .high))) ∙ e));
+      size = length-replicate answersSize false;
+      ready = λ e. absurd (false≢true (sym (getD-replicate answersSize readyAt false false (omega arith)) ∙ e));
+      row = λ w days kind e. absurd (false≢true (sym (getD-replicate answersSize (rowOf w days + lastAt) false false (omega (arith, kind .week, kind .low, kind .high))) ∙ e));
     }
 
 -- the week is written after the rows
@@ -112,58 +114,58 @@ kept-prepared placed fl rows after kept p =
       ready = λ e. p .week;
       row = λ w days kind e k h.
           p .same (rowOf w days + k) (omega (arith, kind .week, kind .low, kind .high))
-          ∙ kept .row w days kind (sym (p .same (rowOf w days + 31) (omega (arith, kind .week, kind .low, kind .high))) ∙ e) k h;
+          ∙ kept .row w days kind (sym (p .same (rowOf w days + lastAt) (omega (arith, kind .week, kind .low, kind .high))) ∙ e) k h;
     }
 
 module _ (placed : Bool) (fl : List Bool) (weekday days : ℕ) (kind : Kind weekday days) (rows after : List Bool) (kept : Kept placed fl rows)
     (week : Week fl rows) (wrote : Wrote (picksIn placed fl weekday days) rows (rowOf weekday days) days after) where
-  own : (k : ℕ) → k < days → getD (set after (rowOf weekday days + 31) true) (rowOf weekday days + k) false ≡ picksIn placed fl weekday days k
-  own k h = getD-set-other after (rowOf weekday days + 31) (rowOf weekday days + k) true false (λ same. omega (arith, kind .high)) ∙ wrote .here k h
+  own : (k : ℕ) → k < days → getD (set after (rowOf weekday days + lastAt) true) (rowOf weekday days + k) false ≡ picksIn placed fl weekday days k
+  own k h = getD-set-other after (rowOf weekday days + lastAt) (rowOf weekday days + k) true false (λ same. omega (arith, kind .high)) ∙ wrote .here k h
 
   -- the other rows are as they were
-  below : (j : ℕ) → j < rowOf weekday days → getD (set after (rowOf weekday days + 31) true) j false ≡ getD rows j false
-  below j h = getD-set-other after (rowOf weekday days + 31) j true false (λ same. omega arith) ∙ wrote .low j h
+  below : (j : ℕ) → j < rowOf weekday days → getD (set after (rowOf weekday days + lastAt) true) j false ≡ getD rows j false
+  below j h = getD-set-other after (rowOf weekday days + lastAt) j true false (λ same. omega arith) ∙ wrote .low j h
 
-  above : (j : ℕ) → rowOf weekday days + 32 ≤ j → getD (set after (rowOf weekday days + 31) true) j false ≡ getD rows j false
-  above j h = getD-set-other after (rowOf weekday days + 31) j true false (λ same. omega arith) ∙ wrote .high j (omega (arith, kind .high))
+  above : (j : ℕ) → rowOf weekday days + kindSize ≤ j → getD (set after (rowOf weekday days + lastAt) true) j false ≡ getD rows j false
+  above j h = getD-set-other after (rowOf weekday days + lastAt) j true false (λ same. omega arith) ∙ wrote .high j (omega (arith, kind .high))
 
-  week-stays : Week fl (set after (rowOf weekday days + 31) true)
+  week-stays : Week fl (set after (rowOf weekday days + lastAt) true)
   week-stays =
       record {
-        days = λ k h. above (896 + k) (omega (arith, kind .week, kind .low, kind .high)) ∙ week .days k h;
-        plain = λ e. week .plain (sym (above 959 (omega (arith, kind .week, kind .low, kind .high))) ∙ e);
+        days = λ k h. above (kindsSize + k) (omega (arith, kind .week, kind .low, kind .high)) ∙ week .days k h;
+        plain = λ e. week .plain (sym (above plainAt (omega (arith, kind .week, kind .low, kind .high))) ∙ e);
       }
 
-  each : (w n : ℕ) → Kind w n → getD (set after (rowOf weekday days + 31) true) (rowOf w n + 31) false ≡ true
-      → (k : ℕ) → k < n → getD (set after (rowOf weekday days + 31) true) (rowOf w n + k) false ≡ picksIn placed fl w n k
+  each : (w n : ℕ) → Kind w n → getD (set after (rowOf weekday days + lastAt) true) (rowOf w n + lastAt) false ≡ true
+      → (k : ℕ) → k < n → getD (set after (rowOf weekday days + lastAt) true) (rowOf w n + k) false ≡ picksIn placed fl w n k
   each w n other e k h =
       by (ltb (rowOf w n) (rowOf weekday days))
       (λ b.
       let less = ltb-true (rowOf w n) (rowOf weekday days) b in
       below (rowOf w n + k) (omega (arith, other .high))
-      ∙ kept .row w n other (sym (below (rowOf w n + 31) (omega arith)) ∙ e) k h)
+      ∙ kept .row w n other (sym (below (rowOf w n + lastAt) (omega arith)) ∙ e) k h)
       (λ b.
       by (ltb (rowOf weekday days) (rowOf w n))
       (λ d.
       let less = ltb-true (rowOf weekday days) (rowOf w n) d in
       above (rowOf w n + k) (omega arith)
-      ∙ kept .row w n other (sym (above (rowOf w n + 31) (omega arith)) ∙ e) k h)
+      ∙ kept .row w n other (sym (above (rowOf w n + lastAt) (omega arith)) ∙ e) k h)
       (λ d.
       let low = ltb-false (rowOf w n) (rowOf weekday days) b in
       let high = ltb-false (rowOf weekday days) (rowOf w n) d in
       let sameDays : days ≡ n = omega (arith, kind .week, kind .low, other .week, other .low) in
       let sameWeekday : weekday ≡ w = omega (arith, kind .week, kind .low, other .week, other .low) in
-      subst (λ (v : ℕ). getD (set after (rowOf weekday days + 31) true) (rowOf v n + k) false ≡ picksIn placed fl v n k) sameWeekday
-      (subst (λ (m : ℕ). getD (set after (rowOf weekday days + 31) true) (rowOf weekday m + k) false ≡ picksIn placed fl weekday m k) sameDays
+      subst (λ (v : ℕ). getD (set after (rowOf weekday days + lastAt) true) (rowOf v n + k) false ≡ picksIn placed fl v n k) sameWeekday
+      (subst (λ (m : ℕ). getD (set after (rowOf weekday days + lastAt) true) (rowOf weekday m + k) false ≡ picksIn placed fl weekday m k) sameDays
       (own k (omega arith)))))
 
-  pub keeps : KeptAt placed fl weekday days (set after (rowOf weekday days + 31) true) (rowOf weekday days)
+  pub keeps : KeptAt placed fl weekday days (set after (rowOf weekday days + lastAt) true) (rowOf weekday days)
   keeps =
       record {
         is = refl;
         kept =
             record {
-              size = length-set after (rowOf weekday days + 31) true ∙ (wrote .size ∙ kept .size);
+              size = length-set after (rowOf weekday days + lastAt) true ∙ (wrote .size ∙ kept .size);
               ready = λ e. week-stays;
               row = each;
             };
@@ -173,7 +175,7 @@ module _ (placed : Bool) (fl : List Bool) (weekday days : ℕ) (kind : Kind week
 
 -- a row that was kept already
 pub kept-already : (placed : Bool) (fl : List Bool) (weekday days : ℕ) → Kind weekday days → (rows : List Bool) → Kept placed fl rows
-    → getD rows (rowOf weekday days + 31) false ≡ true → KeptAt placed fl weekday days rows (rowOf weekday days)
+    → getD rows (rowOf weekday days + lastAt) false ≡ true → KeptAt placed fl weekday days rows (rowOf weekday days)
 kept-already placed fl weekday days kind rows kept e =
     record { is = refl; kept = kept; within = omega (arith, kind .week, kind .low, kind .high); row = kept .row weekday days kind e }
 

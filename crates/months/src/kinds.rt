@@ -4,6 +4,7 @@ ghost use lib.ListN.{length};
 ghost use Rattle.matcher.specs.Inner.Flags.{Row};
 ghost use Rattle.months.specs.Inner.Kinds.{Kind};
 ghost use Rattle.months.specs.Inner.Rows.{rowOf, Kept, KeptAt};
+use super::layout::LAST;
 
 pub fn row_of(weekday: u32, days: u32) -> usize
     requires { ⌜ Kind weekday days ⌝ }
@@ -18,11 +19,11 @@ pub fn keep(flags: &[bool], placed: bool, weekday: u32, days: u32, rows: &mut [b
     ensures { λ r. ⌜ KeptAt placed (now (flags .entry)) weekday days (now (rows .exit)) r ⌝ }
 {
     let at = row_of(weekday, days);
-    if rows[at + 31] {
+    if rows[at + LAST] {
         return at;
     }
     super::week::prepare(flags, rows);
     super::rows::write_row(flags, placed, weekday, days, rows, at);
-    rows[at + 31] = true;
+    rows[at + LAST] = true;
     at
 }

@@ -6,20 +6,31 @@ ghost use lib.ListN.{length};
 ghost use Rattle.signed.specs.Choose.{if_then_else_};
 ghost use Rattle.rule.specs.Lists.{countIn};
 ghost use Rattle.matcher.specs.Inner.Flags.{Row, Places, named};
+ghost use Rattle.matcher.specs.Inner.Layout.{positionsAt, positionsBack};
 ghost use Rattle.months.specs.Inner.Kinds.{Kind, staysIn, chosenIn, picksIn};
 ghost use Rattle.months.specs.Inner.Rows.{answerAt, Wrote, Writing};
 ghost use Rattle.months.specs.Inner.Week.{NoPlaces};
+use super::layout::KINDS;
+use super::layout::PLAIN;
+use matcher::layout::DATES;
+use matcher::layout::DATES_BACK;
+use matcher::layout::POSITIONS;
+use matcher::layout::POSITIONS_BACK;
+use matcher::layout::WEEKDAYS;
+
+// The flag of the first day of a month.
+const FIRST_DATE: usize = DATES + 1;
 
 // Day k, from 0, of a month with that many days and with its first on that weekday.
 fn stays_in(flags: &[bool], weekday: u32, days: u32, k: u32) -> bool
     requires { ⌜ Row (length (now flags)) × (Kind weekday days × (k < days)) ⌝ }
     ensures { λ r. ⌜ r ≡ staysIn (now (flags .entry)) weekday days k ⌝ }
 {
-    if !matcher::flags::is_named(flags, 13, 45, k + 1, days) {
+    if !matcher::flags::is_named(flags, DATES, DATES_BACK, k + 1, days) {
         return false;
     }
     let here = (weekday + k) % 7;
-    if flags[77 + here as usize] {
+    if flags[WEEKDAYS + here as usize] {
         return true;
     }
     matcher::flags::is_nth(flags, here, k, days)
@@ -62,8 +73,8 @@ fn write_plain(flags: &[bool], weekday: usize, days: usize, rows: &mut [bool], a
 {
     let mut k = 0;
     while k < days {
-        let date = either(flags[14 + k], flags[45 + days - k]);
-        rows[at + k] = both(date, rows[896 + weekday + k]);
+        let date = either(flags[FIRST_DATE + k], flags[DATES_BACK + days - k]);
+        rows[at + k] = both(date, rows[KINDS + weekday + k]);
         k += 1;
     }
 }
@@ -72,7 +83,7 @@ fn write_days(flags: &[bool], weekday: u32, days: u32, rows: &mut [bool], at: us
     requires { ⌜ Writing (now flags) weekday days (now rows) at ⌝ }
     ensures { λ r. ⌜ Wrote (staysIn (now (flags .entry)) weekday days) (now (rows .entry)) at days (now (rows .exit)) ⌝ }
 {
-    if rows[959] {
+    if rows[PLAIN] {
         write_plain(flags, weekday as usize, days as usize, rows, at);
         return;
     }
@@ -105,13 +116,13 @@ pub(crate) fn count_days(rows: &[bool], at: usize, days: u32) -> u32
 
 // A day that stays has a place among those that do.
 fn is_chosen(flags: &[bool], stays: bool, seen: u32, total: u32) -> bool
-    requires { ⌜ (stays ≡ true → Places (length (now flags)) 840 1207 (seen + 1) total) ⌝ }
-    ensures { λ r. ⌜ r ≡ (if stays then named (now (flags .entry)) 840 1207 (seen + 1) total else false) ⌝ }
+    requires { ⌜ (stays ≡ true → Places (length (now flags)) positionsAt positionsBack (seen + 1) total) ⌝ }
+    ensures { λ r. ⌜ r ≡ (if stays then named (now (flags .entry)) positionsAt positionsBack (seen + 1) total else false) ⌝ }
 {
     if !stays {
         return false;
     }
-    matcher::flags::is_named(flags, 840, 1207, seen + 1, total)
+    matcher::flags::is_named(flags, POSITIONS, POSITIONS_BACK, seen + 1, total)
 }
 
 fn choose_days(flags: &[bool], days: u32, rows: &mut [bool], at: usize)

@@ -12,6 +12,7 @@ use borrow.Author.Tests.{ltb-true, ltb-false, lt-ltb, le-ltb}
 use Rattle.signed.specs.Choose.{if_then_else_}
 use Rattle.rule.specs.Gives.{endDay, onDay}
 use Rattle.rule.proofs.Bools.{by}
+use Rattle.matcher.specs.Inner.Layout.{rowSize, listSize}
 use Rattle.track.specs.declared.Track.{Track}
 use Rattle.dates.specs.declared.Dates.{Dates}
 use Rattle.dates.specs.Inner.Tracked.{Weeks}
@@ -131,8 +132,8 @@ any-first : (l : List Track) (a b : Track) → 1 ≤ length l → getD l 0 a ≡
 any-first [] a b h = absurd (omega arith)
 any-first (t ∷ l) a b h = refl
 
-pub only-row : (d : Dates) (rows : List Bool) → Whole d (length rows) 0 0 → length (take 1574 rows) ≡ 1574
-only-row d rows w = length-take-le 1574 rows (omega (arith, w .size))
+pub only-row : (d : Dates) (rows : List Bool) → Whole d (length rows) 0 0 → length (take rowSize rows) ≡ rowSize
+only-row d rows w = length-take-le rowSize rows (omega (arith, w .size))
 
 module _ (d : Dates) (rows : List Bool) (w : Whole d (length rows) 0 0) (one : d .rules .count ≡ 1) where
   pub has-rule : 1 ≤ length (d .rules .list)
@@ -145,12 +146,12 @@ module _ (d : Dates) (rows : List Bool) (w : Whole d (length rows) 0 0) (one : d
       go [] w h = absurd (omega arith)
       go (a ∷ l) w h = w .0
 
-  pub plain-rows : d .excluded .count ≡ 0 → (other : Track) → ByMonths (getD (d .rules .list) 0 other .terms) (take 1574 rows) → Plain d rows
+  pub plain-rows : d .excluded .count ≡ 0 → (other : Track) → ByMonths (getD (d .rules .list) 0 other .terms) (take rowSize rows) → Plain d rows
   plain-rows none other m =
       record {
         one = one;
         none = none;
-        by-months = λ another. subst (λ (t : Track). ByMonths (t .terms) (take 1574 rows)) (any-first (d .rules .list) other another has-rule) m;
+        by-months = λ another. subst (λ (t : Track). ByMonths (t .terms) (take rowSize rows)) (any-first (d .rules .list) other another has-rule) m;
       }
 
 -- ---- the days of the window
@@ -169,7 +170,7 @@ module _ (d : Dates) (rows : List Bool) (from to places : ℕ) (l : Listing d ro
   low-day = let low = l .span .low in omega (arith, from-day (d .start) from .reached)
 
   pub window-asks : (other : Track) → places ≤ 1024
-      → Listable (getD (d .rules .list) 0 other .terms) (take 1574 rows) (dayFrom (d .start) from) (dayFrom (d .start) to) 1 places
+      → Listable (getD (d .rules .list) 0 other .terms) (take rowSize rows) (dayFrom (d .start) from) (dayFrom (d .start) to) 1 places
   window-asks other most =
       record {
         by-months = l .plain .by-months other;
@@ -183,14 +184,14 @@ module _ (d : Dates) (rows : List Bool) (from to places : ℕ) (l : Listing d ro
       }
 
   pub window-listed : (other : Track) (before after : List ℕ) (count next : ℕ)
-      → Stopped (startOr (getD (d .rules .list) 0 other) (take 1574 rows) (d .start / 86400)) (dayFrom (d .start) from) (dayFrom (d .start) to) before 0 after count next
+      → Stopped (startOr (getD (d .rules .list) 0 other) (take rowSize rows) (d .start / 86400)) (dayFrom (d .start) from) (dayFrom (d .start) to) before 0 after count next
       → ListedWindow d rows from to before after count next
   window-listed other before after count next s =
       record {
         size = s .size;
         stopped = λ another.
             subst
-            (λ (t : Track). Stopped (startOr t (take 1574 rows) (d .start / 86400)) (dayFrom (d .start) from) (dayFrom (d .start) to) before 0 after count next)
+            (λ (t : Track). Stopped (startOr t (take rowSize rows) (d .start / 86400)) (dayFrom (d .start) from) (dayFrom (d .start) to) before 0 after count next)
             (any-first (d .rules .list) other another (has-rule d rows (l .whole) (l .plain .one))) s;
       }
 
@@ -212,12 +213,12 @@ module _ (d : Dates) (rows : List Bool) (from to places : ℕ) (l : Listing d ro
         → HandedUnnamed d rows from to before after count (goesOn (d .start) to next)
     listed-ids room before after fits s =
         let stop = w .stopped default in
-        let same : take 1574 rows ≡ take 1574 (take 12592 rows) = sym (take-take 1574 12592 rows (omega arith)) in
+        let same : take rowSize rows ≡ take rowSize (take listSize rows) = sym (take-take rowSize listSize rows (omega arith)) in
         record {
           size = s .size;
           handed = λ ids gone none.
               listed-hands (d .start) (datesIn d rows ids gone) _
-              (timed (d .start) (d .rules) (take 12592 rows) (d .excluded) _ ids gone (l .plain .one) (l .plain .none) none default (has-rule d rows (l .whole) (l .plain .one)))
+              (timed (d .start) (d .rules) (take listSize rows) (d .excluded) _ ids gone (l .plain .one) (l .plain .none) none default (has-rule d rows (l .whole) (l .plain .one)))
               from to (l .span .order) next (stop .low) (stop .high) (stop .ahead (omega arith))
               before after count (s .size) (omega (arith, stop .few))
               (ap (λ (n : ℕ). take n after) listed-part

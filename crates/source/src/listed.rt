@@ -10,6 +10,7 @@ use dates::Dates;
 use listing::DayChunk;
 use listing::whole::is_by_months;
 use listing::whole::list_chunk;
+use matcher::layout::ROW;
 use window::Chunk;
 use window::next::day_from;
 
@@ -42,7 +43,7 @@ pub(crate) fn is_listed(dates: Dates, rows: &[bool], ids: &[u64], from: u64, to:
     let rules = dates.rules;
     let list = rules.list;
     let track = list[0];
-    is_by_months(track.terms, &rows[..1574])
+    is_by_months(track.terms, &rows[..ROW])
 }
 
 // The days of the window, as many as fit.
@@ -57,7 +58,7 @@ fn list_window(dates: Dates, rows: &[bool], from: u64, to: u64, days: &mut [u32]
     let end = day_from(start, to);
     list_chunk(
         list[0],
-        &rows[..1574],
+        &rows[..ROW],
         (start / 86400) as u32,
         first as u32,
         end as u32,

@@ -14,6 +14,7 @@ use crate::patched::text_by;
 use crate::visible::visible;
 use event_text::Head;
 use loading::whole::load;
+use matcher::layout::LISTS;
 use opening::calls::is_public;
 use opening::calls::is_secret;
 use record::window::since_1600;
@@ -31,7 +32,7 @@ fn look_up_event(text: &[u8], ends: &[u32], title: bool, public: bool, head: Hea
     ensures { λ r. ⌜ Placed (length (now (text .entry))) (shownBy public (isOccurrence (eventOf (now (text .entry))) x) (placeOf (chosen title (detailsAt (eventOf (now (text .entry))) x)))) (lookupShown r) ⌝ }
 {
     let limit = (x / 86400) as u32 + 1;
-    let mut rows = [false; 25184];
+    let mut rows = [false; LISTS];
     let mut ids = [0u64; 256];
     let mut gone = [false; 256];
     let mut places = [0usize; 256];

@@ -23,6 +23,7 @@ use Rattle.rule.specs.Inner.Bounds.{InCalendar}
 use Rattle.rule.proofs.Bools.{by}
 use Rattle.matcher.specs.declared.Terms.{Terms}
 use Rattle.matcher.specs.Inner.Flags.{named, nthBy, monthBy, dateBy, dayBy, staysBy}
+use Rattle.matcher.specs.Inner.Layout.{datesAt, datesBack, weekdaysAt, positionsAt, positionsBack}
 use Rattle.matcher.specs.Inner.Walk.{Asked, staysOnBy, stepBy, placedBy, picksBy, picksOnBy}
 use Rattle.matcher.proofs.WalkLaws.{step-each, in-calendar}
 use Rattle.months.specs.Inner.Kinds.{Kind, staysIn, chosenIn, picksIn}
@@ -40,12 +41,12 @@ use Rattle.track.proofs.LeapLaws.{firstOf, first-of-month, month-not-ea
 pub weekdays-none : (row : List Bool) → WeekdaysSet row 0
 weekdays-none row = record { each = λ w h. absurd (omega arith) }
 
-pub weekdays-more : (row : List Bool) (k : ℕ) → WeekdaysSet row k → getD row (77 + k) false ≡ true → WeekdaysSet row (k + 1)
+pub weekdays-more : (row : List Bool) (k : ℕ) → WeekdaysSet row k → getD row (weekdaysAt + k) false ≡ true → WeekdaysSet row (k + 1)
 weekdays-more row k s e =
     record {
       each = λ w h.
           by (ltb w k) (λ b. s .each w (ltb-true w k b))
-          (λ b. let same : k ≡ w = omega (arith, ltb-false w k b) in subst (λ (i : ℕ). getD row (77 + i) false ≡ true) same e);
+          (λ b. let same : k ≡ w = omega (arith, ltb-false w k b) in subst (λ (i : ℕ). getD row (weekdaysAt + i) false ≡ true) same e);
     }
 
 -- ---- counting and marking by other numbers
@@ -92,7 +93,7 @@ period-same Yearly w x y e year month = year
 -- the place of a day among those of its period that stay
 placed-at : (t : Terms) (row : List Bool) (y : Day) (before first n : ℕ) → sinceFirst (t .frequency) (t .first) y ≡ before → y .number - before ≡ first
     → daysOf (t .frequency) y ≡ n
-    → placedBy t row y ≡ named row 840 1207 (countIn (staysOnBy row (t .inyear)) first before + 1) (countIn (staysOnBy row (t .inyear)) first n)
+    → placedBy t row y ≡ named row positionsAt positionsBack (countIn (staysOnBy row (t .inyear)) first before + 1) (countIn (staysOnBy row (t .inyear)) first n)
 unfolding placedBy
 placed-at t row y before first n e f g = rw (e, f, g)
 
@@ -134,10 +135,10 @@ module _ (t : Terms) (row : List Bool) (like : Alike t row) where
   year-plain x h = go (t .inyear) refl
     where
       go : (b : Bool) → t .inyear ≡ b
-          → (if getD row (77 + x .weekday) false then true
+          → (if getD row (weekdaysAt + x .weekday) false then true
           else if b then nthBy row (x .weekday) (x .yearday) (x .yeardays)
           else nthBy row (x .weekday) (x .monthday - 1) (x .monthdays))
-          ≡ (if getD row (77 + x .weekday) false then true else nthBy row (x .weekday) (x .monthday - 1) (x .monthdays))
+          ≡ (if getD row (weekdaysAt + x .weekday) false then true else nthBy row (x .weekday) (x .monthday - 1) (x .monthdays))
       go true e = rw (like .weekdays e .each (x .weekday) h)
       go false e = refl
 
@@ -199,17 +200,17 @@ module _ (t : Terms) (row : List Bool) (like : Alike t row) where
         there : later (firstOf x) k ≡ dayAt (firstOf x .number + k)
         there = in-same-month (firstOf x) (first-of-month x (a .day) known) k (omega (arith, a .high, facts .monthdays)) (omega arith)
 
-        date-kind : dateBy row (later (firstOf x) k) ≡ named row 13 45 (k + 1) (x .monthdays)
+        date-kind : dateBy row (later (firstOf x) k) ≡ named row datesAt datesBack (k + 1) (x .monthdays)
         unfolding dateBy
-        date-kind = ap (λ (n : ℕ). named row 13 45 n (x .monthdays)) (omega arith)
+        date-kind = ap (λ (n : ℕ). named row datesAt datesBack n (x .monthdays)) (omega arith)
 
         day-kind : dayBy row (t .inyear) (later (firstOf x) k)
-            ≡ (if getD row (77 + (firstWeekday x + k) % 7) false then true else nthBy row ((firstWeekday x + k) % 7) k (x .monthdays))
+            ≡ (if getD row (weekdaysAt + (firstWeekday x + k) % 7) false then true else nthBy row ((firstWeekday x + k) % 7) k (x .monthdays))
         unfolding dayBy
         day-kind =
             year-plain (later (firstOf x) k) (omega arith)
             ∙ ap
-            (λ (n : ℕ). if getD row (77 + (firstWeekday x + k) % 7) false then true else nthBy row ((firstWeekday x + k) % 7) n (x .monthdays))
+            (λ (n : ℕ). if getD row (weekdaysAt + (firstWeekday x + k) % 7) false then true else nthBy row ((firstWeekday x + k) % 7) n (x .monthdays))
             (omega arith)
 
         stays-kind : staysBy row (t .inyear) (later (firstOf x) k) ≡ stay k
@@ -225,7 +226,7 @@ module _ (t : Terms) (row : List Bool) (like : Alike t row) where
           count-shift (staysOnBy row (t .inyear)) stay (firstOf x .number) 0 m (λ i less. stays-there i (omega arith) ∙ ap stay (omega arith))
 
       module _ (k : ℕ) (h : k < x .monthdays) where
-        place-kind : t .frequency ≡ Monthly → placedBy t row (later (firstOf x) k) ≡ named row 840 1207 (countIn stay 0 k + 1) (countIn stay 0 (x .monthdays))
+        place-kind : t .frequency ≡ Monthly → placedBy t row (later (firstOf x) k) ≡ named row positionsAt positionsBack (countIn stay 0 k + 1) (countIn stay 0 (x .monthdays))
         unfolding sinceFirst daysOf
         place-kind e =
             placed-at t row (later (firstOf x) k) k (firstOf x .number) (x .monthdays) (rw e (omega arith)) (omega arith) (rw e)
@@ -243,7 +244,7 @@ module _ (t : Terms) (row : List Bool) (like : Alike t row) where
 
             go : (p : Bool) → t .placed ≡ p
                 → (if stay k then (if p then placedBy t row (later (firstOf x) k) else true) else false)
-                ≡ (if p then (if stay k then named row 840 1207 (countIn stay 0 k + 1) (countIn stay 0 (x .monthdays)) else false) else stay k)
+                ≡ (if p then (if stay k then named row positionsAt positionsBack (countIn stay 0 k + 1) (countIn stay 0 (x .monthdays)) else false) else stay k)
             go true e = ap (λ (b : Bool). if stay k then b else false) (place-kind (monthly e))
             go false e = plain (stay k)
 

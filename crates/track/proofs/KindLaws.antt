@@ -25,6 +25,7 @@ use Rattle.rule.proofs.DayLaws.{day-facts}
 use Rattle.rule.proofs.PeriodLaws.{day-number}
 use Rattle.matcher.specs.declared.Terms.{Terms}
 use Rattle.matcher.specs.Inner.Flags.{named, staysBy}
+use Rattle.matcher.specs.Inner.Layout.{positionsAt, positionsBack}
 use Rattle.matcher.specs.Inner.Walk.{staysOnBy, stepBy, placedBy, picksBy, picksOnBy}
 use Rattle.track.specs.Inner.Years.{NewYear, ownsPlaces, phaseOf}
 use Rattle.track.proofs.YearDayLaws.{anyYear, stays-alike, days-alike, year-known, year-at, year-whole, year-same}
@@ -79,8 +80,8 @@ placed-alike t row a b p =
     count-shift q from-a from-b (sinceFirst (t .frequency) (t .first) a) (λ i less. p .days i (omega (arith, p .less))) ∙ ap (countIn q from-b) (p .since) in
     let total : countIn q from-a (daysOf (t .frequency) a) ≡ countIn q from-b (daysOf (t .frequency) b) =
     count-shift q from-a from-b (daysOf (t .frequency) a) (p .days) ∙ ap (countIn q from-b) (p .whole) in
-    ap (λ (k : ℕ). named row 840 1207 (k + 1) (countIn q from-a (daysOf (t .frequency) a))) seen
-    ∙ ap (λ (k : ℕ). named row 840 1207 (countIn q from-b (sinceFirst (t .frequency) (t .first) b) + 1) k) total
+    ap (λ (k : ℕ). named row positionsAt positionsBack (k + 1) (countIn q from-a (daysOf (t .frequency) a))) seen
+    ∙ ap (λ (k : ℕ). named row positionsAt positionsBack (countIn q from-b (sinceFirst (t .frequency) (t .first) b) + 1) k) total
 
 -- ---- two years
 

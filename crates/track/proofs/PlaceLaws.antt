@@ -22,6 +22,7 @@ use Rattle.rule.proofs.DayLaws.{day-facts}
 use Rattle.rule.proofs.PeriodLaws.{day-number}
 use Rattle.matcher.specs.declared.Terms.{Terms}
 use Rattle.matcher.specs.Inner.Flags.{named, staysBy}
+use Rattle.matcher.specs.Inner.Layout.{positionsAt, positionsBack}
 use Rattle.matcher.specs.Inner.Walk.{Asked, staysOnBy, stepBy, placedBy, picksBy, picksOnBy}
 use Rattle.matcher.proofs.WalkLaws.{before, whole, asked-early, asked-places}
 use Rattle.track.specs.Inner.Skips.{Between}
@@ -42,10 +43,10 @@ pub scan-starts : (row : List Bool) → Unset row 1
 scan-starts row =
     record { low = omega arith; on = λ j low high. absurd (omega arith); back = λ j low high. absurd (omega arith) }
 
-pub scan-goes-on : (row : List Bool) (k : ℕ) → Unset row k → getD row (840 + k) false ≡ false → getD row (1207 + k) false ≡ false
+pub scan-goes-on : (row : List Bool) (k : ℕ) → Unset row k → getD row (positionsAt + k) false ≡ false → getD row (positionsBack + k) false ≡ false
     → Unset row (k + 1)
 scan-goes-on row k s e f =
-    record { low = omega arith; on = one-more 840 (s .on) e; back = one-more 1207 (s .back) f }
+    record { low = omega arith; on = one-more positionsAt (s .on) e; back = one-more positionsBack (s .back) f }
   where
     one-more : (base : ℕ) → ((j : ℕ) → 1 ≤ j → j < k → getD row (base + j) false ≡ false) → getD row (base + k) false ≡ false
         → (j : ℕ) → 1 ≤ j → j < k + 1 → getD row (base + j) false ≡ false

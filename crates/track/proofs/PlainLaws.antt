@@ -13,6 +13,7 @@ use Rattle.rule.specs.declared.Day.{Day}
 use Rattle.rule.specs.Day.{dayAt}
 use Rattle.matcher.specs.declared.Terms.{Terms}
 use Rattle.matcher.specs.Inner.Flags.{staysBy}
+use Rattle.matcher.specs.Inner.Layout.{rowSize}
 use Rattle.matcher.specs.Inner.Walk.{Asked, stepBy, placedBy, picksBy, picksOnBy}
 use Rattle.matcher.proofs.WalkLaws.{picks-on, in-calendar, number-is, day-again}
 use Rattle.rule.specs.Gives.{endDay}
@@ -137,7 +138,7 @@ module _ (p : ℕ → Bool) (value : Bool) (first : ℕ) (before hits : List Boo
       → length after - (i + n) < length hits - i
   mark-falls after n a some-days more = omega (arith, a .size, m .size)
 
-pub month-at : (t : Terms) (row : ℕ) (x : Day) (n : ℕ) → row ≡ 1574 → t .first < 7 → x ≡ dayAt n → 366 ≤ n → n < endDay → Asked t row x
+pub month-at : (t : Terms) (row : ℕ) (x : Day) (n : ℕ) → row ≡ rowSize → t .first < 7 → x ≡ dayAt n → 366 ≤ n → n < endDay → Asked t row x
 month-at t row x n size week is low high =
     let at = number-is x n is in
     record { row-length = size; week = week; day = day-again x n is; low = omega arith; high = omega arith }

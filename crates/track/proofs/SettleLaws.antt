@@ -21,6 +21,7 @@ use Rattle.rule.specs.Gives.{endDay, onDay, picks, falls, gives}
 use Rattle.rule.specs.Inner.Read.{untilFrom, countFrom, written}
 use Rattle.rule.proofs.Counting.{count-same}
 use Rattle.matcher.specs.declared.Terms.{Terms}
+use Rattle.matcher.specs.Inner.Layout.{rowSize}
 use Rattle.matcher.specs.Inner.Walk.{picksBy, picksOnBy}
 use Rattle.matcher.specs.Inner.Rows.{Termed}
 use Rattle.matcher.specs.Inner.Member.{isFirst, fallsBy, fallsOnBy}
@@ -115,11 +116,11 @@ cleared-flag n j = clear-row n j
 
 -- what the code settles, with a row that was clear before
 pub settled : (excluded : Bool) (r : Rule) (start limit : ℕ) (row : List Bool) (t : Track) → 366 ≤ start / 86400 → limit ≤ endDay
-    → SettledBy excluded r start limit (cleared 1574) row t → Settled excluded start limit (written r) row t
+    → SettledBy excluded r start limit (cleared rowSize) row t → Settled excluded start limit (written r) row t
 settled excluded r start limit row t low most s =
     let m : Marked (written r) (dayAt (start / 86400)) row =
     subst (Marked (written r) (dayAt (start / 86400))) (sym (s .row))
-    (row-marked (cleared 1574) (written r) (dayAt (start / 86400)) (cleared-size 1574) (cleared-flag 1574))
+    (row-marked (cleared rowSize) (written r) (dayAt (start / 86400)) (cleared-size rowSize) (cleared-flag rowSize))
     in
     record {
       size = m .size;

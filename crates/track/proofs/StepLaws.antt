@@ -23,6 +23,7 @@ use Rattle.rule.proofs.PeriodLaws.{day-number}
 use Rattle.rule.proofs.DayLaws.{of-day, step-month, step-year, step-next-year}
 use Rattle.matcher.specs.declared.Terms.{Terms}
 use Rattle.matcher.specs.Inner.Flags.{Places, named, staysBy}
+use Rattle.matcher.specs.Inner.Layout.{positionsAt, positionsBack, rowSize}
 use Rattle.matcher.specs.Inner.Walk.{Asked, staysOnBy, stepBy, placedBy, picksBy, picksOnBy}
 use Rattle.matcher.proofs.WalkLaws.{number-is, asked-early, asked-places, asked-small, stays-on, picks-on}
 use Rattle.track.specs.declared.Cursor.{Cursor}
@@ -200,7 +201,7 @@ module _ (t : Terms) (row : List Bool) (c : Cursor) (hold : Holding t row (lengt
     unfolding cursorAt cursorOn totalOn
     held-total = ap (λ (k : Cursor). k .total) (hold .is) ∙ (ap (totalOn t row) (sym held-day) ∙ rw counted)
 
-    pub held-places : staysBy row (t .inyear) (c .day) ≡ true → Places (length row) 840 1207 (c .seen + 1) (c .total)
+    pub held-places : staysBy row (t .inyear) (c .day) ≡ true → Places (length row) positionsAt positionsBack (c .seen + 1) (c .total)
     unfolding staying
     held-places e = asked-places t (length row) (c .day) held-asked row (c .seen) (c .total) e held-seen held-total
 
@@ -225,7 +226,7 @@ module _ (t : Terms) (row : List Bool) (c : Cursor) (hold : Holding t row (lengt
     unfolding picksBy
     picks-any e g p f = answer (rw (e, g, p) (sym f))
 
-    pub picks-placed : staysBy row (t .inyear) (c .day) ≡ true → stepBy t (c .day) ≡ true → t .placed ≡ true → r ≡ named row 840 1207 (c .seen + 1) (c .total)
+    pub picks-placed : staysBy row (t .inyear) (c .day) ≡ true → stepBy t (c .day) ≡ true → t .placed ≡ true → r ≡ named row positionsAt positionsBack (c .seen + 1) (c .total)
         → r ≡ picksOnBy t row (c .day .number)
     unfolding picksBy placedBy staying
     picks-placed e g p f = answer (rw (e, g, p) (sym (f ∙ rw (held-seen p, held-total p))))
@@ -287,7 +288,7 @@ at-number t row c n e = ap (λ (k : Cursor). k .day .number) e ∙ day-number n
 pub at-again : (t : Terms) (row : List Bool) (c : Cursor) (n : ℕ) → c ≡ cursorAt t row n → c ≡ cursorAt t row (c .day .number)
 at-again t row c n e = e ∙ ap (cursorAt t row) (sym (at-number t row c n e))
 
-pub held-here : (t : Terms) (row : List Bool) (c : Cursor) (n : ℕ) → length row ≡ 1574 → t .first < 7 → 366 ≤ n → n < endDay → c ≡ cursorAt t row n
+pub held-here : (t : Terms) (row : List Bool) (c : Cursor) (n : ℕ) → length row ≡ rowSize → t .first < 7 → 366 ≤ n → n < endDay → c ≡ cursorAt t row n
     → Holding t row (length row) c
 held-here t row c n size week low high e =
     let at = at-number t row c n e in

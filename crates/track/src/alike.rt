@@ -6,22 +6,24 @@ ghost use lib.ListN.{length};
 ghost use Rattle.signed.specs.Choose.{if_then_else_};
 ghost use Rattle.rule.specs.declared.Frequency.the-variants.{Monthly};
 ghost use Rattle.rule.specs.Inner.Bounds.{InCalendar};
+ghost use Rattle.matcher.specs.Inner.Layout.{rowSize};
 ghost use Rattle.matcher.specs.Inner.Walk.{Asked};
 ghost use Rattle.months.specs.Inner.Rows.{answerAt, Kept};
 ghost use Rattle.track.specs.Inner.Runs.{marked};
 ghost use Rattle.track.specs.Inner.Plain.{InMonth};
 ghost use Rattle.track.specs.Inner.Alike.{isWhole, WeekdaysSet, Alike, MarkedMonth, firstWeekday};
 use matcher::Terms;
+use matcher::layout::WEEKDAYS;
 use rule::Day;
 use rule::Frequency;
 
 fn has_all_weekdays(flags: &[bool]) -> bool
-    requires { ⌜ length (now flags) ≡ 1574 ⌝ }
+    requires { ⌜ length (now flags) ≡ rowSize ⌝ }
     ensures { λ r. ⌜ (r ≡ true → WeekdaysSet (now (flags .entry)) 7) × (WeekdaysSet (now (flags .entry)) 7 → r ≡ true) ⌝ }
 {
     let mut k = 0;
     while k < 7 {
-        if !flags[77 + k] {
+        if !flags[WEEKDAYS + k] {
             return false;
         }
         k += 1;
@@ -31,7 +33,7 @@ fn has_all_weekdays(flags: &[bool]) -> bool
 
 // No weekday's place in the year is asked for.
 fn counts_in_months(inyear: bool, flags: &[bool]) -> bool
-    requires { ⌜ length (now flags) ≡ 1574 ⌝ }
+    requires { ⌜ length (now flags) ≡ rowSize ⌝ }
     ensures { λ r. ⌜ (r ≡ true → inyear ≡ true → WeekdaysSet (now (flags .entry)) 7) × ((inyear ≡ true → WeekdaysSet (now (flags .entry)) 7) → r ≡ true) ⌝ }
 {
     if !inyear {
@@ -53,7 +55,7 @@ fn is_whole(frequency: Frequency) -> bool
 
 // What the rule has of a month that is set and in step depends only on the month's kind.
 pub fn is_alike(terms: Terms, flags: &[bool]) -> bool
-    requires { ⌜ length (now flags) ≡ 1574 ⌝ }
+    requires { ⌜ length (now flags) ≡ rowSize ⌝ }
     ensures { λ r. ⌜ (r ≡ true → Alike terms (now (flags .entry))) × (Alike terms (now (flags .entry)) → r ≡ true) ⌝ }
 {
     if !counts_in_months(terms.inyear, flags) {

@@ -7,6 +7,7 @@ ghost use Rattle.track.specs.Inner.Runs.{marked, Run};
 ghost use Rattle.track.specs.Inner.Plain.{InMonth};
 ghost use Rattle.track.specs.Inner.Alike.{Way, MarkedMonth};
 use matcher::Terms;
+use months::layout::ANSWERS;
 use rule::Day;
 
 // The days of one month from x on, as many as there are hits.
@@ -40,7 +41,7 @@ pub(crate) fn mark_parts(
     requires { ⌜ Way alike terms (now flags) × Run terms (length (now flags)) first (length (now hits)) ⌝ }
     ensures { λ r. ⌜ now (hits .exit) ≡ marked (picksOnBy terms (now (flags .entry))) value first (now (hits .entry)) ⌝ }
 {
-    let mut rows = [false; 960];
+    let mut rows = [false; ANSWERS];
     let mut x = rule::days::day_of(first);
     let mut i = 0;
     while i < hits.len() {

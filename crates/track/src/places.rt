@@ -1,9 +1,12 @@
 // Set positions that a period has too few days for.
 ghost use mathlib.Core.Path.{_≡_};
 ghost use lib.ListN.{length};
+ghost use Rattle.matcher.specs.Inner.Layout.{rowSize};
 ghost use Rattle.matcher.specs.Inner.Walk.{Asked};
 ghost use Rattle.track.specs.Inner.Places.{mostDays, Unset, InPeriod};
 use matcher::Terms;
+use matcher::layout::POSITIONS;
+use matcher::layout::POSITIONS_BACK;
 use rule::Day;
 use rule::Frequency;
 
@@ -20,7 +23,7 @@ pub(crate) fn most_days(frequency: Frequency) -> u32
 
 // The least number of days that a period must have for a set position to name one of them.
 pub(crate) fn least_days(terms: Terms, flags: &[bool]) -> u32
-    requires { ⌜ length (now flags) ≡ 1574 ⌝ }
+    requires { ⌜ length (now flags) ≡ rowSize ⌝ }
     ensures { λ r. ⌜ Unset (now (flags .entry)) r ⌝ }
 {
     let placed = terms.placed;
@@ -31,10 +34,10 @@ pub(crate) fn least_days(terms: Terms, flags: &[bool]) -> u32
     let most = most_days(frequency);
     let mut k = 1;
     while k <= most {
-        if flags[840 + k as usize] {
+        if flags[POSITIONS + k as usize] {
             return k;
         }
-        if flags[1207 + k as usize] {
+        if flags[POSITIONS_BACK + k as usize] {
             return k;
         }
         k += 1;
@@ -44,7 +47,7 @@ pub(crate) fn least_days(terms: Terms, flags: &[bool]) -> u32
 
 // Days from this one on to the end of its period, or of the profile.
 pub(crate) fn to_period_end(terms: Terms, x: Day) -> u32
-    requires { ⌜ Asked terms 1574 x ⌝ }
+    requires { ⌜ Asked terms rowSize x ⌝ }
     ensures { λ r. ⌜ InPeriod terms x r ⌝ }
 {
     let frequency = terms.frequency;

@@ -5,6 +5,7 @@ ghost use Prim.Native.Nat.{_<_, _≤_};
 ghost use lib.ListN.{length};
 ghost use Rattle.rule.specs.Day.{dayAt};
 ghost use Rattle.rule.specs.Gives.{endDay};
+ghost use Rattle.matcher.specs.Inner.Layout.{rowSize};
 ghost use Rattle.matcher.specs.Inner.Walk.{Asked, picksOnBy};
 ghost use Rattle.track.specs.Inner.Skips.{Without, Between, stepAt, stepOn, monthOn, MonthsUnset, toMonthEnd, daysAhead, isCarried};
 ghost use Rattle.track.specs.Inner.Places.{Unset};
@@ -58,7 +59,7 @@ fn days_ahead(frequency: Frequency, first: u32, n: u32, x: Day) -> u32
 
 // Days from this one on that are out of step.
 fn days_out(terms: Terms, x: Day) -> u32
-    requires { ⌜ Asked terms 1574 x ⌝ }
+    requires { ⌜ Asked terms rowSize x ⌝ }
     ensures { λ r. ⌜ Without (stepOn terms) (x .number) r ⌝ }
 {
     let frequency = terms.frequency;
@@ -72,7 +73,7 @@ fn days_out(terms: Terms, x: Day) -> u32
 
 // Days from this one on to the end of its period, where that is out of step.
 fn period_out(terms: Terms, x: Day) -> u32
-    requires { ⌜ Asked terms 1574 x ⌝ }
+    requires { ⌜ Asked terms rowSize x ⌝ }
     ensures { λ r. ⌜ Without (stepOn terms) (x .number) r ⌝ }
 {
     if matcher::walk::in_step(terms, x) {
@@ -83,7 +84,7 @@ fn period_out(terms: Terms, x: Day) -> u32
 
 // The first month from this one on that the rule has: 13 where the year has none any more.
 fn next_month(flags: &[bool], month: u32) -> u32
-    requires { ⌜ (length (now flags) ≡ 1574) × (month ≤ 12) ⌝ }
+    requires { ⌜ (length (now flags) ≡ rowSize) × (month ≤ 12) ⌝ }
     ensures { λ r. ⌜ MonthsUnset (now (flags .entry)) month r ⌝ }
 {
     let mut next = month;
@@ -98,7 +99,7 @@ fn next_month(flags: &[bool], month: u32) -> u32
 
 // Days from this one on of months that the rule has not, as far as its year goes.
 fn month_out(flags: &[bool], x: Day) -> u32
-    requires { ⌜ (length (now flags) ≡ 1574) × ((x ≡ dayAt (x .number)) × (x .number < endDay)) ⌝ }
+    requires { ⌜ (length (now flags) ≡ rowSize) × ((x ≡ dayAt (x .number)) × (x .number < endDay)) ⌝ }
     ensures { λ r. ⌜ Without (monthOn (now (flags .entry))) (x .number) r ⌝ }
 {
     let month = x.month;

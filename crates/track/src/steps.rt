@@ -7,6 +7,8 @@ ghost use Rattle.matcher.specs.Inner.Walk.{picksOnBy};
 ghost use Rattle.track.specs.Inner.Steps.{isCounted, cursorOn, cursorAt, Reached, Holding};
 use super::Cursor;
 use matcher::Terms;
+use matcher::layout::POSITIONS;
+use matcher::layout::POSITIONS_BACK;
 use rule::Day;
 
 fn is_counted(terms: Terms, n: u32) -> bool
@@ -111,5 +113,5 @@ pub(crate) fn picks(terms: Terms, flags: &[bool], c: Cursor) -> bool
     }
     let seen = c.seen;
     let total = c.total;
-    matcher::flags::is_named(flags, 840, 1207, seen + 1, total)
+    matcher::flags::is_named(flags, POSITIONS, POSITIONS_BACK, seen + 1, total)
 }

@@ -6,6 +6,7 @@ use mathlib.Core.Path.{_≡_}
 use lib.ListN.{length, take, drop, getD, set}
 use Rattle.rule.specs.declared.Rule.{Rule}
 use Rattle.rule.specs.Gives.{endDay}
+use Rattle.matcher.specs.Inner.Layout.{rowSize}
 use Rattle.track.specs.declared.Track.{Track}
 use Rattle.track.specs.Inner.Settle.{cleared, SettledBy}
 use Rattle.dates.specs.declared.Tracks.{Tracks}
@@ -16,7 +17,7 @@ put ts t = record { list = set (ts .list) (ts .count) t; count = ts .count + 1 }
 -- There is room for one more rule.
 pub record Loading (count list flags start limit : ℕ) : Type 0 where
   pub room : count < list
-  pub rows : 1574 * (count + 1) ≤ flags
+  pub rows : rowSize * (count + 1) ≤ flags
   pub few : count < 8
   pub low : 366 ≤ start / 86400
   pub high : start / 86400 < endDay
@@ -26,5 +27,5 @@ pub record Loading (count list flags start limit : ℕ) : Type 0 where
 pub record Added (excluded : Bool) (r : Rule) (start limit : ℕ) (ts : Tracks) (before after : List Bool) (next : Tracks) : Type 0 where
   pub track : Track
   pub list : next ≡ put ts track
-  pub kept : take (1574 * ts .count) after ≡ take (1574 * ts .count) before
-  pub settled : SettledBy excluded r start limit (cleared 1574) (take 1574 (drop (1574 * ts .count) after)) track
+  pub kept : take (rowSize * ts .count) after ≡ take (rowSize * ts .count) before
+  pub settled : SettledBy excluded r start limit (cleared rowSize) (take rowSize (drop (rowSize * ts .count) after)) track

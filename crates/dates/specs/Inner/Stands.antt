@@ -6,6 +6,7 @@ use mathlib.Core.Path.{_≡_}
 use lib.ListN.{length, take, drop}
 use Rattle.rule.specs.Written.{RecurrenceRule}
 use Rattle.rule.specs.Gives.{endDay}
+use Rattle.matcher.specs.Inner.Layout.{rowSize}
 use Rattle.track.specs.declared.Track.{Track}
 use Rattle.track.specs.Inner.Settle.{Settled}
 use Rattle.recurrence.specs.Event.{Override, Event}
@@ -16,7 +17,7 @@ Settles excluded start limit [] [] flags = Unit {0}
 Settles excluded start limit [] (t ∷ ts) flags = ⊥
 Settles excluded start limit (r ∷ rs) [] flags = ⊥
 Settles excluded start limit (r ∷ rs) (t ∷ ts) flags =
-    Settled excluded start limit r (take 1574 flags) t × Settles excluded start limit rs ts (drop 1574 flags)
+    Settled excluded start limit r (take rowSize flags) t × Settles excluded start limit rs ts (drop rowSize flags)
 
 unfoldable pub overridesOf : List ℕ → List Bool → List Override
 overridesOf [] gone = []

@@ -6,13 +6,14 @@ use mathlib.Core.Path.{_≡_}
 use lib.ListN.{length, take}
 use Rattle.rule.specs.Gives.{endDay}
 use Rattle.matcher.specs.declared.Terms.{Terms}
+use Rattle.matcher.specs.Inner.Layout.{rowSize}
 use Rattle.window.specs.Inner.Lists.{listIn}
 use Rattle.listing.specs.Inner.Parts.{ByMonths}
 
 -- The days from `first` on and before `end` lie in the profile, the rule goes by months, and the list has `at` entries or more.
 pub record Listable (t : Terms) (row : List Bool) (first end at days : ℕ) : Type 0 where
   pub by-months : ByMonths t row
-  pub row-length : length row ≡ 1574
+  pub row-length : length row ≡ rowSize
   pub week : t .first < 7
   pub low : 366 ≤ first
   pub order : first ≤ end

@@ -5,6 +5,7 @@ use mathlib.Core.List.{List}
 use mathlib.Core.Path.{_≡_}
 use lib.ListN.{length, take}
 use Rattle.rule.specs.Gives.{endDay}
+use Rattle.matcher.specs.Inner.Layout.{listsSize}
 use Rattle.event.specs.Event.{eventOf}
 use Rattle.override_text.specs.Inner.Meaning.{detailsIn}
 use Rattle.event_text.specs.declared.Head.{Head}
@@ -22,7 +23,7 @@ use Rattle.loading.specs.declared.Kept.{Kept}
 pub record Loadable (s t : List ℕ) (h : Head) (limit rows ids gone places : ℕ) : Type 0 where
   pub taken : Taken s t h
   pub within : limit ≤ endDay
-  pub row-room : rows ≡ 25184
+  pub row-room : rows ≡ listsSize
   pub ids-room : 256 ≤ ids
   pub gone-room : 256 ≤ gone
   pub places-room : 256 ≤ places

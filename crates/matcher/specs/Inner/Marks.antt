@@ -11,6 +11,7 @@ use Rattle.signed.specs.Parts.{posPart, negPart}
 use Rattle.rule.specs.declared.Day.{Day}
 use Rattle.rule.specs.Written.{NDay, RecurrenceRule}
 use Rattle.rule.specs.Implied.{daysFrom, monthDaysFrom, monthsFrom}
+use Rattle.matcher.specs.Inner.Layout.{datesAt, datesBack, weekdaysAt, nthsAt, nthsBack, positionsAt, positionsBack}
 
 -- Flag i of those from `at` on, where there are `limit` of them; a number beyond names nothing.
 unfoldable pub markOne : List Bool → ℕ → ℕ → ℕ → List Bool
@@ -30,8 +31,8 @@ markPlaces fl on back limit (z ∷ l) = markPlaces (markPlace fl on back limit z
 
 -- An entry of `byDay`.
 unfoldable pub markNth : List Bool → ℕ → Option ℤ → List Bool
-markNth fl w none = markOne fl 77 7 w
-markNth fl w (some z) = if ltb w 7 then markPlace fl (84 + 54 * w) (462 + 54 * w) 54 z else fl
+markNth fl w none = markOne fl weekdaysAt 7 w
+markNth fl w (some z) = if ltb w 7 then markPlace fl (nthsAt + 54 * w) (nthsBack + 54 * w) 54 z else fl
 
 unfoldable pub markDays : List Bool → List NDay → List Bool
 markDays fl [] = fl
@@ -45,18 +46,18 @@ markAll fl at (suc n) = markAll (set fl (at + n) true) at n
 -- ---- the whole row
 
 unfoldable pub markMonths : List Bool → List ℕ → List Bool
-markMonths fl [] = markAll fl 0 13
-markMonths fl (m ∷ l) = markEach fl 0 13 (m ∷ l)
+markMonths fl [] = markAll fl 0 datesAt
+markMonths fl (m ∷ l) = markEach fl 0 datesAt (m ∷ l)
 
 unfoldable pub markDates : List Bool → List ℤ → List Bool
-markDates fl [] = markAll fl 13 32
-markDates fl (z ∷ l) = markPlaces fl 13 45 32 (z ∷ l)
+markDates fl [] = markAll fl datesAt 32
+markDates fl (z ∷ l) = markPlaces fl datesAt datesBack 32 (z ∷ l)
 
 unfoldable pub markWeekdays : List Bool → List NDay → List Bool
-markWeekdays fl [] = markAll fl 77 7
+markWeekdays fl [] = markAll fl weekdaysAt 7
 markWeekdays fl (e ∷ l) = markDays fl (e ∷ l)
 
 unfoldable pub markRow : List Bool → RecurrenceRule → Day → List Bool
 markRow fl r s =
-    markPlaces (markWeekdays (markDates (markMonths fl (monthsFrom r s)) (monthDaysFrom r s)) (daysFrom r s)) 840 1207 367
+    markPlaces (markWeekdays (markDates (markMonths fl (monthsFrom r s)) (monthDaysFrom r s)) (daysFrom r s)) positionsAt positionsBack 367
     (r .bySetPosition)

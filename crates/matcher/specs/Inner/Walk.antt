@@ -12,6 +12,7 @@ use Rattle.rule.specs.Period.{periodOf, sinceFirst, daysOf}
 use Rattle.rule.specs.Gives.{endDay}
 use Rattle.matcher.specs.declared.Terms.{Terms}
 use Rattle.matcher.specs.Inner.Flags.{named, staysBy}
+use Rattle.matcher.specs.Inner.Layout.{rowSize, positionsAt, positionsBack}
 
 unfoldable pub staysOnBy : List Bool → Bool → ℕ → Bool
 staysOnBy fl inYear n = staysBy fl inYear (dayAt n)
@@ -24,7 +25,7 @@ placedBy t fl x =
     let before = sinceFirst (t .frequency) (t .first) x in
     let first = x .number - before in
     let count = countIn (staysOnBy fl (t .inyear)) first (daysOf (t .frequency) x) in
-    named fl 840 1207 (countIn (staysOnBy fl (t .inyear)) first before + 1) count
+    named fl positionsAt positionsBack (countIn (staysOnBy fl (t .inyear)) first before + 1) count
 
 unfoldable pub picksBy : Terms → List Bool → Day → Bool
 picksBy t fl x =
@@ -36,7 +37,7 @@ picksOnBy t fl n = picksBy t fl (dayAt n)
 
 -- A rule is asked about a day of the profile: from 1601 on and not after 9998.
 pub record Asked (t : Terms) (row : ℕ) (x : Day) : Type 0 where
-  pub row-length : row ≡ 1574
+  pub row-length : row ≡ rowSize
   pub week : t .first < 7
   pub day : x ≡ dayAt (x .number)
   pub low : 366 ≤ x .number

@@ -6,6 +6,7 @@ use lib.ListN.{getD}
 use Rattle.signed.specs.Choose.{if_then_else_}
 use Rattle.rule.specs.Lists.{countIn}
 use Rattle.matcher.specs.Inner.Flags.{named, nthBy}
+use Rattle.matcher.specs.Inner.Layout.{datesAt, datesBack, weekdaysAt, positionsAt, positionsBack}
 
 -- A month's length, and the weekday of its first day.
 pub record Kind (weekday days : ℕ) : Type 0 where
@@ -17,11 +18,11 @@ pub record Kind (weekday days : ℕ) : Type 0 where
 unfoldable pub staysIn : List Bool → ℕ → ℕ → ℕ → Bool
 staysIn fl weekday days k =
     let nth = nthBy fl ((weekday + k) % 7) k days in
-    if named fl 13 45 (k + 1) days then (if getD fl (77 + (weekday + k) % 7) false then true else nth) else false
+    if named fl datesAt datesBack (k + 1) days then (if getD fl (weekdaysAt + (weekday + k) % 7) false then true else nth) else false
 
 -- Of n days, of which some stay, the set positions choose day k.
 unfoldable pub chosenIn : List Bool → (ℕ → Bool) → ℕ → ℕ → Bool
-chosenIn fl stays n k = if stays k then named fl 840 1207 (countIn stays 0 k + 1) (countIn stays 0 n) else false
+chosenIn fl stays n k = if stays k then named fl positionsAt positionsBack (countIn stays 0 k + 1) (countIn stays 0 n) else false
 
 unfoldable pub picksIn : Bool → List Bool → ℕ → ℕ → ℕ → Bool
 picksIn placed fl weekday days k =

@@ -7,6 +7,7 @@ use lib.Dec.{ltb}
 use lib.ListN.{length, take, getD}
 use Rattle.signed.specs.Choose.{if_then_else_}
 use Rattle.rule.specs.Gives.{onDay}
+use Rattle.matcher.specs.Inner.Layout.{rowSize}
 use Rattle.track.specs.declared.Track.{Track}
 use Rattle.dates.specs.declared.Dates.{Dates}
 use Rattle.dates.specs.Inner.Dates.{Whole, datesIn}
@@ -20,7 +21,7 @@ use Rattle.listing.specs.Inner.Chunks.{Stopped}
 pub record Plain (d : Dates) (rows : List Bool) : Type 0 where
   pub one : d .rules .count ≡ 1
   pub none : d .excluded .count ≡ 0
-  pub by-months : (other : Track) → ByMonths (getD (d .rules .list) 0 other .terms) (take 1574 rows)
+  pub by-months : (other : Track) → ByMonths (getD (d .rules .list) 0 other .terms) (take rowSize rows)
 
 -- A window of such an event, and a slice with room for a month and more.
 pub record Listing (d : Dates) (rows : List Bool) (from to places : ℕ) : Type 0 where
@@ -33,7 +34,7 @@ pub record Listing (d : Dates) (rows : List Bool) (from to places : ℕ) : Type 
 pub record ListedWindow (d : Dates) (rows : List Bool) (from to : ℕ) (before after : List ℕ) (count next : ℕ) : Type 0 where
   pub size : length after ≡ length before
   pub stopped : (other : Track)
-      → Stopped (startOr (getD (d .rules .list) 0 other) (take 1574 rows) (d .start / 86400)) (dayFrom (d .start) from) (dayFrom (d .start) to) before 0 after count next
+      → Stopped (startOr (getD (d .rules .list) 0 other) (take rowSize rows) (d .start / 86400)) (dayFrom (d .start) from) (dayFrom (d .start) to) before 0 after count next
 
 -- Days at the start's time of day stand at the front of a slice.
 pub record Seconds (start : ℕ) (days before after : List ℕ) : Type 0 where

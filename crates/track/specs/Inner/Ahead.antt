@@ -7,6 +7,7 @@ use Rattle.rule.specs.Day.{dayAt}
 use Rattle.rule.specs.Period.{periodOf}
 use Rattle.rule.specs.Gives.{endDay}
 use Rattle.matcher.specs.declared.Terms.{Terms}
+use Rattle.matcher.specs.Inner.Layout.{rowSize}
 use Rattle.matcher.specs.Inner.Walk.{picksOnBy}
 use Rattle.track.specs.declared.Rest.{Rest}
 use Rattle.track.specs.Inner.Last.{endOf}
@@ -28,7 +29,7 @@ AheadOf p a b = AheadAt p (a .day .number) (a .day .number + a .left) (a .more) 
 
 -- What is left of the count of an event that starts in the profile, on a day that is not before the start.
 pub record Resting (t : Terms) (row start : ℕ) (a : Rest) : Type 0 where
-  pub row-length : row ≡ 1574
+  pub row-length : row ≡ rowSize
   pub week : t .first < 7
   pub low : 366 ≤ start / 86400
   pub day : a .day ≡ dayAt (a .day .number)

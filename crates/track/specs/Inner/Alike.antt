@@ -8,6 +8,7 @@ use Rattle.rule.specs.declared.Frequency.{Frequency}
 use Rattle.rule.specs.declared.Frequency.the-variants.{Daily, Weekly, Monthly, Yearly}
 use Rattle.rule.specs.declared.Day.{Day}
 use Rattle.matcher.specs.declared.Terms.{Terms}
+use Rattle.matcher.specs.Inner.Layout.{weekdaysAt}
 use Rattle.matcher.specs.Inner.Walk.{picksOnBy}
 use Rattle.months.specs.Inner.Rows.{Kept}
 use Rattle.track.specs.Inner.Runs.{marked}
@@ -21,7 +22,7 @@ isWhole Yearly = true
 
 -- Every weekday is set without `nthOfPeriod`, the first k of them.
 pub record WeekdaysSet (row : List Bool) (k : ℕ) : Type 0 where
-  pub each : (w : ℕ) → w < k → getD row (77 + w) false ≡ true
+  pub each : (w : ℕ) → w < k → getD row (weekdaysAt + w) false ≡ true
 
 -- No weekday's place in the year is asked for, and a month is in step as a whole.
 pub record Alike (t : Terms) (row : List Bool) : Type 0 where

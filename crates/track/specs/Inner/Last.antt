@@ -11,6 +11,7 @@ use Rattle.rule.specs.Day.{dayAt}
 use Rattle.rule.specs.Period.{periodOf}
 use Rattle.rule.specs.Gives.{endDay}
 use Rattle.matcher.specs.declared.Terms.{Terms}
+use Rattle.matcher.specs.Inner.Layout.{rowSize}
 use Rattle.matcher.specs.Inner.Member.{fallsOnBy}
 
 -- 01, 5: "`until` is inclusive": the day after the last that has the start's time of day not after it.
@@ -37,7 +38,7 @@ lastBy excluded (Count n) t row start limit =
     endOf (fallsOnBy excluded (Count n) t row start) (limit - start / 86400) (start / 86400) n
 
 pub record Ending (t : Terms) (row start limit : ℕ) : Type 0 where
-  pub row-length : row ≡ 1574
+  pub row-length : row ≡ rowSize
   pub week : t .first < 7
   pub low : 366 ≤ start / 86400
   pub high : start / 86400 < endDay

@@ -7,6 +7,7 @@ use lib.Dec.{ltb}
 use Rattle.signed.specs.Choose.{if_then_else_}
 use Rattle.rule.specs.Gives.{endDay}
 use Rattle.matcher.specs.declared.Terms.{Terms}
+use Rattle.matcher.specs.Inner.Layout.{rowSize}
 use Rattle.matcher.specs.Inner.Walk.{picksOnBy}
 use Rattle.track.specs.declared.Track.{Track}
 
@@ -26,13 +27,13 @@ run p d (suc n) = p d ∷ run p (suc d) n
 
 -- A run of n days from `first` on lies in the profile, and the rule has a row of flags and a first day of the week.
 pub record Run (t : Terms) (row first n : ℕ) : Type 0 where
-  pub row-length : row ≡ 1574
+  pub row-length : row ≡ rowSize
   pub week : t .first < 7
   pub low : 366 ≤ first
   pub high : first + n ≤ endDay
 
 pub record Marking (t : Track) (row first n : ℕ) : Type 0 where
-  pub row-length : row ≡ 1574
+  pub row-length : row ≡ rowSize
   pub week : t .terms .first < 7
   pub low : 366 ≤ first
   pub high : first + n ≤ endDay

@@ -9,6 +9,7 @@ use Rattle.rule.specs.Day.{dayAt}
 use Rattle.rule.specs.Written.{RecurrenceRule}
 use Rattle.rule.specs.Inner.Read.{written}
 use Rattle.rule.specs.Gives.{endDay, onDay, gives}
+use Rattle.matcher.specs.Inner.Layout.{rowSize}
 use Rattle.matcher.specs.Inner.Marks.{markRow}
 use Rattle.matcher.specs.Inner.Rows.{Termed}
 use Rattle.matcher.specs.Inner.Member.{isFirst}
@@ -21,7 +22,7 @@ unfoldable pub cleared : ℕ → List Bool
 cleared n = replicate n false
 
 pub record Settling (row start limit : ℕ) : Type 0 where
-  pub row-length : row ≡ 1574
+  pub row-length : row ≡ rowSize
   pub low : 366 ≤ start / 86400
   pub high : start / 86400 < endDay
   pub within : limit ≤ endDay
@@ -35,7 +36,7 @@ pub record SettledBy (excluded : Bool) (r : Rule) (start limit : ℕ) (before af
 -- What it is for: the rule's date-times are those of the days that it has, from the start's day on and before the limit. The start's
 -- own day is apart: a rule that is not excluded has it in any case.
 pub record Settled (excluded : Bool) (start limit : ℕ) (r : RecurrenceRule) (row : List Bool) (t : Track) : Type 0 where
-  pub size : length row ≡ 1574
+  pub size : length row ≡ rowSize
   pub week : t .terms .first < 7
   pub days : (d : ℕ) → start / 86400 ≤ d → d < limit → isFirst excluded (start / 86400) d ≡ false
       → gives excluded r start (onDay start d) ≡ hasDay t row (start / 86400) d

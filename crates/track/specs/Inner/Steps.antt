@@ -11,6 +11,7 @@ use Rattle.rule.specs.Lists.{countIn}
 use Rattle.rule.specs.Period.{sinceFirst, daysOf}
 use Rattle.rule.specs.Gives.{endDay}
 use Rattle.matcher.specs.declared.Terms.{Terms}
+use Rattle.matcher.specs.Inner.Layout.{rowSize}
 use Rattle.matcher.specs.Inner.Walk.{staysOnBy}
 use Rattle.track.specs.declared.Cursor.{Cursor}
 
@@ -36,13 +37,13 @@ cursorAt t row n = cursorOn t row (dayAt n)
 
 -- A day of the profile, or the one after it.
 pub record Reached (t : Terms) (row n : ℕ) : Type 0 where
-  pub row-length : row ≡ 1574
+  pub row-length : row ≡ rowSize
   pub week : t .first < 7
   pub low : 366 ≤ n
   pub high : n ≤ endDay
 
 pub record Holding (t : Terms) (flags : List Bool) (row : ℕ) (c : Cursor) : Type 0 where
-  pub row-length : row ≡ 1574
+  pub row-length : row ≡ rowSize
   pub week : t .first < 7
   pub low : 366 ≤ c .day .number
   pub high : c .day .number < endDay

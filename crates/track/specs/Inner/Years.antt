@@ -17,6 +17,7 @@ use Rattle.rule.specs.Period.{periodOf}
 use Rattle.rule.specs.Inner.Read.{untilFrom}
 use Rattle.rule.specs.Gives.{endDay}
 use Rattle.matcher.specs.declared.Terms.{Terms}
+use Rattle.matcher.specs.Inner.Layout.{rowSize}
 
 -- A year tells which of its days have a set position.
 unfoldable pub ownsPlaces : Frequency → Bool → Bool → Bool
@@ -82,7 +83,7 @@ pub record Alike (t : Terms) : Type 0 where
 
 -- n days of the profile from x on, none before the start.
 pub record Spanning (t : Terms) (row start : ℕ) (x : Day) (n : ℕ) : Type 0 where
-  pub row-length : row ≡ 1574
+  pub row-length : row ≡ rowSize
   pub week : t .first < 7
   pub day : x ≡ dayAt (x .number)
   pub low : 366 ≤ x .number
@@ -92,7 +93,7 @@ pub record Spanning (t : Terms) (row start : ℕ) (x : Day) (n : ℕ) : Type 0 w
 
 -- A year after the start of a rule that only its count ends.
 pub record YearAsked (end : End) (t : Terms) (row start : ℕ) (x : Day) : Type 0 where
-  pub row-length : row ≡ 1574
+  pub row-length : row ≡ rowSize
   pub begins : YearBegins t x
   pub after : start / 86400 < x .number
   pub endless : untilFrom end ≡ none

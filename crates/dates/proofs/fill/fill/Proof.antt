@@ -6,6 +6,7 @@ use mathlib.Core.Path.{_≡_, sym, subst, _∙_, ap}
 use native.Mathlib.Omega.{arith}
 use lib.ListN.{length, take, drop, length-drop}
 use lib.Seq.{length-take-le, take-all}
+use Rattle.matcher.specs.Inner.Layout.{listSize, listsSize}
 use Rattle.dates.specs.Inner.Tracked.{Tracked}
 use Rattle.dates.specs.Inner.Dates.{keptDates}
 use Rattle.dates.proofs.FillLaws.{filled}
@@ -14,15 +15,15 @@ use Rattle.dates.proofs.fill.fill.Statement.{statement}
 use Rattle.dates.proofs.fill.fill.Tie as tie
 
 -- the two halves of the rows
-module _ (rows : List Bool) (size : length rows ≡ 25184) where
-  front-size : 12592 ≡ length (take 12592 rows)
-  front-size = sym (length-take-le 12592 rows (omega arith))
+module _ (rows : List Bool) (size : length rows ≡ listsSize) where
+  front-size : listSize ≡ length (take listSize rows)
+  front-size = sym (length-take-le listSize rows (omega arith))
 
-  rest-is : take (length rows - 12592) (drop 12592 rows) ≡ drop 12592 rows
-  rest-is = take-all (length rows - 12592) (drop 12592 rows) (omega (arith, length-drop 12592 rows))
+  rest-is : take (length rows - listSize) (drop listSize rows) ≡ drop listSize rows
+  rest-is = take-all (length rows - listSize) (drop listSize rows) (omega (arith, length-drop listSize rows))
 
-  rest-size : 12592 ≡ length (take (length rows - 12592) (drop 12592 rows))
-  rest-size = sym (ap length rest-is ∙ omega (arith, length-drop 12592 rows))
+  rest-size : listSize ≡ length (take (length rows - listSize) (drop listSize rows))
+  rest-size = sym (ap length rest-is ∙ omega (arith, length-drop listSize rows))
 
 cast-begin : tie.Need-cast-begin
 cast-begin c = search needs

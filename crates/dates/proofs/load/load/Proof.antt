@@ -1,6 +1,7 @@
 -- `dates::load::load` meets its contract.
 use lib.ListN.{length, take, drop}
 use Prim.Native.Nat.{_+_, _-_, _*_}
+use Rattle.matcher.specs.Inner.Layout.{rowSize}
 use Rattle.dates.proofs.LoadLaws.{row-added, rows-kept, row-back}
 use Rattle.track.proofs.PlainLaws.{part-size}
 use lib.Seq.{length-take-le}
@@ -38,7 +39,7 @@ returns : tie.Need-returns
 returns c =
     let p = c .before .before .before .before .before .before .pre .1 in
     let a = c .before .before .before .before .before .before .args in
-    row-added _ _ _ _ _ _ _ (c .before .before .before .settle-row .last .1 .1 .1 .1 .0) _ _ (length (take (1574 * a .tracks .count + 1574 - 1574 * a .tracks .count) (drop (1574 * a .tracks .count) (a .flags .now)))) (omega (arith, p .rows)) (part-size (a .flags .now) (1574 * a .tracks .count) 1574 (omega (arith, p .rows))) (c .before .before .before .settle-row .kept .1 .1 .1 .1 .0) (c .put-track .ensures) (c .before .before .before .settle-row .ensures)
+    row-added _ _ _ _ _ _ _ (c .before .before .before .settle-row .last .1 .1 .1 .1 .0) _ _ (length (take (rowSize * a .tracks .count + rowSize - rowSize * a .tracks .count) (drop (rowSize * a .tracks .count) (a .flags .now)))) (omega (arith, p .rows)) (part-size (a .flags .now) (rowSize * a .tracks .count) rowSize (omega (arith, p .rows))) (c .before .before .before .settle-row .kept .1 .1 .1 .1 .0) (c .put-track .ensures) (c .before .before .before .settle-row .ensures)
 
 pub load-spec : {M : Type 1} → statement M
 load-spec =

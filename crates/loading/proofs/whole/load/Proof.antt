@@ -2,6 +2,7 @@
 use mathlib.Core.Path.{_≡_, sym, _∙_}
 use lib.ListN.{length}
 use borrow.Author.Needs.{needs}
+use Rattle.matcher.specs.Inner.Layout.{listSize}
 use Rattle.loading.proofs.LoadLaws.{first-size, second-size, both-back, rules-need, excluded-need, ids-fit, ids-taken, event-kept}
 use Rattle.loading.proofs.whole.load.Statement.{statement}
 use Rattle.loading.proofs.whole.load.Tie as tie
@@ -22,7 +23,7 @@ load-list-requires c κs =
     (n .0, (n .1, (first-size (q .args .rows .now) (q .pre .row-room), q .pre .taken .ends)))
 
 -- the rows of the rules as they come back
-first-half : (c : tie.After-load-list) → length (c .load-list .last .1 .1 .1 .1 .1 .1 .0) ≡ 12592
+first-half : (c : tie.After-load-list) → length (c .load-list .last .1 .1 .1 .1 .1 .1 .0) ≡ listSize
 first-half c = c .load-list .kept .1 .1 .1 .1 .1 .1 .0 ∙ first-size (c .before .before .before .before .before .before .before .before .before .args .rows .now) (c .before .before .before .before .before .before .before .before .before .pre .row-room)
 
 sub-load-list : tie.Need-sub-load-list

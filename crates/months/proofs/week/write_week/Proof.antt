@@ -1,4 +1,5 @@
 -- `months::week::write_week` meets its contract. The invariant: the answers so far are written.
+use Rattle.months.specs.Inner.Layout.{kindsSize, weekSize}
 use Rattle.months.proofs.RowLaws.{wrote-none, wrote-more}
 use Rattle.months.specs.Inner.Week.{weekAt}
 use Rattle.months.specs.Inner.Rows.{Wrote}
@@ -10,10 +11,10 @@ use Rattle.months.proofs.week.write_week.Statement.{statement}
 use Rattle.months.proofs.week.write_week.Tie as tie
 
 abbrev Inv-loop : tie.InvT-loop
-Inv-loop flags rows₀ k₀ rows k = (k ≤ 38) × Wrote (weekAt flags) rows₀ 896 k rows
+Inv-loop flags rows₀ k₀ rows k = (k ≤ weekSize) × Wrote (weekAt flags) rows₀ kindsSize k rows
 
 abbrev μ-loop : tie.MeasureT-loop
-μ-loop flags rows₀ k₀ rows k = 38 - k
+μ-loop flags rows₀ k₀ rows k = weekSize - k
 
 loop-holds : tie.Need-loop-holds Inv-loop μ-loop
 loop-holds c = (omega arith, wrote-none _ _ _)
@@ -49,8 +50,8 @@ returns : tie.Need-returns Inv-loop μ-loop
 returns c =
     let i = c .before .loop .inv in
     let a = c .before .before .args in
-    let all : c .before .loop .k ≡ 38 = omega (arith, i .0, c .loop-test .left) in
-    subst (λ (n : ℕ). Wrote (weekAt (a .flags .now)) (a .rows .now) 896 n (c .before .loop .rows)) all (i .1)
+    let all : c .before .loop .k ≡ weekSize = omega (arith, i .0, c .loop-test .left) in
+    subst (λ (n : ℕ). Wrote (weekAt (a .flags .now)) (a .rows .now) kindsSize n (c .before .loop .rows)) all (i .1)
 
 pub write-week-spec : {M : Type 1} → statement M
 write-week-spec =
