@@ -1,10 +1,7 @@
 // The lists of an event, each of which may be absent.
 ghost use mathlib.Core.List.{[]};
 ghost use mathlib.Core.Path.{_≡_};
-ghost use Prim.Native.Nat.{_≤_};
 ghost use lib.ListN.{length};
-ghost use Rattle.json_ends.specs.Inner.Ends.{Ends};
-ghost use Rattle.matcher.specs.Inner.Layout.{listSize};
 ghost use Rattle.property.specs.Inner.From.{valueIn};
 ghost use Rattle.event.specs.Overrides.{readOverrides};
 ghost use Rattle.event.specs.Reading.{optional};
@@ -12,8 +9,8 @@ ghost use Rattle.event.specs.Rules.{readRules};
 ghost use Rattle.event.specs.Types.{Details};
 ghost use Rattle.override_text.specs.Inner.Lists.{Filled};
 ghost use Rattle.event_text.specs.Inner.Front.{inner};
-ghost use Rattle.loading.specs.Inner.Rules.{Season, SettledRules};
-ghost use Rattle.loading.specs.Inner.Patches.{patchesIn};
+ghost use Rattle.loading.specs.Inner.Rules.{ListReady, SettledRules};
+ghost use Rattle.loading.specs.Inner.Patches.{patchesIn, OverridesReady};
 use crate::rules::load_rules;
 use dates::Tracks;
 use dates::load::no_tracks;
@@ -30,7 +27,7 @@ pub(crate) fn load_list(
     limit: u32,
     flags: &mut [bool],
 ) -> Tracks
-    requires { ⌜ (optional [] readRules (valueIn inner (now text) place) .fault ≡ 0) × (Season start limit × ((length (now flags) ≡ listSize) × Ends (now text) (now ends))) ⌝ }
+    requires { ⌜ ListReady (optional [] readRules (valueIn inner (now text) place) .fault ≡ 0) (now text) (now ends) start limit (length (now flags)) ⌝ }
     ensures { λ r. ⌜ SettledRules excluded start limit (optional [] readRules (valueIn inner (now (text .entry)) place) .value) r (now (flags .exit)) ⌝ }
 {
     match place {
@@ -48,7 +45,7 @@ pub(crate) fn load_overrides(
     gone: &mut [bool],
     places: &mut [usize],
 ) -> usize
-    requires { ⌜ Ends (now text) (now ends) × ((256 ≤ length (now ids)) × ((256 ≤ length (now gone)) × (256 ≤ length (now places)))) ⌝ }
+    requires { ⌜ OverridesReady (now text) (now ends) (length (now ids)) (length (now gone)) (length (now places)) ⌝ }
     ensures { λ r. ⌜ ((own : Details) → Filled (optional [] (readOverrides own) (valueIn inner (now (text .entry)) place) .value) (patchesIn (now (text .entry)) place) (now (ids .entry)) (now (ids .exit)) (now (gone .entry)) (now (gone .exit)) (now (places .entry)) (now (places .exit)) r) ⌝ }
 {
     match place {

@@ -1,11 +1,9 @@
 // The rules of a list, read one after the other and settled.
 ghost use mathlib.Core.Path.{_≡_};
 ghost use lib.ListN.{length};
-ghost use Rattle.json_ends.specs.Inner.Ends.{Ends};
 ghost use Rattle.json_tree.specs.Tree.{treeAt};
-ghost use Rattle.matcher.specs.Inner.Layout.{listSize};
 ghost use Rattle.event.specs.Rules.{readRules};
-ghost use Rattle.loading.specs.Inner.Rules.{Season, Faultless, rulesAt, SettledRules};
+ghost use Rattle.loading.specs.Inner.Rules.{ListReady, Faultless, rulesAt, SettledRules};
 use dates::Tracks;
 use dates::load::load;
 use dates::load::no_tracks;
@@ -22,7 +20,7 @@ fn load_places(
     limit: u32,
     flags: &mut [bool],
 ) -> Tracks
-    requires { ⌜ Faultless (now text) (now places) × (Season start limit × ((length (now flags) ≡ listSize) × Ends (now text) (now ends))) ⌝ }
+    requires { ⌜ ListReady (Faultless (now text) (now places)) (now text) (now ends) start limit (length (now flags)) ⌝ }
     ensures { λ r. ⌜ SettledRules excluded start limit (rulesAt (now (text .entry)) (now (places .entry))) r (now (flags .exit)) ⌝ }
 {
     let mut tracks = no_tracks();
@@ -46,7 +44,7 @@ pub(crate) fn load_rules(
     limit: u32,
     flags: &mut [bool],
 ) -> Tracks
-    requires { ⌜ (readRules (treeAt 15 (now text) at) .fault ≡ 0) × (Season start limit × ((length (now flags) ≡ listSize) × Ends (now text) (now ends))) ⌝ }
+    requires { ⌜ ListReady (readRules (treeAt 15 (now text) at) .fault ≡ 0) (now text) (now ends) start limit (length (now flags)) ⌝ }
     ensures { λ r. ⌜ SettledRules excluded start limit (readRules (treeAt 15 (now (text .entry)) at) .value) r (now (flags .exit)) ⌝ }
 {
     let mut places = [0usize; 8];

@@ -14,7 +14,9 @@ enum-known-place : tie.Need-enum-known-place
 enum-known-place c = search needs
 
 load-rules-requires : tie.Need-load-rules-requires
-load-rules-requires c κs = (rules-fine _ _ _ (c .before .before .place .given .1) (c .before .before .before .before .before .before .before .pre .0), c .before .before .before .before .before .before .before .pre .1)
+load-rules-requires c κs =
+    let p = c .before .before .before .before .before .before .before .pre in
+    record { fine = rules-fine _ _ _ (c .before .before .place .given .1) (p .fine); season = p .season; room = p .room; ends = p .ends }
 
 returns : tie.Need-returns
 returns c = rules-none _ _ _ _ _ _ _ (c .before .enum-told .given .1) (c .no-tracks .ensures .0)

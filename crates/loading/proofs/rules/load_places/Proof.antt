@@ -19,7 +19,7 @@ no-tracks-requires c κs = search needs
 loop-holds : tie.Need-loop-holds Inv-loop μ-loop
 loop-holds c =
     let q = c .before .before .before .before .before in
-    loading-starts (q .args .excluded) (q .args .start) (q .args .limit) (q .args .text .now) (q .args .places .now) _ _ (c .no-tracks .ensures .0) (c .no-tracks .ensures .1) (q .pre .1 .1 .0)
+    loading-starts (q .args .excluded) (q .args .start) (q .args .limit) (q .args .text .now) (q .args .places .now) _ _ (c .no-tracks .ensures .0) (c .no-tracks .ensures .1) (q .pre .room)
 
 mul-read-rule : tie.Need-mul-read-rule Inv-loop μ-loop
 mul-read-rule c = search needs
@@ -35,8 +35,8 @@ load-requires c κs =
     let w = c .before .before .before .before .before .loop in
     let q = c .before .before .before .before .before .before .before .before .before .before .before in
     let r = c .before .before .read-rule in (
-      sized (q .args .excluded) (q .args .start) (q .args .limit) (q .args .text .now) (q .args .places .now) (q .pre .1 .0) (q .pre .0) _ _ _ (w .inv) (c .before .before .before .before .loop-test .taken) _ _ (r .ensures),
-      room (q .args .excluded) (q .args .start) (q .args .limit) (q .args .text .now) (q .args .places .now) (q .pre .1 .0) (q .pre .0) _ _ _ (w .inv) (c .before .before .before .before .loop-test .taken),
+      sized (q .args .excluded) (q .args .start) (q .args .limit) (q .args .text .now) (q .args .places .now) (q .pre .season) (q .pre .fine) _ _ _ (w .inv) (c .before .before .before .before .loop-test .taken) _ _ (r .ensures),
+      room (q .args .excluded) (q .args .start) (q .args .limit) (q .args .text .now) (q .args .places .now) (q .pre .season) (q .pre .fine) _ _ _ (w .inv) (c .before .before .before .before .loop-test .taken),
     )
 
 add-i : tie.Need-add-i Inv-loop μ-loop
@@ -50,11 +50,11 @@ loop-again c =
     let w = c .before .before .before .before .before .before .before .before .loop in
     let q = c .before .before .before .before .before .before .before .before .before .before .before .before .before .before in
     let r = c .before .before .before .before .before .read-rule in
-    loading-goes-on (q .args .excluded) (q .args .start) (q .args .limit) (q .args .text .now) (q .args .places .now) (q .pre .1 .0) (q .pre .0) _ _ _ (w .inv) (c .before .before .before .before .before .before .before .loop-test .taken) _ _ (r .ensures) _ _
+    loading-goes-on (q .args .excluded) (q .args .start) (q .args .limit) (q .args .text .now) (q .args .places .now) (q .pre .season) (q .pre .fine) _ _ _ (w .inv) (c .before .before .before .before .before .before .before .loop-test .taken) _ _ (r .ensures) _ _
     (c .before .before .load .kept .1 .1 .1 .1 .1 .0) (c .before .before .load .ensures)
 
 same-length : tie.Need-same-length Inv-loop μ-loop
-same-length c = c .before .loop .inv .rows ∙ sym (c .before .before .before .before .before .before .before .pre .1 .1 .0)
+same-length c = c .before .loop .inv .rows ∙ sym (c .before .before .before .before .before .before .before .pre .room)
 
 returns : tie.Need-returns Inv-loop μ-loop
 returns c =

@@ -12,20 +12,22 @@ rule-places-requires : tie.Need-rule-places-requires
 rule-places-requires c κs = search needs
 
 array-share-prefix-places : tie.Need-array-share-prefix-places
-array-share-prefix-places c = enough _ _ (c .before .before .before .before .before .before .pre .0) _ _ _ (c .before .rule-places .ensures) refl
+array-share-prefix-places c = enough _ _ (c .before .before .before .before .before .before .pre .fine) _ _ _ (c .before .rule-places .ensures) refl
 
 slice-aggregate-load-places : tie.Need-slice-aggregate-load-places
-slice-aggregate-load-places c = places-long _ _ (c .before .before .before .before .before .before .before .pre .0) _ _ _ (c .before .before .rule-places .ensures) refl
+slice-aggregate-load-places c = places-long _ _ (c .before .before .before .before .before .before .before .pre .fine) _ _ _ (c .before .before .rule-places .ensures) refl
 
 load-places-requires : tie.Need-load-places-requires
-load-places-requires c κs = (places-fine _ _ (c .before .before .before .before .before .before .before .before .pre .0) _ _ _ (c .before .before .before .rule-places .ensures) refl, c .before .before .before .before .before .before .before .before .pre .1)
+load-places-requires c κs =
+    let p = c .before .before .before .before .before .before .before .before .pre in
+    record { fine = places-fine _ _ (p .fine) _ _ _ (c .before .before .before .rule-places .ensures) refl; season = p .season; room = p .room; ends = p .ends }
 
 same-length : tie.Need-same-length
 same-length c = search needs
 
 returns : tie.Need-returns
 returns c =
-    list-settled _ _ (c .before .before .before .before .before .before .before .before .before .before .before .pre .0) _ _ _ (c .before .before .before .before .before .before .rule-places .ensures) refl _ _ _ _ _ (c .before .before .load-places .ensures)
+    list-settled _ _ (c .before .before .before .before .before .before .before .before .before .before .before .pre .fine) _ _ _ (c .before .before .before .before .before .before .rule-places .ensures) refl _ _ _ _ _ (c .before .before .load-places .ensures)
 
 pub load-rules-spec : {M : Type 1} → statement M
 load-rules-spec =

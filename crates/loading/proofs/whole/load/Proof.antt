@@ -20,7 +20,7 @@ load-list-requires : tie.Need-load-list-requires
 load-list-requires c κs =
     let q = c .before .before .before .before .before .before .before .before in
     let n = rules-need _ _ (q .args .head) _ _ _ _ _ (q .pre) in
-    (n .0, (n .1, (first-size (q .args .rows .now) (q .pre .row-room), q .pre .taken .ends)))
+    record { fine = n .0; season = n .1; room = first-size (q .args .rows .now) (q .pre .row-room); ends = q .pre .taken .ends }
 
 -- the rows of the rules as they come back
 first-half : (c : tie.After-load-list) → length (c .load-list .last .1 .1 .1 .1 .1 .1 .0) ≡ listSize
@@ -39,12 +39,12 @@ load-list-requires-2 : tie.Need-load-list-requires-2
 load-list-requires-2 c κs =
     let q = c .before .before .before .before .before .before .before .before .before .before .before .before in
     let n = excluded-need _ _ (q .args .head) _ _ _ _ _ (q .pre) in
-    (n .0, (n .1, (second-size (q .args .rows .now) (c .before .before .before .load-list .last .1 .1 .1 .1 .1 .1 .0) (q .pre .row-room) (first-half (c .before .before .before)), q .pre .taken .ends)))
+    record { fine = n .0; season = n .1; room = second-size (q .args .rows .now) (c .before .before .before .load-list .last .1 .1 .1 .1 .1 .1 .0) (q .pre .row-room) (first-half (c .before .before .before)); ends = q .pre .taken .ends }
 
 load-overrides-requires : tie.Need-load-overrides-requires
 load-overrides-requires c κs =
     let p = c .before .before .before .before .before .before .before .before .before .before .before .before .before .before .before .before .before .before .pre in
-    (p .taken .ends, (p .ids-room, (p .gone-room, p .places-room)))
+    record { ends = p .taken .ends; ids-room = p .ids-room; gone-room = p .gone-room; places-room = p .places-room }
 
 slice-reshare-prefix-rises : tie.Need-slice-reshare-prefix-rises
 slice-reshare-prefix-rises c =
