@@ -8,6 +8,7 @@ use opening::calls::call_fault;
 use opening::calls::is_secret;
 use opening::whole::open_text;
 use record::window::since_1600;
+use window::Window;
 use writer::Done;
 use writer::nothing::put_trailer_alone;
 
@@ -37,17 +38,11 @@ pub fn expand_in(
             if is_secret(privacy) {
                 return put_trailer_alone(buffer);
             }
-            put_visible(
-                text,
-                ends,
-                head,
-                initial,
-                instants,
-                offsets,
-                since_1600(from),
-                since_1600(to),
-                buffer,
-            )
+            let window = Window {
+                from: since_1600(from),
+                to: since_1600(to),
+            };
+            put_visible(text, ends, head, initial, instants, offsets, window, buffer)
         }
     }
 }

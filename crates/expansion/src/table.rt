@@ -6,8 +6,10 @@ ghost use Rattle.writer.specs.Inner.Writes.{rowFor};
 ghost use Rattle.expansion.specs.Inner.Puts.{Puts};
 use loading::Kept;
 use record::rows::put_trailer;
+use source::CHUNK;
 use source::counting::has_room;
 use source::whole::ids_from;
+use window::Window;
 use writer::Done;
 use writer::records::write_records;
 
@@ -24,18 +26,18 @@ pub(crate) fn put_table(
     initial: i64,
     instants: &[i64],
     offsets: &[i64],
-    from: u64,
-    to: u64,
+    window: Window,
 ) -> Done
-    requires { ⌜ Puts (now text) (now ends) kept (now rows) (now ids) (now gone) (now places) initial (now instants) (now offsets) from to ⌝ }
+    requires { ⌜ Puts (now text) (now ends) kept (now rows) (now ids) (now gone) (now places) initial (now instants) (now offsets) (window .from) (window .to) ⌝ }
     ensures { λ r. ⌜ Gives (fitted (tableBy
         (rowFor (now (text .entry)) (kept .form) (now (ids .entry)) (now (places .entry)) initial (now (instants .entry)) (now (offsets .entry)))
-        (datesIn (kept .dates) (now (rows .entry)) (now (ids .entry)) (now (gone .entry))) from to) (now (buffer .entry))) (r .answer) (r .length) (now (buffer .exit)) ⌝ }
+        (datesIn (kept .dates) (now (rows .entry)) (now (ids .entry)) (now (gone .entry))) (window .from) (window .to)) (now (buffer .entry))) (r .answer) (r .length) (now (buffer .exit)) ⌝ }
 {
     let dates = kept.dates;
     let form = kept.form;
-    let mut room = [0u64; 1280];
-    let mut chunk = ids_from(dates, rows, ids, gone, from, to, &mut room);
+    let to = window.to;
+    let mut room = [0u64; CHUNK];
+    let mut chunk = ids_from(dates, rows, ids, gone, window.from, to, &mut room);
     if !has_room(dates, rows, ids, gone, chunk, to, buffer.len()) {
         return Done {
             answer: 13,
@@ -43,7 +45,7 @@ pub(crate) fn put_table(
         };
     }
     let mut place = 0;
-    let mut second = from;
+    let mut second = window.from;
     while second < to {
         let n = chunk.count;
         place = write_records(

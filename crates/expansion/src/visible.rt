@@ -10,6 +10,7 @@ use event_text::Head;
 use loading::limits::limit_of;
 use loading::whole::load;
 use matcher::layout::LISTS;
+use window::Window;
 use writer::Done;
 
 // The room of the longest lists: 16 rules, and 256 overrides.
@@ -20,12 +21,11 @@ pub(crate) fn put_visible(
     initial: i64,
     instants: &[i64],
     offsets: &[i64],
-    from: u64,
-    to: u64,
+    window: Window,
     buffer: &mut [u8],
 ) -> Done
-    requires { ⌜ Visible (now text) (now ends) head initial (now instants) (now offsets) from to ⌝ }
-    ensures { λ r. ⌜ ((name : List ℕ) → Gives (fitted (tableFor (zonesOf name initial (now (instants .entry)) (now (offsets .entry))) (eventOf (now (text .entry))) from to) (now (buffer .entry))) (r .answer) (r .length) (now (buffer .exit))) ⌝ }
+    requires { ⌜ Visible (now text) (now ends) head initial (now instants) (now offsets) (window .from) (window .to) ⌝ }
+    ensures { λ r. ⌜ ((name : List ℕ) → Gives (fitted (tableFor (zonesOf name initial (now (instants .entry)) (now (offsets .entry))) (eventOf (now (text .entry))) (window .from) (window .to)) (now (buffer .entry))) (r .answer) (r .length) (now (buffer .exit))) ⌝ }
 {
     let mut rows = [false; LISTS];
     let mut ids = [0u64; 256];
@@ -35,7 +35,7 @@ pub(crate) fn put_visible(
         text,
         ends,
         head,
-        limit_of(to),
+        limit_of(window.to),
         &mut rows,
         &mut ids,
         &mut gone,
@@ -54,7 +54,6 @@ pub(crate) fn put_visible(
         initial,
         instants,
         offsets,
-        from,
-        to,
+        window,
     )
 }

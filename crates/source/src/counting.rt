@@ -8,6 +8,7 @@ ghost use Rattle.window.specs.Inner.Next.{dayFrom};
 ghost use Rattle.window.specs.Inner.Lists.{listIn};
 ghost use Rattle.window.specs.Inner.Handed.{Span};
 ghost use Rattle.source.specs.Inner.Room.{Begun, HasRoom};
+use crate::CHUNK;
 use crate::whole::ids_from;
 use dates::Dates;
 use window::Chunk;
@@ -18,7 +19,7 @@ fn count_ids(dates: Dates, rows: &[bool], ids: &[u64], gone: &[bool], from: u64,
     requires { ⌜ Whole dates (length (now rows)) (length (now ids)) (length (now gone)) × Span from to ⌝ }
     ensures { λ r. ⌜ r ≡ length (listIn (datesIn dates (now (rows .entry)) (now (ids .entry)) (now (gone .entry))) from (to - from)) ⌝ }
 {
-    let mut room = [0u64; 1280];
+    let mut room = [0u64; CHUNK];
     let mut at = from;
     let mut found: u64 = 0;
     while at < to {

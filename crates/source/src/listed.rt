@@ -6,6 +6,7 @@ ghost use lib.ListN.{length};
 ghost use Rattle.dates.specs.Inner.Dates.{Whole};
 ghost use Rattle.window.specs.Inner.Handed.{Span};
 ghost use Rattle.source.specs.Inner.Listed.{Plain, Listing, ListedWindow, Seconds, HandedUnnamed, goesOn};
+use crate::DAYS;
 use dates::Dates;
 use listing::DayChunk;
 use listing::whole::is_by_months;
@@ -113,9 +114,9 @@ pub(crate) fn listed(dates: Dates, rows: &[bool], from: u64, to: u64, out: &mut 
     requires { ⌜ Listing dates (now rows) from to (length (now out)) ⌝ }
     ensures { λ r. ⌜ HandedUnnamed dates (now (rows .entry)) from to (now (out .entry)) (now (out .exit)) (r .count) (r .next) ⌝ }
 {
-    let mut days = [0u32; 1024];
+    let mut days = [0u32; DAYS];
     let room = out.len();
-    if room < 1024 {
+    if room < DAYS {
         return list_ids(dates, rows, from, to, &mut days[..room], out);
     }
     list_ids(dates, rows, from, to, &mut days, out)

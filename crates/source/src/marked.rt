@@ -5,6 +5,7 @@ ghost use Rattle.dates.specs.Inner.Dates.{datesIn};
 ghost use Rattle.window.specs.Inner.Handed.{Handed};
 ghost use Rattle.source.specs.Inner.Asked.{Asked};
 ghost use Rattle.source.specs.Inner.Marks.{Marks};
+use crate::DAYS;
 use dates::Dates;
 use dates::fill::fill;
 use window::Chunk;
@@ -17,8 +18,8 @@ fn days_at_once(from: u64, to: u64) -> usize
     ensures { λ r. ⌜ Marks from to r ⌝ }
 {
     let days = (to - 1) / 86400 - from / 86400 + 1;
-    if 1024 < days {
-        return 1024;
+    if (DAYS as u64) < days {
+        return DAYS;
     }
     days as usize
 }
@@ -42,7 +43,7 @@ pub(crate) fn marked(
             next: from,
         };
     }
-    let mut hits = [false; 1024];
+    let mut hits = [false; DAYS];
     let k = days_at_once(from, to);
     let end = chunk_end(from, to, k);
     let first = (from / 86400) as u32;

@@ -1,4 +1,4 @@
-// The date-times of an event in a window: the next one in a run of days, how many there are, and whether one is among them.
+// The date-times of an event in a stretch of time: the next one in a run of days, and those of a run collected.
 pub mod chunks;
 pub mod collect;
 pub mod next;
@@ -8,4 +8,10 @@ pub mod sorted;
 pub struct Chunk {
     pub count: usize,
     pub next: u64,
+}
+
+// The window of a call, in seconds from 1600: the first is in it, the second is not.
+pub struct Window {
+    pub from: u64,
+    pub to: u64,
 }

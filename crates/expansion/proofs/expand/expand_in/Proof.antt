@@ -58,7 +58,7 @@ put-visible-requires c κs =
     let f = c .before .before .before .before .before .before .before in
     let q = f .before .before .before .before .before .before .before .before .before .before .before .before in
     let fine = was-accepted _ _ _ (f .before .before .before .before .before .before .open-text .ensures) _ (f .before .before .head .given .1) in
-    visible-needs _ _ _ fine _ _ _ _ _ _ (q .fits .initial) (q .fits .from) (q .fits .to) _ (f .call-fault .ensures) (c .before .before .before .before .before .before .if1 .left) _ (c .before .before .since-1600 .ensures) _ (c .before .since-16002 .ensures)
+    visible-needs _ _ _ fine _ _ _ _ _ _ (q .fits .initial) (q .fits .from) (q .fits .to) _ (f .call-fault .ensures) (c .before .before .before .before .before .before .if1 .left) _ (c .before .before .before .since-1600 .ensures) _ (c .before .before .since-16002 .ensures)
 
 same-length-4 : tie.Need-same-length-4
 same-length-4 c = search needs
@@ -78,7 +78,7 @@ returns-4 c =
     let f = c .before .before .before .before .before .before .before .before .before .before in
     let q = f .before .before .before .before .before .before .before .before .before .before .before .before in
     let fine = was-accepted _ _ _ (f .before .before .before .before .before .before .open-text .ensures) _ (f .before .before .head .given .1) in
-    visible-gives _ _ _ fine _ _ _ _ _ _ (q .fits .initial) (q .fits .from) (q .fits .to) _ (f .call-fault .ensures) _ (c .before .before .before .before .before .before .before .before .before .if1 .left) _ (c .before .before .before .before .before .before .before .before .is-secret .ensures) _ _ _ (c .before .before .before .before .before .before .before .if2 .left) _ (c .before .before .before .before .before .since-1600 .ensures) _ (c .before .before .before .before .since-16002 .ensures)
+    visible-gives _ _ _ fine _ _ _ _ _ _ (q .fits .initial) (q .fits .from) (q .fits .to) _ (f .call-fault .ensures) _ (c .before .before .before .before .before .before .before .before .before .if1 .left) _ (c .before .before .before .before .before .before .before .before .is-secret .ensures) _ _ _ (c .before .before .before .before .before .before .before .if2 .left) _ (c .before .before .before .before .before .before .since-1600 .ensures) _ (c .before .before .before .before .before .since-16002 .ensures)
     (c .before .before .put-visible .ensures)
 
 pub expand-in-spec : {M : Type 1} → statement M

@@ -22,11 +22,11 @@ use Rattle.expansion.proofs.table.put_table.Statement.{statement}
 use Rattle.expansion.proofs.table.put_table.Tie as tie
 
 abbrev Inv-loop : tie.InvT-loop
-Inv-loop buffer₀ text ends rows ids gone places initial instants offsets from to dates form room₀ chunk₀ place₀ second₀ buffer room chunk place second =
-    PutAt (rowFor text form ids places (toZ w64 initial) instants offsets) (datesIn dates rows ids gone) from to buffer₀ second place buffer room (chunk .count) (chunk .next)
+Inv-loop buffer₀ text ends rows ids gone places initial instants offsets dates form to room₀ chunk₀ place₀ second₀ buffer room chunk place second =
+    PutAt (rowFor text form ids places (toZ w64 initial) instants offsets) (datesIn dates rows ids gone) second₀ to buffer₀ second place buffer room (chunk .count) (chunk .next)
 
 abbrev μ-loop : tie.MeasureT-loop
-μ-loop buffer₀ text ends rows ids gone places initial instants offsets from to dates form room₀ chunk₀ place₀ second₀ buffer room chunk place second = to - second
+μ-loop buffer₀ text ends rows ids gone places initial instants offsets dates form to room₀ chunk₀ place₀ second₀ buffer room chunk place second = to - second
 
 slice-aggregate-ids-from : tie.Need-slice-aggregate-ids-from Inv-loop μ-loop
 slice-aggregate-ids-from c = search needs
@@ -38,24 +38,24 @@ has-room-requires : tie.Need-has-room-requires Inv-loop μ-loop
 has-room-requires c κs =
     let q = c .before .before .before .before .before .before .before .before .before .before .before .before in
     let h = c .before .ids-from .ensures in
-    record { whole = q .pre .whole; rest = span-rest (q .args .from) (q .args .to) _ (q .pre .span) (h .low) (h .high); few = handed-few _ _ _ _ _ _ _ h }
+    record { whole = q .pre .whole; rest = span-rest (q .args .window .from) (q .args .window .to) _ (q .pre .span) (h .low) (h .high); few = handed-few _ _ _ _ _ _ _ h }
 
 returns : tie.Need-returns Inv-loop μ-loop
 returns c =
     let q = c .before .before .before .before .before .before .before .before .before .before .before .before .before .before in
     let h = c .before .before .before .ids-from .ensures in
     table-refused (rowFor (q .args .text .now) (q .args .kept .form) (q .args .ids .now) (q .args .places .now) (q .args .initial) (q .args .instants .now) (q .args .offsets .now)) (by-length _ _ _ _ _)
-    (datesIn (q .args .kept .dates) (q .args .rows .now) (q .args .ids .now) (q .args .gone .now)) (q .args .from) (q .args .to) (q .args .buffer .now)
-    (no-room (datesIn (q .args .kept .dates) (q .args .rows .now) (q .args .ids .now) (q .args .gone .now)) (q .args .from) (q .args .to) _ _ _ _ h (length (q .args .buffer .now))
+    (datesIn (q .args .kept .dates) (q .args .rows .now) (q .args .ids .now) (q .args .gone .now)) (q .args .window .from) (q .args .window .to) (q .args .buffer .now)
+    (no-room (datesIn (q .args .kept .dates) (q .args .rows .now) (q .args .ids .now) (q .args .gone .now)) (q .args .window .from) (q .args .window .to) _ _ _ _ h (length (q .args .buffer .now))
     (c .before .has-room .result) (c .before .has-room .ensures) (not-true (c .before .has-room .result) (c .if1 .taken)))
 
 -- After the test the table has room in the buffer.
 enough : (c : tie.Else1 Inv-loop μ-loop)
-    → 28 * length (listIn (datesIn (c .before .before .before .before .before .before .before .before .before .before .before .before .before .before .args .kept .dates) (c .before .before .before .before .before .before .before .before .before .before .before .before .before .before .args .rows .now) (c .before .before .before .before .before .before .before .before .before .before .before .before .before .before .args .ids .now) (c .before .before .before .before .before .before .before .before .before .before .before .before .before .before .args .gone .now)) (c .before .before .before .before .before .before .before .before .before .before .before .before .before .before .args .from) (c .before .before .before .before .before .before .before .before .before .before .before .before .before .before .args .to - c .before .before .before .before .before .before .before .before .before .before .before .before .before .before .args .from)) + 12 ≤ length (c .before .before .before .before .before .before .before .before .before .before .before .before .before .before .args .buffer .now)
+    → 28 * length (listIn (datesIn (c .before .before .before .before .before .before .before .before .before .before .before .before .before .before .args .kept .dates) (c .before .before .before .before .before .before .before .before .before .before .before .before .before .before .args .rows .now) (c .before .before .before .before .before .before .before .before .before .before .before .before .before .before .args .ids .now) (c .before .before .before .before .before .before .before .before .before .before .before .before .before .before .args .gone .now)) (c .before .before .before .before .before .before .before .before .before .before .before .before .before .before .args .window .from) (c .before .before .before .before .before .before .before .before .before .before .before .before .before .before .args .window .to - c .before .before .before .before .before .before .before .before .before .before .before .before .before .before .args .window .from)) + 12 ≤ length (c .before .before .before .before .before .before .before .before .before .before .before .before .before .before .args .buffer .now)
 enough c =
     let q = c .before .before .before .before .before .before .before .before .before .before .before .before .before .before in
     let h = c .before .before .before .ids-from .ensures in
-    room-for (datesIn (q .args .kept .dates) (q .args .rows .now) (q .args .ids .now) (q .args .gone .now)) (q .args .from) (q .args .to) _ _ _ _ h (length (q .args .buffer .now))
+    room-for (datesIn (q .args .kept .dates) (q .args .rows .now) (q .args .ids .now) (q .args .gone .now)) (q .args .window .from) (q .args .window .to) _ _ _ _ h (length (q .args .buffer .now))
     (c .before .has-room .result) (c .before .has-room .ensures) (not-false (c .before .has-room .result) (c .if1 .left))
 
 loop-holds : tie.Need-loop-holds Inv-loop μ-loop
@@ -84,7 +84,7 @@ ids-from-requires-2 : tie.Need-ids-from-requires-2 Inv-loop μ-loop
 ids-from-requires-2 c κs =
     let q = c .before .before .before .before .before .before .before .before .before .before .before .before .before .before .before .before .before .before .before .before .before .before in
     let i = c .before .before .before .before .before .before .before .loop .inv in
-    record { whole = q .pre .whole; span = span-rest (q .args .from) (q .args .to) _ (q .pre .span) (omega (arith, i .wrote .low, i .handed .low)) (i .handed .high); room = omega (arith, i .size) }
+    record { whole = q .pre .whole; span = span-rest (q .args .window .from) (q .args .window .to) _ (q .pre .span) (omega (arith, i .wrote .low, i .handed .low)) (i .handed .high); room = omega (arith, i .size) }
 
 loop-less : tie.Need-loop-less Inv-loop μ-loop
 loop-less c = let h = c .before .before .before .before .before .before .before .before .before .loop .inv .handed in omega (arith, h .ahead (c .before .before .before .before .before .before .before .before .loop-test .taken), h .high)
@@ -103,14 +103,14 @@ put-trailer-requires : tie.Need-put-trailer-requires Inv-loop μ-loop
 put-trailer-requires c κs =
     let q = c .before .before .before .before .before .before .before .before .before .before .before .before .before .before .before .before .before in
     trailer-fits (rowFor (q .args .text .now) (q .args .kept .form) (q .args .ids .now) (q .args .places .now) (toZ w64 (ofZ w64 (q .args .initial))) (q .args .instants .now) (q .args .offsets .now)) (by-length _ _ _ _ _)
-    (datesIn (q .args .kept .dates) (q .args .rows .now) (q .args .ids .now) (q .args .gone .now)) (q .args .from) (q .args .to) _ _ _
+    (datesIn (q .args .kept .dates) (q .args .rows .now) (q .args .ids .now) (q .args .gone .now)) (q .args .window .from) (q .args .window .to) _ _ _
     (wrote-end _ _ _ _ _ _ _ _ _ (c .before .before .loop .inv .wrote) (c .before .loop-test .left)) (q .pre .span) (enough (c .before .before .before))
 
 add-t37 : tie.Need-add-t37 Inv-loop μ-loop
 add-t37 c =
     let q = c .before .before .before .before .before .before .before .before .before .before .before .before .before .before .before .before .before .before .before .before in
     let w = wrote-end _ _ _ _ _ _ _ _ _ (c .before .before .before .before .before .loop .inv .wrote) (c .before .before .before .before .loop-test .left) in
-    omega (arith, w .place, ids-few (datesIn (q .args .kept .dates) (q .args .rows .now) (q .args .ids .now) (q .args .gone .now)) (q .args .from) (q .args .to) (q .pre .span))
+    omega (arith, w .place, ids-few (datesIn (q .args .kept .dates) (q .args .rows .now) (q .args .ids .now) (q .args .gone .now)) (q .args .window .from) (q .args .window .to) (q .pre .span))
 
 same-length : tie.Need-same-length Inv-loop μ-loop
 same-length c = search needs
@@ -120,7 +120,7 @@ returns-2 c =
     let q = c .before .before .before .before .before .before .before .before .before .before .before .before .before .before .before .before .before .before .before .before in
     let w = wrote-end _ _ _ _ _ _ _ _ _ (c .before .before .before .before .before .loop .inv .wrote) (c .before .before .before .before .loop-test .left) in
     rw (toZ-ofZ (q .fits .initial)) at (table-given (rowFor (q .args .text .now) (q .args .kept .form) (q .args .ids .now) (q .args .places .now) (toZ w64 (ofZ w64 (q .args .initial))) (q .args .instants .now) (q .args .offsets .now)) (by-length _ _ _ _ _)
-    (datesIn (q .args .kept .dates) (q .args .rows .now) (q .args .ids .now) (q .args .gone .now)) (q .args .from) (q .args .to) (q .args .buffer .now) _ _ w (enough (c .before .before .before .before .before .before)) _ (c .before .before .put-trailer .ensures))
+    (datesIn (q .args .kept .dates) (q .args .rows .now) (q .args .ids .now) (q .args .gone .now)) (q .args .window .from) (q .args .window .to) (q .args .buffer .now) _ _ w (enough (c .before .before .before .before .before .before)) _ (c .before .before .put-trailer .ensures))
 
 pub put-table-spec : {M : Type 1} → statement M
 put-table-spec =
