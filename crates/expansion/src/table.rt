@@ -65,8 +65,6 @@ pub(crate) fn put_table(
         chunk = ids_from(dates, rows, ids, gone, second, to, &mut room);
     }
     put_trailer(buffer, place, (place / 28) as u64);
-    Done {
-        answer: 0,
-        length: place as u64 + 12,
-    }
+    let length = place as u64 + 12;
+    Done { answer: 0, length }
 }

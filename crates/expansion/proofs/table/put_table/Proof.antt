@@ -106,8 +106,8 @@ put-trailer-requires c κs =
     (datesIn (q .args .kept .dates) (q .args .rows .now) (q .args .ids .now) (q .args .gone .now)) (q .args .window .from) (q .args .window .to) _ _ _
     (wrote-end _ _ _ _ _ _ _ _ _ (c .before .before .loop .inv .wrote) (c .before .loop-test .left)) (q .pre .span) (enough (c .before .before .before))
 
-add-t37 : tie.Need-add-t37 Inv-loop μ-loop
-add-t37 c =
+add-length : tie.Need-add-length Inv-loop μ-loop
+add-length c =
     let q = c .before .before .before .before .before .before .before .before .before .before .before .before .before .before .before .before .before .before .before .before in
     let w = wrote-end _ _ _ _ _ _ _ _ _ (c .before .before .before .before .before .loop .inv .wrote) (c .before .before .before .before .loop-test .left) in
     omega (arith, w .place, ids-few (datesIn (q .args .kept .dates) (q .args .rows .now) (q .args .ids .now) (q .args .gone .now)) (q .args .window .from) (q .args .window .to) (q .pre .span))
@@ -141,6 +141,6 @@ put-table-spec =
     loop-less
     loop-again
     put-trailer-requires
-    add-t37
+    add-length
     same-length
     returns-2)
