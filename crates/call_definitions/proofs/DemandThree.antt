@@ -21,7 +21,8 @@ use Rattle.keywords.specs.declared.Privacy.the-variants.{Public, Private, Secre
 use Rattle.event.specs.Types.{Text, Details, Event}
 use Rattle.call_definitions.specs.Window.{since1600, since1970}
 use Rattle.call_definitions.specs.Occurrence.{datesOf, isOccurrence, occurrences, detailsAt}
-use Rattle.call_definitions.specs.Bytes.{ZoneTable, marksOf, secondsIn, recordOf, recordsOf, trailerOf, listed, tableOf}
+use Rattle.call_definitions.specs.Utc.{ZoneTable, utcStart, utcEnd}
+use Rattle.call_definitions.specs.Bytes.{marksOf, recordOf, recordsOf, trailerOf, listed, tableOf}
 use Rattle.call_definitions.specs.Answer.{isSecret, outcomeBy, answerFor, expanded, dateTimeOf, textAnswerFor, textAnswer}
 use Rattle.call_definitions.specs.Call.{textFault, expandText, Shown, placeOf, noPlace, shownFor, shownAt, textOf}
 use Rattle.event.specs.Event.{eventOf}
@@ -35,7 +36,7 @@ and-right false t e = false-true e
 -- a record is a function of the times
 same-record : (table : ZoneTable) (zone : Option (List ℕ)) (id : ℕ) (c d : Details) → timesOf c ≡ timesOf d
     → recordOf table zone id c ≡ recordOf table zone id d
-unfolding timesOf recordOf marksOf
+unfolding timesOf recordOf marksOf utcStart utcEnd
 same-record table zone id c d e =
     rw (ap (λ (t : Times). t .start) e, ap (λ (t : Times). t .length) e, ap (λ (t : Times). t .busy) e, ap (λ (t : Times). t .allDay) e)
 

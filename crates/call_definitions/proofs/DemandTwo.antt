@@ -23,7 +23,8 @@ use Rattle.keywords.specs.declared.Privacy.the-variants.{Public, Private, Secre
 use Rattle.event.specs.Types.{Details, Event}
 use Rattle.call_definitions.specs.Window.{since1600, since1970}
 use Rattle.call_definitions.specs.Occurrence.{datesOf, occurrences, detailsAt}
-use Rattle.call_definitions.specs.Bytes.{ZoneTable, marksOf, recordOf, recordsOf, trailerOf, listed, tableOf}
+use Rattle.call_definitions.specs.Utc.{ZoneTable}
+use Rattle.call_definitions.specs.Bytes.{marksOf, recordOf, recordsOf, trailerOf, listed, tableOf}
 use Rattle.call_definitions.specs.Answer.{isSecret, Outcome, answerFor, outcomeBy, expanded}
 
 -- What a call that is answered 0 leaves.

@@ -7,7 +7,7 @@ use lib.IntN.{ℤ}
 use Rattle.zone.specs.Table.{validTable}
 use Rattle.event.specs.Types.{Event}
 use Rattle.event.specs.Event.{eventOf}
-use Rattle.call_definitions.specs.Bytes.{ZoneTable}
+use Rattle.call_definitions.specs.Utc.{ZoneTable}
 use Rattle.call_definitions.specs.Answer.{answerFor, outcomeBy, expanded}
 use Rattle.call_definitions.specs.Call.{expandText}
 

@@ -5,22 +5,21 @@ use mathlib.Core.Bool.{Bool, true, false}
 use mathlib.Core.Path.{_≡_}
 use Rattle.recurrence.specs.Event.{overrideExcludes, overrideNames}
 use Rattle.keywords.specs.declared.Privacy.{Privacy}
-use Rattle.event.specs.Types.{Details, Event}
+use Rattle.event.specs.Types.{Length, Details, Event}
 use Rattle.event.specs.Event.{eventOf}
 use Rattle.call_definitions.specs.Occurrence.{datesOf, detailsAt}
-use Rattle.call_definitions.specs.Bytes.{secondsIn}
 use Rattle.call_definitions.specs.Call.{textFault}
 
--- "its start .., length and marks": what is compared of the event itself and of an occurrence. A length is one value: "A day is taken as 86,400
--- seconds", so `P1D` and `PT24H` are equal, "however spelled".
+-- "its start .., length and marks": what is compared of the event itself and of an occurrence. Request 2: "Demand 3 reads as before, with length
+-- meaning both parts." So `P1W` and `P7D` are equal, "however spelled", and `P1D` and `PT24H` are not.
 pub record Times : Type 0 where
   pub start : ℕ
-  pub length : ℕ
+  pub length : Length
   pub busy : Bool
   pub allDay : Bool
 
 unfoldable pub timesOf : Details → Times
-timesOf d = record { start = d .start; length = secondsIn (d .length); busy = d .busy; allDay = d .allDay }
+timesOf d = record { start = d .start; length = d .length; busy = d .busy; allDay = d .allDay }
 
 -- "two events agree on a point when the values read there are equal, defaults filled in, however spelled"
 pub record Agree (a b : Event) : Type 0 where

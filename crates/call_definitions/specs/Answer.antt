@@ -16,7 +16,8 @@ use Rattle.keywords.specs.declared.Privacy.the-variants.{Public, Private, Secre
 use Rattle.event.specs.Types.{Event}
 use Rattle.call_definitions.specs.Window.{epoch, since1600, validWindow}
 use Rattle.call_definitions.specs.Occurrence.{isOccurrence}
-use Rattle.call_definitions.specs.Bytes.{ZoneTable, tableOf}
+use Rattle.call_definitions.specs.Utc.{ZoneTable}
+use Rattle.call_definitions.specs.Bytes.{tableOf}
 
 abbrev pub isSecret : Privacy → Bool
 isSecret Public = false

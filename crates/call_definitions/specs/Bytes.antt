@@ -3,36 +3,16 @@ use Prim.Native.Nat.{ℕ, _+_, _*_}
 use mathlib.Core.Bool.{Bool, true, false}
 use mathlib.Core.List.{List, [], _∷_, _++_, map}
 use mathlib.Core.Option.{Option, none, some}
-use lib.IntN.{ℤ, pos, _+ℤ_}
+use lib.IntN.{ℤ}
 use lib.ListN.{length}
 use Rattle.signed.specs.Choose.{if_then_else_}
 use Rattle.little_endian.specs.Bytes.{bytesOf, twos}
-use Rattle.zone.specs.Lookup.{utcAt}
 use Rattle.keywords.specs.declared.Privacy.{Privacy}
 use Rattle.keywords.specs.declared.Privacy.the-variants.{Public, Private, Secret}
-use Rattle.event.specs.Types.{Length, Details, Event}
+use Rattle.event.specs.Types.{Details, Event}
 use Rattle.call_definitions.specs.Window.{since1600, since1970}
+use Rattle.call_definitions.specs.Utc.{ZoneTable, isFloating, utcStart, utcEnd}
 use Rattle.call_definitions.specs.Occurrence.{occurrences, detailsAt}
-
--- A zone table as it is lent: its name, the initial offset, the entries' instants and the offsets from then on.
-pub record ZoneTable : Type 0 where
-  pub name : List ℕ
-  pub initial : ℤ
-  pub instants : List ℤ
-  pub offsets : List ℤ
-
--- "floating uses 0 and the name is not compared"
-unfoldable pub utcOf : ZoneTable → Option (List ℕ) → ℤ → ℤ
-utcOf table none local = local
-utcOf table (some zone) local = utcAt (table .initial) (table .instants) (table .offsets) local
-
--- "A day is taken as 86,400 seconds."
-unfoldable pub secondsIn : Length → ℕ
-secondsIn l = 86400 * l .days + l .seconds
-
-abbrev pub isFloating : Option (List ℕ) → Bool
-isFloating none = true
-isFloating (some zone) = false
 
 -- "marks (1: busy 1, all-day 2, floating 4)"
 unfoldable pub marksOf : Option (List ℕ) → Details → ℕ
@@ -41,9 +21,8 @@ marksOf zone d = (if d .busy then 1 else 0) + (if d .allDay then 2 else 0) + (if
 -- "id in local seconds, UTC start, UTC end (8 each, signed), marks .., three zeros"
 unfoldable pub recordOf : ZoneTable → Option (List ℕ) → ℕ → Details → List ℕ
 recordOf table zone id d =
-    let start = utcOf table zone (since1970 (d .start)) in
     bytesOf 8 (twos (since1970 id))
-    ++ (bytesOf 8 (twos start) ++ (bytesOf 8 (twos (start +ℤ pos (secondsIn (d .length)))) ++ (marksOf zone d ∷ 0 ∷ 0 ∷ 0 ∷ [])))
+    ++ (bytesOf 8 (twos (utcStart table zone d)) ++ (bytesOf 8 (twos (utcEnd table zone d)) ++ (marksOf zone d ∷ 0 ∷ 0 ∷ 0 ∷ [])))
 
 unfoldable pub recordsOf : ZoneTable → Event → List ℕ → List ℕ
 recordsOf table e [] = []

@@ -12,7 +12,7 @@ use Rattle.keywords.specs.declared.Privacy.{Privacy}
 use Rattle.event.specs.Types.{Text, Details, Event}
 use Rattle.event.specs.Event.{eventFault, eventOf}
 use Rattle.call_definitions.specs.Occurrence.{detailsAt}
-use Rattle.call_definitions.specs.Bytes.{ZoneTable}
+use Rattle.call_definitions.specs.Utc.{ZoneTable}
 use Rattle.call_definitions.specs.Answer.{isPublic, Outcome, expanded, dateTimeOf, textAnswer}
 
 -- "An event is accepted when none of 1 to 9 applies to its text": the lowest of 1 to 9 that applies, or 0.

@@ -1,5 +1,6 @@
 pub mod Window
 pub mod Occurrence
+pub mod Utc
 pub mod Bytes
 pub mod Answer
 pub mod Call

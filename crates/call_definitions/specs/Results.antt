@@ -4,7 +4,7 @@ use mathlib.Core.List.{List}
 use mathlib.Core.Path.{_≡_}
 use lib.IntN.{ℤ}
 use lib.ListN.{take, drop}
-use Rattle.call_definitions.specs.Bytes.{ZoneTable}
+use Rattle.call_definitions.specs.Utc.{ZoneTable}
 use Rattle.call_definitions.specs.Answer.{Outcome}
 use Rattle.call_definitions.specs.Call.{Shown}
 

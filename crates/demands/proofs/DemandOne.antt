@@ -16,7 +16,8 @@ use Rattle.keywords.specs.declared.Privacy.{Privacy}
 use Rattle.event.specs.Types.{Text, Details, Event}
 use Rattle.event.specs.Event.{eventOf}
 use Rattle.call_definitions.specs.Occurrence.{isOccurrence, detailsAt}
-use Rattle.call_definitions.specs.Bytes.{ZoneTable, tableOf}
+use Rattle.call_definitions.specs.Utc.{ZoneTable}
+use Rattle.call_definitions.specs.Bytes.{tableOf}
 use Rattle.call_definitions.specs.Answer.{Outcome, isSecret, isPublic, answerFor, outcomeBy, expanded, dateTimeOf, textAnswerFor, textAnswer}
 use Rattle.call_definitions.specs.Call.{textFault, expandText, Shown, placeFrom, placeOf, noPlace, shownFor, shownAt, textOf}
 use Rattle.call_definitions.specs.Results.{Gives, Shows, Tells}

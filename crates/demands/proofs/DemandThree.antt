@@ -11,7 +11,8 @@ use Rattle.keywords.specs.declared.Privacy.the-variants.{Private, Secret}
 use Rattle.event.specs.Types.{Text, Details}
 use Rattle.event.specs.Event.{eventOf}
 use Rattle.call_definitions.specs.Agree.{Agree, Accepted}
-use Rattle.call_definitions.specs.Bytes.{ZoneTable, recordsOf, trailerOf}
+use Rattle.call_definitions.specs.Utc.{ZoneTable}
+use Rattle.call_definitions.specs.Bytes.{recordsOf, trailerOf}
 use Rattle.call_definitions.specs.Answer.{Outcome, isSecret, dateTimeOf, textAnswer}
 use Rattle.call_definitions.specs.Call.{Shown, expandText, noPlace, textOf}
 use Rattle.call_definitions.specs.Results.{Gives, Shows, Tells}

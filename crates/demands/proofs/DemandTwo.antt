@@ -19,7 +19,8 @@ use Rattle.event.specs.Types.{Event}
 use Rattle.event.specs.Event.{eventOf}
 use Rattle.call_definitions.specs.Window.{since1600, since1970, validWindow}
 use Rattle.call_definitions.specs.Occurrence.{datesOf, occurrences, detailsAt}
-use Rattle.call_definitions.specs.Bytes.{ZoneTable, secondsIn, recordsOf, trailerOf, tableOf}
+use Rattle.call_definitions.specs.Utc.{ZoneTable}
+use Rattle.call_definitions.specs.Bytes.{secondsIn, recordsOf, trailerOf, tableOf}
 use Rattle.call_definitions.specs.Answer.{Outcome, isSecret, expanded}
 use Rattle.call_definitions.specs.Call.{textFault, expandText}
 use Rattle.call_definitions.specs.Results.{Gives}

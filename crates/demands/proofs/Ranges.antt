@@ -27,7 +27,8 @@ use Rattle.property.proofs.Ranges.{Short, length-range}
 use Rattle.override_text.proofs.RangeLaws.{InRange, read-range}
 use Rattle.call_definitions.specs.Window.{epoch, since1970}
 use Rattle.call_definitions.specs.Occurrence.{overrideAt, withStart, patchedBy, detailsAt}
-use Rattle.call_definitions.specs.Bytes.{ZoneTable, utcOf, secondsIn}
+use Rattle.call_definitions.specs.Utc.{ZoneTable, utcOf}
+use Rattle.call_definitions.specs.Bytes.{secondsIn}
 use Rattle.call_definitions.specs.Call.{textFault}
 use Rattle.call_definitions.proofs.Few.{accepted-event}
 

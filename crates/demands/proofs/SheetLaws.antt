@@ -13,7 +13,8 @@ use Rattle.little_endian.proofs.ByteLaws.{bytes-length, signed-twos, twos-small
 use Rattle.event.specs.Types.{Event}
 use Rattle.call_definitions.specs.Window.{since1970}
 use Rattle.call_definitions.specs.Occurrence.{detailsAt}
-use Rattle.call_definitions.specs.Bytes.{ZoneTable, utcOf, secondsIn, marksOf, recordOf, recordsOf, trailerOf}
+use Rattle.call_definitions.specs.Utc.{ZoneTable, utcOf}
+use Rattle.call_definitions.specs.Bytes.{secondsIn, marksOf, recordOf, recordsOf, trailerOf}
 use Rattle.call_definitions.proofs.DemandTwo.{records-length, trailer-length}
 use Rattle.sheet.specs.Records.{idAt, startAt, endAt, marksAt, zerosAt}
 use Rattle.demands.specs.Sheet.{HasSheet}

@@ -26,7 +26,8 @@ use Rattle.event.specs.Types.{Details}
 use Rattle.event.specs.Event.{eventOf}
 use Rattle.call_definitions.specs.Agree.{Accepted as Event-accepted}
 use Rattle.call_definitions.specs.Answer.{isSecret}
-use Rattle.call_definitions.specs.Bytes.{ZoneTable, marksOf, isFloating}
+use Rattle.call_definitions.specs.Utc.{ZoneTable, isFloating}
+use Rattle.call_definitions.specs.Bytes.{marksOf}
 use Rattle.call_definitions.specs.Call.{textFault, expandText}
 use Rattle.call_definitions.specs.Results.{Gives}
 use Rattle.demands.specs.Sheet.{HasSheet}

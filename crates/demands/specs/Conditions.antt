@@ -22,7 +22,8 @@ use Rattle.event.specs.Values.{object}
 use Rattle.event.specs.Event.{noEvent, eventIn, eventOf}
 use Rattle.call_definitions.specs.Window.{validWindow}
 use Rattle.call_definitions.specs.Occurrence.{isOccurrence}
-use Rattle.call_definitions.specs.Bytes.{ZoneTable, tableOf}
+use Rattle.call_definitions.specs.Utc.{ZoneTable}
+use Rattle.call_definitions.specs.Bytes.{tableOf}
 use Rattle.call_definitions.specs.Answer.{isSecret, otherZone, dateTimeOf}
 
 -- A number, and whether its condition holds.

@@ -26,7 +26,7 @@ use Rattle.event.specs.Types.{Text, Details}
 use Rattle.event.specs.Event.{eventOf}
 use Rattle.call_definitions.specs.Agree.{Agree, Accepted}
 use Rattle.call_definitions.specs.Answer.{isSecret}
-use Rattle.call_definitions.specs.Bytes.{ZoneTable}
+use Rattle.call_definitions.specs.Utc.{ZoneTable}
 use Rattle.call_definitions.specs.Call.{Shown, textFault, expandText, titleOf, descriptionOf}
 use Rattle.call_definitions.specs.Results.{Gives, Shows, Tells}
 use Rattle.demands.specs.Conditions.{Numbered, Lowest, applies, textConditions}

@@ -5,7 +5,7 @@ use mathlib.Core.List.{List, []}
 use mathlib.Core.Path.{_≡_}
 use lib.IntN.{ℤ}
 use Rattle.event.specs.Event.{eventOf}
-use Rattle.call_definitions.specs.Bytes.{ZoneTable}
+use Rattle.call_definitions.specs.Utc.{ZoneTable}
 use Rattle.demands.specs.One.{TableAnswered}
 use Rattle.demands.specs.Two.{Listed}
 

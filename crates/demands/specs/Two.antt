@@ -14,7 +14,8 @@ use Rattle.recurrence.specs.Occurs.{Occurs}
 use Rattle.event.specs.Types.{Text, Details, Event}
 use Rattle.call_definitions.specs.Window.{since1600, since1970}
 use Rattle.call_definitions.specs.Occurrence.{datesOf, isOccurrence, detailsAt}
-use Rattle.call_definitions.specs.Bytes.{ZoneTable, utcOf, secondsIn, marksOf}
+use Rattle.call_definitions.specs.Utc.{ZoneTable, utcOf}
+use Rattle.call_definitions.specs.Bytes.{secondsIn, marksOf}
 use Rattle.call_definitions.specs.Answer.{dateTimeOf}
 use Rattle.sheet.specs.Records.{idAt, startAt, endAt, marksAt, zerosAt}
 use Rattle.demands.specs.Sheet.{HasSheet}

@@ -12,7 +12,8 @@ use Rattle.keywords.specs.declared.Privacy.the-variants.{Public, Private, Secre
 use Rattle.event.specs.Types.{Event}
 use Rattle.event.specs.Event.{eventOf}
 use Rattle.call_definitions.specs.Window.{since1600}
-use Rattle.call_definitions.specs.Bytes.{ZoneTable, recordsOf, trailerOf, listed, tableOf}
+use Rattle.call_definitions.specs.Utc.{ZoneTable}
+use Rattle.call_definitions.specs.Bytes.{recordsOf, trailerOf, listed, tableOf}
 use Rattle.call_definitions.specs.Answer.{isSecret, Outcome, outcomeBy, expanded}
 use Rattle.call_definitions.specs.Call.{textFault, expandText}
 use Rattle.call_definitions.specs.Results.{Gives}

@@ -20,7 +20,7 @@ use Rattle.event_text.specs.Inner.Front.{inner}
 use Rattle.event_text.specs.Inner.Held.{fromHead}
 use Rattle.event_text.specs.declared.Head.{Head}
 use Rattle.event_text.proofs.FromHead.{head-zone, head-accepted}
-use Rattle.call_definitions.specs.Bytes.{isFloating}
+use Rattle.call_definitions.specs.Utc.{isFloating}
 use Rattle.call_definitions.specs.Occurrence.{datesOf}
 use Rattle.dates.specs.declared.Tracks.{Tracks}
 use Rattle.dates.specs.Inner.Loaded.{loaded}

@@ -1,7 +1,7 @@
 // The lowest of 10 to 12 that applies to a call, or 0. 13 needs the table's length, and is found where the table is counted.
 ghost use mathlib.Core.Path.{_≡_};
 ghost use Rattle.call_definitions.specs.Answer.{isSecret, isPublic, otherZone};
-ghost use Rattle.call_definitions.specs.Bytes.{isFloating};
+ghost use Rattle.call_definitions.specs.Utc.{isFloating};
 ghost use Rattle.call_definitions.specs.Results.{zonesOf};
 ghost use Rattle.property.specs.Inner.From.{nameIn};
 ghost use Rattle.opening.specs.Inner.Refusal.{refusalFor};

@@ -18,7 +18,8 @@ use Rattle.zone.proofs.RangeLaws.{abs-fits, sum-abs}
 use Rattle.zone.proofs.LookupLaws.{utc-abs}
 use Rattle.event.specs.Types.{Details}
 use Rattle.call_definitions.specs.Window.{epoch, since1970}
-use Rattle.call_definitions.specs.Bytes.{ZoneTable, isFloating, marksOf, secondsIn, utcOf, recordOf}
+use Rattle.call_definitions.specs.Utc.{ZoneTable, isFloating, utcOf}
+use Rattle.call_definitions.specs.Bytes.{marksOf, secondsIn, recordOf}
 use Rattle.record.specs.declared.Times.{Times}
 use Rattle.record.specs.Inner.Rows.{marksFor, rowOf}
 use Rattle.record.specs.Inner.Occurrences.{utcBy, occurrenceRow, Small}

@@ -14,7 +14,8 @@ use Rattle.little_endian.specs.Bytes.{bytesOf, twos}
 use Rattle.little_endian.proofs.ByteLaws.{bytes-length}
 use Rattle.event.specs.Types.{Details}
 use Rattle.call_definitions.specs.Window.{since1970}
-use Rattle.call_definitions.specs.Bytes.{ZoneTable, isFloating, marksOf, secondsIn, utcOf, recordOf, trailerOf}
+use Rattle.call_definitions.specs.Utc.{ZoneTable, isFloating, utcOf}
+use Rattle.call_definitions.specs.Bytes.{marksOf, secondsIn, recordOf, trailerOf}
 use Rattle.record.specs.Inner.Rows.{marksFor, rowOf}
 
 -- ---- the definitions of `table` by the numbers

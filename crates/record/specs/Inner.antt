@@ -1,2 +1,3 @@
-pub mod Occurrences
 pub mod Rows
+pub mod Utc
+pub mod Occurrences

@@ -28,7 +28,8 @@ use Rattle.keywords.specs.declared.Privacy.the-variants.{Public, Private, Secre
 use Rattle.event.specs.Types.{Event}
 use Rattle.call_definitions.specs.Window.{since1600, since1970, validWindow}
 use Rattle.call_definitions.specs.Occurrence.{datesOf, occurrences, overrideAt, withStart, patchedBy, detailsAt}
-use Rattle.call_definitions.specs.Bytes.{ZoneTable, utcOf, secondsIn, marksOf, recordOf, recordsOf, trailerOf, listed, tableOf}
+use Rattle.call_definitions.specs.Utc.{ZoneTable, utcOf}
+use Rattle.call_definitions.specs.Bytes.{secondsIn, marksOf, recordOf, recordsOf, trailerOf, listed, tableOf}
 use Rattle.call_definitions.specs.Answer.{Outcome, otherZone, answerFor, outcomeBy, expanded}
 use Rattle.worked_dates.specs.Inner.Written.{Case, on, lasting, eventOf, rule, row, floatingRows, noZone, dated, ruled, timed}
 use Rattle.worked_dates.specs.Inner.Cases.{newYork, losAngeles, melbourne, starred}

@@ -8,7 +8,8 @@ use Rattle.dates.specs.Inner.Loaded.{Loaded, isIn}
 use Rattle.dates.specs.Inner.Stands.{Stands}
 use Rattle.event.specs.Types.{Details, Event}
 use Rattle.call_definitions.specs.Occurrence.{datesOf, occurrences, detailsAt}
-use Rattle.call_definitions.specs.Bytes.{ZoneTable, isFloating, secondsIn, recordOf, recordsOf, trailerOf}
+use Rattle.call_definitions.specs.Utc.{ZoneTable, isFloating}
+use Rattle.call_definitions.specs.Bytes.{secondsIn, recordOf, recordsOf, trailerOf}
 use Rattle.record.proofs.OccurrenceLaws.{times, occurrence-record}
 use Rattle.window.proofs.ListLaws.{ids-loaded}
 use Rattle.writer.specs.Inner.Rows.{rowsOf}

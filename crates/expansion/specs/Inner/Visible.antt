@@ -11,7 +11,8 @@ use Rattle.event_text.specs.declared.Head.{Head}
 use Rattle.event_text.specs.Inner.Taken.{Taken}
 use Rattle.window.specs.Inner.Handed.{Span}
 use Rattle.call_definitions.specs.Occurrence.{occurrences}
-use Rattle.call_definitions.specs.Bytes.{ZoneTable, recordsOf, trailerOf}
+use Rattle.call_definitions.specs.Utc.{ZoneTable}
+use Rattle.call_definitions.specs.Bytes.{recordsOf, trailerOf}
 
 unfoldable pub tableFor : ZoneTable → Event → ℕ → ℕ → List ℕ
 tableFor zones e from to = recordsOf zones e (occurrences e from to) ++ trailerOf (length (occurrences e from to))

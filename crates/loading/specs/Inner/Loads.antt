@@ -14,7 +14,7 @@ use Rattle.dates.specs.Inner.Dates.{keptDates, Whole}
 use Rattle.dates.specs.Inner.Stands.{Stands}
 use Rattle.window.specs.Inner.Sorted.{Ordered}
 use Rattle.call_definitions.specs.Occurrence.{datesOf, detailsAt}
-use Rattle.call_definitions.specs.Bytes.{isFloating}
+use Rattle.call_definitions.specs.Utc.{isFloating}
 use Rattle.record.specs.Inner.Occurrences.{Small}
 use Rattle.writer.specs.Inner.Details.{detailsBy, timesIn}
 use Rattle.loading.specs.declared.Kept.{Kept}

@@ -6,7 +6,7 @@ use mathlib.Core.Option.{none, some}
 use lib.IntN.{ℤ, pos, negℤ, negsuc}
 use Rattle.rule.specs.declared.Frequency.the-variants.{Daily, Weekly, Monthly, Yearly}
 use Rattle.json_text.specs.Ascii.{ascii}
-use Rattle.call_definitions.specs.Bytes.{ZoneTable}
+use Rattle.call_definitions.specs.Utc.{ZoneTable}
 use Rattle.worked_dates.specs.Inner.Written.{Case, on, lasting, eventOf, rule, dated, ruled, timed}
 
 abbrev mo : ℕ

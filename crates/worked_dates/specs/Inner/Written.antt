@@ -12,7 +12,8 @@ use Rattle.little_endian.specs.Bytes.{bytesOf, twos}
 use Rattle.keywords.specs.declared.Privacy.the-variants.{Public}
 use Rattle.event.specs.Types.{Details, Override, Event}
 use Rattle.call_definitions.specs.Window.{since1970}
-use Rattle.call_definitions.specs.Bytes.{ZoneTable, trailerOf}
+use Rattle.call_definitions.specs.Utc.{ZoneTable}
+use Rattle.call_definitions.specs.Bytes.{trailerOf}
 
 -- A zone table, an event, and the bytes of the table of its occurrences in the widest window.
 pub record Case : Type 0 where
