@@ -1,3 +1,4 @@
 pub mod RowLaws
+pub mod UtcLaws
 pub mod OccurrenceLaws
 pub mod WindowLaws

@@ -4,7 +4,7 @@ use mathlib.Core.List.{List, [], _∷_, _++_}
 use mathlib.Core.Option.{Option}
 use mathlib.Core.Path.{_≡_, refl, ap, _∙_}
 use native.Mathlib.Omega.{arith}
-use lib.IntN.{ℤ, pos, _+ℤ_}
+use lib.IntN.{ℤ}
 use lib.ListN.{length, set}
 use lib.Seq.{sets}
 use mir.Syntax.{w64}
@@ -14,8 +14,8 @@ use Rattle.little_endian.specs.Bytes.{bytesOf, twos}
 use Rattle.little_endian.proofs.ByteLaws.{bytes-length}
 use Rattle.event.specs.Types.{Details}
 use Rattle.call_definitions.specs.Window.{since1970}
-use Rattle.call_definitions.specs.Utc.{ZoneTable, isFloating, utcOf}
-use Rattle.call_definitions.specs.Bytes.{marksOf, secondsIn, recordOf, trailerOf}
+use Rattle.call_definitions.specs.Utc.{ZoneTable, isFloating, utcStart, utcEnd}
+use Rattle.call_definitions.specs.Bytes.{marksOf, recordOf, trailerOf}
 use Rattle.record.specs.Inner.Rows.{marksFor, rowOf}
 
 -- ---- the definitions of `table` by the numbers
@@ -25,9 +25,7 @@ unfolding marksOf marksFor
 marks-of zone d = refl
 
 pub record-of : (table : ZoneTable) (zone : Option (List ℕ)) (id : ℕ) (d : Details)
-    → recordOf table zone id d
-    ≡ rowOf (since1970 id) (utcOf table zone (since1970 (d .start)))
-    (utcOf table zone (since1970 (d .start)) +ℤ pos (secondsIn (d .length))) (marksOf zone d)
+    → recordOf table zone id d ≡ rowOf (since1970 id) (utcStart table zone d) (utcEnd table zone d) (marksOf zone d)
 unfolding recordOf rowOf
 record-of table zone id d = refl
 

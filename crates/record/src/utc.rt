@@ -1,10 +1,9 @@
 // When an occurrence starts and ends in UTC. The days of its length are added to the local start, the seconds to the time in UTC.
 ghost use mathlib.Core.Bool.{true};
 ghost use mathlib.Core.Path.{_≡_};
-ghost use Prim.Native.Nat.{_≤_, _<_, _^_};
+ghost use Prim.Native.Nat.{_+_, _*_, _≤_, _^_};
 ghost use lib.IntN.{pos, natAbs, _+ℤ_, _-ℤ_};
 ghost use Rattle.zone.specs.Table.{validTable};
-ghost use Rattle.call_definitions.specs.Utc.{daysLater};
 ghost use Rattle.record.specs.Inner.Utc.{offsetBy, startOffset, endOffset, endBy, Brief, Ending};
 use crate::Times;
 use crate::window::since_1970;
@@ -44,7 +43,7 @@ fn later(time: i64, seconds: u64) -> i64
 // The local start with the days added.
 fn local_end(times: Times) -> u64
     requires { ⌜ Brief times ⌝ }
-    ensures { λ r. ⌜ r ≡ daysLater (times .start) (times .days) ⌝ }
+    ensures { λ r. ⌜ r ≡ times .start + 86400 * times .days ⌝ }
 {
     times.start + 86400 * times.days
 }

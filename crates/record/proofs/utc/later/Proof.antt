@@ -1,8 +1,8 @@
--- `record::occurrences::later` meets its contract: the sum fits.
-use Rattle.record.proofs.OccurrenceLaws.{later-fits, later-is}
+-- `record::utc::later` meets its contract: the sum fits.
+use Rattle.record.proofs.UtcLaws.{later-fits, later-is}
 use borrow.Author.Needs.{needs}
-use Rattle.record.proofs.occurrences.later.Statement.{statement}
-use Rattle.record.proofs.occurrences.later.Tie as tie
+use Rattle.record.proofs.utc.later.Statement.{statement}
+use Rattle.record.proofs.utc.later.Tie as tie
 
 cast-result : tie.Need-cast-result
 cast-result c = search needs
