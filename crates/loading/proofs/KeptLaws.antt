@@ -28,8 +28,9 @@ use Rattle.dates.specs.declared.Tracks.{Tracks}
 use Rattle.dates.specs.Inner.Tracked.{tracksOf}
 use Rattle.dates.specs.Inner.Loaded.{loaded}
 use Rattle.dates.specs.Inner.Stands.{Settles, Stands, overridesOf}
+use Rattle.record.specs.Inner.Utc.{timesOf}
 use Rattle.record.specs.Inner.Occurrences.{Small}
-use Rattle.writer.specs.Inner.Details.{detailsBy, timesIn}
+use Rattle.writer.specs.Inner.Details.{detailsBy}
 use Rattle.loading.specs.Inner.Rules.{Season, SettledRules}
 use Rattle.loading.specs.Inner.Patches.{patchesIn, Overridden}
 use Rattle.loading.proofs.PatchLaws.{front-stored, dates-same, details-same, small-each, Ranged, patches-many, patches-each, patches-range, patches-most}
@@ -116,11 +117,12 @@ module _ (s : List ℕ) (h : Head) (is : fromHead inner s h ≡ frontOf s) (ok :
           (details-same s mine over (patchesIn s (h .overrides)) even (patches-each s mine (h .overrides)) x
           ∙ (λ i. patchedBy (sym (head-details s h is) i) x (overrideAt (sym overrides-are i) x)))
 
-      pub kept-small : (x : ℕ) → x < 2 ^ 60 → Small x (timesIn (detailsBy s (detailsIn s o) (take n ids₁) (take n places₁) x))
+      pub kept-small : (floating : Bool) (x : ℕ) → x < 2 ^ 60
+          → Small x (timesOf floating (detailsBy s (detailsIn s o) (take n ids₁) (take n places₁) x))
       unfolding detailsAt
-      kept-small x b =
+      kept-small floating x b =
           let short : Short (eventOf s .details .length) = subst (λ (d : Details). Short (d .length)) (sym (head-details s h is)) (fine .short) in
-          subst (λ (d : Details). Small x (timesIn d)) (sym (kept-details x)) (small-each (eventOf s .details) short (eventOf s .overrides) ranged x b)
+          subst (λ (d : Details). Small x (timesOf floating d)) (sym (kept-details x)) (small-each floating (eventOf s .details) short (eventOf s .overrides) ranged x b)
 
       pub kept-stands : (limit : ℕ) → limit ≤ endDay → (rules : Tracks) (flags : List Bool) (excluded : Tracks) (excludedFlags : List Bool)
           → SettledRules false (h .start) limit (optional [] readRules (valueIn inner s (h .rules)) .value) rules flags

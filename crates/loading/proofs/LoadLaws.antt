@@ -147,6 +147,6 @@ module _ (s t : List ℕ) (h : Head) (limit rows : ℕ) (ids₀ : List ℕ) (gon
                 (kept-stands s h (p .taken .head) (p .taken .accepted) o (own s) ids₀ ids₁ gone₀ gone₁ places₀ places₁ n room filled limit (p .within) rules first excluded second kept left);
             details = kept-details s h (p .taken .head) (p .taken .accepted) o (own s) ids₀ ids₁ gone₀ gone₁ places₀ places₁ n room filled;
             floating = floats ∙ ap isFloating (sym (head-zone s h (p .taken .head)));
-            small = kept-small s h (p .taken .head) (p .taken .accepted) o (own s) ids₀ ids₁ gone₀ gone₁ places₀ places₁ n room filled;
+            small = kept-small s h (p .taken .head) (p .taken .accepted) o (own s) ids₀ ids₁ gone₀ gone₁ places₀ places₁ n room filled _;
             sorted = order;
           }

@@ -25,8 +25,9 @@ use Rattle.event_text.specs.Inner.Front.{inner}
 use Rattle.call_definitions.specs.Occurrence.{overrideAt, withStart, patchedBy}
 use Rattle.recurrence.specs.Event as recurrence
 use Rattle.dates.specs.Inner.Stands.{overridesOf}
+use Rattle.record.specs.Inner.Utc.{timesOf}
 use Rattle.record.specs.Inner.Occurrences.{Small}
-use Rattle.writer.specs.Inner.Details.{patchDetails, detailsBy, timesFrom, timesIn}
+use Rattle.writer.specs.Inner.Details.{patchDetails, detailsBy}
 use Rattle.loading.specs.Inner.Patches.{patchesIn}
 
 -- ---- lists that stand at the front of lent slices
@@ -66,25 +67,24 @@ details-same s own (o ∷ os) (p ∷ ps) even each x =
 
 -- ---- their range
 
-small-own : (own : Details) → Short (own .length) → (x : ℕ) → x < 2 ^ 60 → Small x (timesIn (withStart own x))
-unfolding timesIn timesFrom withStart
-small-own own short x h = record { id-small = h; start-small = h; length-small = omega (arith, short) }
-
-small-patched : (o : Override) → InRange o → (x : ℕ) → x < 2 ^ 60 → Small x (timesIn (o .details))
-unfolding timesIn timesFrom
-small-patched o r x h = record { id-small = h; start-small = omega (arith, r .start .to); length-small = omega (arith, r .short) }
+small-times : (floating : Bool) (d : Details) (x : ℕ) → x < 2 ^ 60 → d .start < 2 ^ 60 → Short (d .length) → Small x (timesOf floating d)
+unfolding timesOf
+small-times floating d x h start short =
+    record { id-small = h; brief = record { start-small = start; length-small = omega (arith, short) } }
 
 abbrev pub Ranged : List Override → Type 0
 Ranged os = (k : ℕ) → k < length os → (d : Override) → InRange (getD os k d)
 
-pub small-each : (own : Details) → Short (own .length) → (os : List Override) → Ranged os → (x : ℕ) → x < 2 ^ 60
-    → Small x (timesIn (patchedBy own x (overrideAt os x)))
-unfolding overrideAt patchedBy
-small-each own short [] range x h = small-own own short x h
-small-each own short (o ∷ os) range x h = go (small-each own short os (λ k p d. range (suc k) (omega arith) d) x h) (eqb (o .id) x)
+pub small-each : (floating : Bool) (own : Details) → Short (own .length) → (os : List Override) → Ranged os → (x : ℕ) → x < 2 ^ 60
+    → Small x (timesOf floating (patchedBy own x (overrideAt os x)))
+unfolding overrideAt patchedBy withStart
+small-each floating own short [] range x h = small-times floating (withStart own x) x h h short
+small-each floating own short (o ∷ os) range x h =
+    go (small-each floating own short os (λ k p d. range (suc k) (omega arith) d) x h) (eqb (o .id) x)
   where
-    go : Small x (timesIn (patchedBy own x (overrideAt os x))) → (c : Bool) → Small x (timesIn (patchedBy own x (if c then some o else overrideAt os x)))
-    go rest true = small-patched o (range 0 (omega arith) o) x h
+    go : Small x (timesOf floating (patchedBy own x (overrideAt os x))) → (c : Bool)
+        → Small x (timesOf floating (patchedBy own x (if c then some o else overrideAt os x)))
+    go rest true = let r = range 0 (omega arith) o in small-times floating (o .details) x h (omega (arith, r .start .to)) (r .short)
     go rest false = rest
 
 -- ---- the overrides at a place, which may be none

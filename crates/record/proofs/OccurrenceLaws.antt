@@ -19,10 +19,10 @@ use Rattle.call_definitions.specs.Utc.{ZoneTable, isFloating}
 use Rattle.call_definitions.specs.Bytes.{recordOf}
 use Rattle.record.specs.declared.Times.{Times}
 use Rattle.record.specs.Inner.Rows.{marksFor, rowOf}
-use Rattle.record.specs.Inner.Utc.{offsetBy, localStart, startOffset, startBy, endBy, Brief}
+use Rattle.record.specs.Inner.Utc.{timesOf, offsetBy, localStart, startOffset, startBy, endBy, Brief}
 use Rattle.record.specs.Inner.Occurrences.{occurrenceRow, Small}
 use Rattle.record.proofs.RowLaws.{marks-of, record-of}
-use Rattle.record.proofs.UtcLaws.{again, timesOf, start-by, end-by, local-abs, by-abs}
+use Rattle.record.proofs.UtcLaws.{again, start-by, end-by, local-abs, by-abs}
 
 pub occurrence-record : (table : ZoneTable) (zone : Option (List ℕ)) (id : ℕ) (d : Details)
     → recordOf table zone id d ≡ occurrenceRow (table .initial) (table .instants) (table .offsets) id (timesOf (isFloating zone) d)

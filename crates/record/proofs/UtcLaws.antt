@@ -21,16 +21,12 @@ use Rattle.call_definitions.specs.Window.{since1970}
 use Rattle.call_definitions.specs.Utc.{ZoneTable, isFloating, utcOf, utcStart, daysLater, utcEnd}
 use Rattle.call_definitions.proofs.UtcLaws.{since-near}
 use Rattle.record.specs.declared.Times.{Times}
-use Rattle.record.specs.Inner.Utc.{offsetBy, localStart, localEnd, startOffset, endOffset, startBy, endBy, Brief, Ending}
+use Rattle.record.specs.Inner.Utc.{timesOf, offsetBy, localStart, localEnd, startOffset, endOffset, startBy, endBy, Brief, Ending}
 
 abbrev pub again : ℤ → ℤ
 again z = toZ w64 (ofZ w64 z)
 
 -- ---- the same times by the definitions of `call_definitions`
-
-unfoldable pub timesOf : Bool → Details → Times
-timesOf floating d =
-    record { start = d .start; days = d .length .days; seconds = d .length .seconds; busy = d .busy; allday = d .allDay; floating = floating }
 
 utc-by : (table : ZoneTable) (zone : Option (List ℕ)) (local : ℤ)
     → utcOf table zone local ≡ local -ℤ offsetBy (isFloating zone) (table .initial) (table .instants) (table .offsets) local

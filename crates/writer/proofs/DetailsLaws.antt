@@ -1,5 +1,6 @@
 -- The details of an occurrence: by the override that names it, found by going through the ids.
 use Prim.Native.Nat.{ℕ, zero, suc, _+_, _*_, _<_, _≤_, _^_}
+use mathlib.Core.Bool.{Bool}
 use mathlib.Core.List.{List, [], _∷_}
 use mathlib.Core.Path.{_≡_, refl, sym, ap, subst, _∙_}
 use native.Mathlib.Numerals.{add-one}
@@ -11,21 +12,19 @@ use Rattle.event.specs.Types.{Details, Override}
 use Rattle.event.specs.Reading.{Reading}
 use Rattle.call_definitions.specs.Occurrence.{withStart}
 use Rattle.override_text.specs.declared.Patch.{Patch}
-use Rattle.override_text.specs.Inner.Meaning.{overrideIn}
+use Rattle.override_text.specs.declared.Own.{Own}
+use Rattle.override_text.specs.Inner.Meaning.{detailsIn, overrideIn}
 use Rattle.override_text.specs.Inner.Patched.{patchAt}
-use Rattle.record.specs.declared.Times.{Times}
-use Rattle.writer.specs.Inner.Details.{patchDetails, detailsBy, Passed, timesFrom, timesIn, patchTimes}
+use Rattle.record.specs.Inner.Utc.{timesOf}
+use Rattle.writer.specs.Inner.Details.{patchDetails, detailsBy, Passed, timesFrom, patchTimes}
 
 -- ---- a patch that was read
 
-module _ (s : List ℕ) (own : Details) (at id : ℕ) (p : Patch) (e : overrideIn s id p ≡ patchAt 13 own id s at) where
-  pub patch-times : timesFrom (p .start) (p .days) (p .seconds) (p .busy) (p .allday) ≡ patchTimes own s at id
-  unfolding patchTimes timesIn
-  patch-times = ap (λ (r : Reading Override). timesIn (r .value .details)) e
-
-  pub patch-small : patchTimes own s at id .seconds ≤ 2 ^ 40 → 86400 * p .days + p .seconds ≤ 2 ^ 40
-  unfolding timesFrom
-  patch-small h = subst (λ (t : Times). t .seconds ≤ 2 ^ 40) (sym patch-times) h
+pub patch-times : (s : List ℕ) (own : Details) (at id : ℕ) (p : Patch) (floating : Bool) → overrideIn s id p ≡ patchAt 13 own id s at
+    → record { start = p .start; days = p .days; seconds = p .seconds; busy = p .busy; allday = p .allday; floating = floating }
+    ≡ patchTimes floating own s at id
+unfolding patchTimes timesOf
+patch-times s own at id p floating e = ap (λ (r : Reading Override). timesOf floating (r .value .details)) e
 
 -- ---- the loop
 
@@ -45,9 +44,10 @@ module _ (s : List ℕ) (own : Details) (ids places : List ℕ) (even : length i
       rw (eq-eqb (getD ids i 0) x e) refl in
       ap (patchDetails own s (getD places i 0)) (sym e) ∙ (sym found ∙ (sym (one i h) ∙ seen .1))
 
-  pub seen-here : (i : ℕ) → i < length ids → Seen s own ids places x i → getD ids i 0 ≡ x → patchTimes own s (getD places i 0) x ≡ timesIn (detailsBy s own ids places x)
+  pub seen-here : (floating : Bool) (i : ℕ) → i < length ids → Seen s own ids places x i → getD ids i 0 ≡ x
+      → patchTimes floating own s (getD places i 0) x ≡ timesOf floating (detailsBy s own ids places x)
   unfolding patchTimes
-  seen-here i h seen e = ap timesIn (seen-patch i h seen e)
+  seen-here floating i h seen e = ap (timesOf floating) (seen-patch i h seen e)
 
   pub seen-next : (i : ℕ) → i < length ids → Seen s own ids places x i → (getD ids i 0 ≡ x → ⊥) → Seen s own ids places x (i + 1)
   unfolding detailsBy
@@ -70,6 +70,8 @@ module _ (s : List ℕ) (own : Details) (ids places : List ℕ) (even : length i
       let own-details : detailsBy s own (drop i ids) (drop i places) x ≡ withStart own x = rw empty refl in
       sym own-details ∙ seen .1
 
-  pub seen-none : (i : ℕ) → length ids ≤ i → Seen s own ids places x i → timesFrom x (own .length .days) (own .length .seconds) (own .busy) (own .allDay) ≡ timesIn (detailsBy s own ids places x)
-  unfolding timesIn withStart
-  seen-none i h seen = ap timesIn (seen-own i h seen)
+-- the event's own details, where no override names x
+pub seen-none : (s : List ℕ) (own : Own) (floating : Bool) (ids places : List ℕ) → length ids ≡ length places → (x i : ℕ) → length ids ≤ i
+    → Seen s (detailsIn s own) ids places x i → timesFrom own floating x ≡ timesOf floating (detailsBy s (detailsIn s own) ids places x)
+unfolding timesOf withStart
+seen-none s own floating ids places even x i h seen = ap (timesOf floating) (seen-own s (detailsIn s own) ids places even x i h seen)

@@ -9,11 +9,11 @@ use Rattle.dates.specs.Inner.Stands.{Stands}
 use Rattle.event.specs.Types.{Details, Event}
 use Rattle.call_definitions.specs.Occurrence.{datesOf, occurrences, detailsAt}
 use Rattle.call_definitions.specs.Utc.{ZoneTable, isFloating}
-use Rattle.call_definitions.specs.Bytes.{secondsIn, recordOf, recordsOf, trailerOf}
-use Rattle.record.proofs.OccurrenceLaws.{times, occurrence-record}
+use Rattle.call_definitions.specs.Bytes.{recordOf, recordsOf, trailerOf}
+use Rattle.record.proofs.OccurrenceLaws.{occurrence-record}
 use Rattle.window.proofs.ListLaws.{ids-loaded}
 use Rattle.writer.specs.Inner.Rows.{rowsOf}
-use Rattle.writer.specs.Inner.Details.{timesFrom, timesIn, rowBy}
+use Rattle.writer.specs.Inner.Details.{rowBy}
 use Rattle.writer.specs.Inner.Table.{tableBy}
 
 rows-records : (zones : ZoneTable) (e : Event) (row : ℕ → List ℕ) → ((x : ℕ) → row x ≡ recordOf zones (e .zone) x (detailsAt e x))
@@ -21,10 +21,6 @@ rows-records : (zones : ZoneTable) (e : Event) (row : ℕ → List ℕ) → ((x 
 unfolding rowsOf recordsOf
 rows-records zones e row same [] = refl
 rows-records zones e row same (x ∷ xs) = ap₂ (λ (a b : List ℕ). a ++ b) (same x) (rows-records zones e row same xs)
-
-times-are : (d : Details) → times d ≡ timesIn d
-unfolding times timesIn timesFrom secondsIn
-times-are d = refl
 
 module _ (zones : ZoneTable) (e : Event) (details : ℕ → Details) (known : (x : ℕ) → details x ≡ detailsAt e x) (floating : Bool)
     (floats : floating ≡ isFloating (e .zone)) where
@@ -34,7 +30,7 @@ module _ (zones : ZoneTable) (e : Event) (details : ℕ → Details) (known : (x
   row-record : (x : ℕ) → row x ≡ recordOf zones (e .zone) x (detailsAt e x)
   unfolding row rowBy
   row-record x =
-      rw (floats, known x, ← (times-are (detailsAt e x))) (sym (occurrence-record zones (e .zone) x (detailsAt e x)))
+      rw (floats, known x) (sym (occurrence-record zones (e .zone) x (detailsAt e x)))
 
   module _ (from to : ℕ) (order : from ≤ to) (limit : ℕ) (l : Loaded) (stands : Stands (datesOf e) limit l) (within : to ≤ 86400 * limit) where
     pub table-is : tableBy (rowBy floating (zones .initial) (zones .instants) (zones .offsets) details) (isIn l) from to

@@ -11,9 +11,10 @@ use Rattle.little_endian.proofs.ByteLaws.{bytes-length}
 use Rattle.event.specs.Types.{Details}
 use Rattle.record.specs.declared.Times.{Times}
 use Rattle.record.specs.Inner.Rows.{rowOf}
+use Rattle.record.specs.Inner.Utc.{timesOf}
 use Rattle.record.specs.Inner.Occurrences.{occurrenceRow}
 use Rattle.writer.specs.Inner.Rows.{rowsOf}
-use Rattle.writer.specs.Inner.Details.{timesIn, rowBy}
+use Rattle.writer.specs.Inner.Details.{rowBy}
 
 -- ---- a row has 28 bytes
 
@@ -34,10 +35,10 @@ unfolding rowBy occurrenceRow
 by-length fl b ts ns details x = row-length _ _ _ _
 
 -- the record with the times that were found
-pub row-found : (fl : Bool) (b : ℤ) (ts ns : List ℤ) (details : ℕ → Details) (x : ℕ) (t : Times) → t ≡ timesIn (details x)
-    → occurrenceRow fl b ts ns x t ≡ rowBy fl b ts ns details x
+pub row-found : (fl : Bool) (b : ℤ) (ts ns : List ℤ) (details : ℕ → Details) (x : ℕ) (t : Times) → t ≡ timesOf fl (details x)
+    → occurrenceRow b ts ns x t ≡ rowBy fl b ts ns details x
 unfolding rowBy
-row-found fl b ts ns details x t is = ap (occurrenceRow fl b ts ns x) is
+row-found fl b ts ns details x t is = ap (occurrenceRow b ts ns x) is
 
 -- ---- the rows of a list
 

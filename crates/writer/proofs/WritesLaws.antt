@@ -1,5 +1,5 @@
 -- What the writer asks for, by parts: the offset given by its bits, and the times of one occurrence.
-use Prim.Native.Nat.{ℕ, _<_, _^_}
+use Prim.Native.Nat.{ℕ}
 use mathlib.Core.List.{List}
 use mathlib.Core.Path.{sym, subst}
 use lib.IntN.{ℤ}
@@ -13,5 +13,5 @@ module _ (s t : List ℕ) (f : Form) (ids places : List ℕ) (b : ℤ) (ts ns : 
   pub writes-again : SFits w64 b → Writes s t f ids places b ts ns → Writes s t f ids places (toZ w64 (ofZ w64 b)) ts ns
   writes-again fits w = subst (λ (z : ℤ). Writes s t f ids places z ts ns) (sym (toZ-ofZ fits)) w
 
-  pub writes-look : Writes s t f ids places b ts ns → (x : ℕ) → x < 2 ^ 60 → LooksUp s t f ids places x
-  writes-look w x early = record { ends = w .ends; sorted = w .sorted; even = w .even; small = w .small x early }
+  pub writes-look : Writes s t f ids places b ts ns → LooksUp s t f ids places
+  writes-look w = record { ends = w .ends; sorted = w .sorted; even = w .even }

@@ -23,7 +23,6 @@ pub fn write_records(
     ensures { λ r. ⌜ WroteChunk (rowFor (now (text .entry)) form (now (ids .entry)) (now (places .entry)) initial (now (instants .entry)) (now (offsets .entry)))
         (now (chunk .entry)) at (now (buffer .entry)) (now (buffer .exit)) r ⌝ }
 {
-    let floating = form.floating;
     let mut hint = 0;
     let mut place = at;
     let mut i = 0;
@@ -35,7 +34,6 @@ pub fn write_records(
             place,
             x,
             t,
-            floating,
             initial,
             instants,
             offsets,

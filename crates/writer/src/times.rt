@@ -1,10 +1,10 @@
 // The times of one occurrence.
 ghost use mathlib.Core.Path.{_≡_};
-ghost use Prim.Native.Nat.{_+_, _*_, _≤_, _^_};
 ghost use Rattle.json_ends.specs.Inner.Ends.{Ends};
 ghost use Rattle.override_text.specs.Inner.Meaning.{detailsIn};
 ghost use Rattle.window.specs.Inner.Sorted.{Ordered};
-ghost use Rattle.writer.specs.Inner.Details.{Passed, detailsBy, timesIn, timesFrom, patchTimes};
+ghost use Rattle.record.specs.Inner.Utc.{timesOf};
+ghost use Rattle.writer.specs.Inner.Details.{Passed, detailsBy, patchTimes, timesFrom};
 ghost use Rattle.writer.specs.Inner.Writes.{LooksUp};
 use crate::Form;
 use override_text::Own;
@@ -12,25 +12,34 @@ use override_text::patches::patch;
 use record::Times;
 use window::sorted::below;
 
-pub(crate) fn times(start: u64, days: u64, seconds: u64, busy: bool, allday: bool) -> Times
-    requires { ⌜ 86400 * days + seconds ≤ 2 ^ 40 ⌝ }
-    ensures { λ r. ⌜ r ≡ timesFrom start days seconds busy allday ⌝ }
+// The event's own times, from x on.
+fn own_times(own: Own, floating: bool, x: u64) -> Times
+    ensures { λ r. ⌜ r ≡ timesFrom own floating x ⌝ }
 {
     Times {
-        start,
-        seconds: 86400 * days + seconds,
-        busy,
-        allday,
+        start: x,
+        days: own.days,
+        seconds: own.seconds,
+        busy: own.busy,
+        allday: own.allday,
+        floating,
     }
 }
 
 // The times of the occurrence `id` after the patch at a place.
-fn patched(text: &[u8], ends: &[u32], at: usize, own: Own, id: u64) -> Times
-    requires { ⌜ Ends (now text) (now ends) × (patchTimes (detailsIn (now text) own) (now text) at id .seconds ≤ 2 ^ 40) ⌝ }
-    ensures { λ r. ⌜ r ≡ patchTimes (detailsIn (now (text .entry)) own) (now (text .entry)) at id ⌝ }
+fn patched(text: &[u8], ends: &[u32], at: usize, form: Form, id: u64) -> Times
+    requires { ⌜ Ends (now text) (now ends) ⌝ }
+    ensures { λ r. ⌜ r ≡ patchTimes (form .floating) (detailsIn (now (text .entry)) (form .own)) (now (text .entry)) at id ⌝ }
 {
-    let p = patch(text, ends, at, own, id);
-    times(p.start, p.days, p.seconds, p.busy, p.allday)
+    let p = patch(text, ends, at, form.own, id);
+    Times {
+        start: p.start,
+        days: p.days,
+        seconds: p.seconds,
+        busy: p.busy,
+        allday: p.allday,
+        floating: form.floating,
+    }
 }
 
 // Where to look for the override of x: none before names it. Ids that increase need no look at all of them.
@@ -53,19 +62,18 @@ pub(crate) fn times_at(
     places: &[usize],
     x: u64,
 ) -> Times
-    requires { ⌜ LooksUp (now text) (now ends) form (now ids) (now places) x ⌝ }
-    ensures { λ r. ⌜ r ≡ timesIn (detailsBy (now (text .entry)) (detailsIn (now (text .entry)) (form .own)) (now (ids .entry)) (now (places .entry)) x) ⌝ }
+    requires { ⌜ LooksUp (now text) (now ends) form (now ids) (now places) ⌝ }
+    ensures { λ r. ⌜ r ≡ timesOf (form .floating) (detailsBy (now (text .entry)) (detailsIn (now (text .entry)) (form .own)) (now (ids .entry)) (now (places .entry)) x) ⌝ }
 {
-    let own = form.own;
     if ids.len() == 0 {
-        return times(x, own.days, own.seconds, own.busy, own.allday);
+        return own_times(form.own, form.floating, x);
     }
     let mut i = look_from(ids, form.sorted, x);
     while i < ids.len() {
         if ids[i] == x {
-            return patched(text, ends, places[i], own, x);
+            return patched(text, ends, places[i], form, x);
         }
         i += 1;
     }
-    times(x, own.days, own.seconds, own.busy, own.allday)
+    own_times(form.own, form.floating, x)
 }

@@ -15,8 +15,9 @@ use Rattle.dates.specs.Inner.Stands.{Stands}
 use Rattle.window.specs.Inner.Sorted.{Ordered}
 use Rattle.call_definitions.specs.Occurrence.{datesOf, detailsAt}
 use Rattle.call_definitions.specs.Utc.{isFloating}
+use Rattle.record.specs.Inner.Utc.{timesOf}
 use Rattle.record.specs.Inner.Occurrences.{Small}
-use Rattle.writer.specs.Inner.Details.{detailsBy, timesIn}
+use Rattle.writer.specs.Inner.Details.{detailsBy}
 use Rattle.loading.specs.declared.Kept.{Kept}
 
 -- An accepted text is loaded up to a day, into slices of these lengths.
@@ -38,5 +39,5 @@ pub record Loads (s : List ℕ) (limit : ℕ) (rows : List Bool) (ids : List ℕ
   pub stands : Stands (datesOf (eventOf s)) limit (keptDates (r .dates) rows (take (r .count) ids) (take (r .count) gone))
   pub details : (x : ℕ) → detailsBy s (detailsIn s (r .form .own)) (take (r .count) ids) (take (r .count) places) x ≡ detailsAt (eventOf s) x
   pub floating : r .form .floating ≡ isFloating (eventOf s .zone)
-  pub small : (x : ℕ) → x < 2 ^ 60 → Small x (timesIn (detailsBy s (detailsIn s (r .form .own)) (take (r .count) ids) (take (r .count) places) x))
+  pub small : (x : ℕ) → x < 2 ^ 60 → Small x (timesOf (r .form .floating) (detailsBy s (detailsIn s (r .form .own)) (take (r .count) ids) (take (r .count) places) x))
   pub sorted : Ordered (take (r .count) ids) (r .form .sorted)

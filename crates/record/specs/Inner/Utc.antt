@@ -7,9 +7,15 @@ use lib.IntN.{ℤ, pos, _+ℤ_, _-ℤ_}
 use Rattle.signed.specs.Choose.{if_then_else_}
 use Rattle.zone.specs.Table.{validTable}
 use Rattle.zone.specs.Lookup.{offsetAt}
+use Rattle.event.specs.Types.{Details}
 use Rattle.call_definitions.specs.Window.{since1970}
 use Rattle.call_definitions.specs.Utc.{daysLater}
 use Rattle.record.specs.declared.Times.{Times}
+
+-- What a record says of an occurrence with these details, of an event that floats or not.
+unfoldable pub timesOf : Bool → Details → Times
+timesOf floating d =
+    record { start = d .start; days = d .length .days; seconds = d .length .seconds; busy = d .busy; allday = d .allDay; floating = floating }
 
 -- "floating uses 0 and the name is not compared"
 unfoldable pub offsetBy : Bool → ℤ → List ℤ → List ℤ → ℤ → ℤ

@@ -1,5 +1,5 @@
 -- The details of an occurrence over the overrides' ids and the places of their patches, and its record.
-use Prim.Native.Nat.{ℕ, _+_, _*_, _<_, _≤_}
+use Prim.Native.Nat.{ℕ, _<_, _≤_}
 use mathlib.Core.Bool.{Bool}
 use mathlib.Core.List.{List, [], _∷_}
 use mathlib.Core.Path.{_≡_}
@@ -9,8 +9,10 @@ use lib.ListN.{length, getD}
 use Rattle.signed.specs.Choose.{if_then_else_}
 use Rattle.event.specs.Types.{Details}
 use Rattle.call_definitions.specs.Occurrence.{withStart}
+use Rattle.override_text.specs.declared.Own.{Own}
 use Rattle.override_text.specs.Inner.Patched.{patchAt}
 use Rattle.record.specs.declared.Times.{Times}
+use Rattle.record.specs.Inner.Utc.{timesOf}
 use Rattle.record.specs.Inner.Occurrences.{occurrenceRow}
 
 -- A patch stands in the overrides, they in the event: its value has 13 levels left below it.
@@ -29,15 +31,14 @@ pub record Passed (ids : List ℕ) (x r : ℕ) : Type 0 where
   pub within : r ≤ length ids
   pub other : (j : ℕ) → j < r → getD ids j 0 ≡ x → ⊥
 
-unfoldable pub timesFrom : ℕ → ℕ → ℕ → Bool → Bool → Times
-timesFrom start days seconds busy allDay = record { start = start; seconds = 86400 * days + seconds; busy = busy; allday = allDay }
+-- What a record says of an occurrence that no override names: the event's own details, from x on.
+abbrev pub timesFrom : Own → Bool → ℕ → Times
+timesFrom own floating x =
+    record { start = x; days = own .days; seconds = own .seconds; busy = own .busy; allday = own .allday; floating = floating }
 
--- What a record says of an occurrence with these details.
-unfoldable pub timesIn : Details → Times
-timesIn d = timesFrom (d .start) (d .length .days) (d .length .seconds) (d .busy) (d .allDay)
-
-unfoldable pub patchTimes : Details → List ℕ → ℕ → ℕ → Times
-patchTimes own s at id = timesIn (patchDetails own s at id)
+-- What a record says of an occurrence that an override names.
+unfoldable pub patchTimes : Bool → Details → List ℕ → ℕ → ℕ → Times
+patchTimes floating own s at id = timesOf floating (patchDetails own s at id)
 
 unfoldable pub rowBy : Bool → ℤ → List ℤ → List ℤ → (ℕ → Details) → ℕ → List ℕ
-rowBy floating initial instants offsets details x = occurrenceRow floating initial instants offsets x (timesIn (details x))
+rowBy floating initial instants offsets details x = occurrenceRow initial instants offsets x (timesOf floating (details x))

@@ -9,10 +9,11 @@ use lib.Seq.{sets}
 use Rattle.json_ends.specs.Inner.Ends.{Ends}
 use Rattle.zone.specs.Table.{validTable}
 use Rattle.override_text.specs.Inner.Meaning.{detailsIn}
+use Rattle.record.specs.Inner.Utc.{timesOf}
 use Rattle.record.specs.Inner.Occurrences.{Small}
 use Rattle.window.specs.Inner.Sorted.{Ordered}
 use Rattle.writer.specs.declared.Form.{Form}
-use Rattle.writer.specs.Inner.Details.{detailsBy, timesIn, rowBy}
+use Rattle.writer.specs.Inner.Details.{detailsBy, rowBy}
 use Rattle.writer.specs.Inner.Rows.{rowsOf}
 
 -- What a record is made from: the text and its ends, what is kept of the event, its overrides with the places of their patches, and the zone
@@ -22,18 +23,17 @@ pub record Writes (s t : List ℕ) (f : Form) (ids places : List ℕ) (initial :
   pub sorted : Ordered ids (f .sorted)
   pub even : length ids ≡ length places
   pub valid : validTable initial instants offsets ≡ true
-  pub small : (x : ℕ) → x < 2 ^ 60 → Small x (timesIn (detailsBy s (detailsIn s (f .own)) ids places x))
+  pub small : (x : ℕ) → x < 2 ^ 60 → Small x (timesOf (f .floating) (detailsBy s (detailsIn s (f .own)) ids places x))
 
 -- Ids that lie in the profile, and far beyond.
 abbrev pub Early : List ℕ → Type 0
 Early ids = (k : ℕ) → k < length ids → getD ids k 0 < 2 ^ 60
 
--- What the look for the times of one occurrence asks for: of `Writes` what does not speak of the zone table.
-pub record LooksUp (s t : List ℕ) (f : Form) (ids places : List ℕ) (x : ℕ) : Type 0 where
+-- What the look for the times of one occurrence asks for: of `Writes` what does not speak of the zone table or of sizes.
+pub record LooksUp (s t : List ℕ) (f : Form) (ids places : List ℕ) : Type 0 where
   pub ends : Ends s t
   pub sorted : Ordered ids (f .sorted)
   pub even : length ids ≡ length places
-  pub small : Small x (timesIn (detailsBy s (detailsIn s (f .own)) ids places x))
 
 -- The records of a chunk of ids fit into a buffer of a size, the first of them at a place.
 pub record WritesAt (size at : ℕ) (chunk s t : List ℕ) (f : Form) (ids places : List ℕ) (initial : ℤ) (instants offsets : List ℤ) : Type 0 where

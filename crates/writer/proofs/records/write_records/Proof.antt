@@ -19,11 +19,11 @@ use Rattle.writer.proofs.records.write_records.Statement.{statement}
 use Rattle.writer.proofs.records.write_records.Tie as tie
 
 abbrev Inv-loop : tie.InvT-loop
-Inv-loop buffer₀ at chunk text ends form ids places initial instants offsets floating hint₀ place₀ i₀ buffer hint place i =
+Inv-loop buffer₀ at chunk text ends form ids places initial instants offsets hint₀ place₀ i₀ buffer hint place i =
     ChunkAt (rowFor text form ids places (toZ w64 initial) instants offsets) chunk buffer₀ at i place buffer
 
 abbrev μ-loop : tie.MeasureT-loop
-μ-loop buffer₀ at chunk text ends form ids places initial instants offsets floating hint₀ place₀ i₀ buffer hint place i = length chunk - i
+μ-loop buffer₀ at chunk text ends form ids places initial instants offsets hint₀ place₀ i₀ buffer hint place i = length chunk - i
 
 loop-holds : tie.Need-loop-holds Inv-loop μ-loop
 loop-holds c =
@@ -39,7 +39,7 @@ shared-slice-read-x c = search needs
 times-at-requires : tie.Need-times-at-requires Inv-loop μ-loop
 times-at-requires c κs =
     let q = c .before .before .before .before .before .before .before .before .before in
-    writes-look _ _ _ _ _ _ _ _ (q .pre .writes) _ (q .pre .early (c .before .before .loop .i) (c .before .loop-test .taken))
+    writes-look _ _ _ _ _ _ _ _ (q .pre .writes)
 
 put-occurrence-requires : tie.Need-put-occurrence-requires Inv-loop μ-loop
 put-occurrence-requires c κs =

@@ -1,10 +1,8 @@
 -- `writer::times::times_at` meets its contract: the first override that names the occurrence decides.
-use mathlib.Core.Path.{refl, _∙_, sym, subst}
+use mathlib.Core.Path.{refl, _∙_}
 use Rattle.override_text.specs.Inner.Meaning.{detailsIn}
-use Rattle.record.specs.declared.Times.{Times}
-use Rattle.writer.specs.Inner.Details.{timesFrom}
 use Rattle.writer.proofs.DetailsLaws.{Seen, seen-here, seen-next, seen-passed, seen-none}
-use Prim.Native.Nat.{_-_, _≤_, _^_}
+use Prim.Native.Nat.{_-_}
 use native.Mathlib.Omega.{arith}
 use borrow.Author.Needs.{needs}
 use lib.ListN.{length}
@@ -12,29 +10,26 @@ use Rattle.writer.proofs.times.times_at.Statement.{statement}
 use Rattle.writer.proofs.times.times_at.Tie as tie
 
 abbrev Inv-loop : tie.InvT-loop
-Inv-loop text ends ids places x own i₀ i = Seen text (detailsIn text own) ids places x i
+Inv-loop text ends form ids places x i₀ i = Seen text (detailsIn text (form .own)) ids places x i
 
 abbrev μ-loop : tie.MeasureT-loop
-μ-loop text ends ids places x own i₀ i = length ids - i
+μ-loop text ends form ids places x i₀ i = length ids - i
 
-times-requires : tie.Need-times-requires Inv-loop μ-loop
-unfolding timesFrom
-times-requires c κs =
-    let q = c .before .before .before .before .before .before in
-    let none = seen-none (q .args .text .now) _ (q .args .ids .now) (q .args .places .now) (q .pre .even) _ 0 (omega (arith, c .if1 .taken)) (omega arith, refl) in
-    subst (λ (t : Times). t .seconds ≤ 2 ^ 40) (sym none) (q .pre .small .length-small)
+own-times-requires : tie.Need-own-times-requires Inv-loop μ-loop
+own-times-requires c κs = search needs
 
 returns : tie.Need-returns Inv-loop μ-loop
 returns c =
-    let q = c .before .before .before .before .before .before .before in
-    c .times .ensures ∙ seen-none (q .args .text .now) _ (q .args .ids .now) (q .args .places .now) (q .pre .even) _ 0 (omega (arith, c .before .if1 .taken)) (omega arith, refl)
+    let q = c .before .before .before .before .before .before in
+    c .own-times .ensures
+    ∙ seen-none (q .args .text .now) (q .args .form .own) _ (q .args .ids .now) (q .args .places .now) (q .pre .even) _ 0 (omega (arith, c .before .if1 .taken)) (omega arith, refl)
 
 look-from-requires : tie.Need-look-from-requires Inv-loop μ-loop
-look-from-requires c κs = c .before .before .before .before .before .before .pre .sorted
+look-from-requires c κs = c .before .before .before .before .before .pre .sorted
 
 loop-holds : tie.Need-loop-holds Inv-loop μ-loop
 loop-holds c =
-    let q = c .before .before .before .before .before .before .before in
+    let q = c .before .before .before .before .before .before in
     seen-passed (q .args .text .now) _ (q .args .ids .now) (q .args .places .now) (q .pre .even) _ _ (c .look-from .ensures)
 
 mul-if2 : tie.Need-mul-if2 Inv-loop μ-loop
@@ -50,15 +45,13 @@ shared-slice-read-patched : tie.Need-shared-slice-read-patched Inv-loop μ-loop
 shared-slice-read-patched c = search needs
 
 patched-requires : tie.Need-patched-requires Inv-loop μ-loop
-patched-requires c κs =
-    let q = c .before .before .before .before .before .before .before .before .before .before .before .before in
-    let found = seen-here (q .args .text .now) _ (q .args .ids .now) (q .args .places .now) (q .pre .even) _ (c .before .before .before .before .loop .i) (c .before .before .before .loop-test .taken) (c .before .before .before .before .loop .inv) (c .before .if2 .taken) in
-    (q .pre .ends, subst (λ (t : Times). t .seconds ≤ 2 ^ 40) (sym found) (q .pre .small .length-small))
+patched-requires c κs = c .before .before .before .before .before .before .before .before .before .before .before .pre .ends
 
 returns-2 : tie.Need-returns-2 Inv-loop μ-loop
 returns-2 c =
-    let q = c .before .before .before .before .before .before .before .before .before .before .before .before .before in
-    c .patched .ensures ∙ seen-here (q .args .text .now) _ (q .args .ids .now) (q .args .places .now) (q .pre .even) _ (c .before .before .before .before .before .loop .i) (c .before .before .before .before .loop-test .taken) (c .before .before .before .before .before .loop .inv) (c .before .before .if2 .taken)
+    let q = c .before .before .before .before .before .before .before .before .before .before .before .before in
+    c .patched .ensures
+    ∙ seen-here (q .args .text .now) _ (q .args .ids .now) (q .args .places .now) (q .pre .even) _ _ (c .before .before .before .before .before .loop .i) (c .before .before .before .before .loop-test .taken) (c .before .before .before .before .before .loop .inv) (c .before .before .if2 .taken)
 
 add-i : tie.Need-add-i Inv-loop μ-loop
 add-i c = search needs
@@ -68,20 +61,17 @@ loop-less c = search needs
 
 loop-again : tie.Need-loop-again Inv-loop μ-loop
 loop-again c =
-    let q = c .before .before .before .before .before .before .before .before .before .before .before in
+    let q = c .before .before .before .before .before .before .before .before .before .before in
     seen-next (q .args .text .now) _ (q .args .ids .now) (q .args .places .now) (q .pre .even) _ (c .before .before .before .loop .i) (c .before .before .loop-test .taken) (c .before .before .before .loop .inv) (c .if2 .left)
 
-times-requires-2 : tie.Need-times-requires-2 Inv-loop μ-loop
-unfolding timesFrom
-times-requires-2 c κs =
-    let q = c .before .before .before .before .before .before .before .before .before in
-    let none = seen-none (q .args .text .now) _ (q .args .ids .now) (q .args .places .now) (q .pre .even) _ (c .before .loop .i) (c .loop-test .left) (c .before .loop .inv) in
-    subst (λ (t : Times). t .seconds ≤ 2 ^ 40) (sym none) (q .pre .small .length-small)
+own-times-requires-2 : tie.Need-own-times-requires-2 Inv-loop μ-loop
+own-times-requires-2 c κs = search needs
 
 returns-3 : tie.Need-returns-3 Inv-loop μ-loop
 returns-3 c =
-    let q = c .before .before .before .before .before .before .before .before .before .before in
-    c .times2 .ensures ∙ seen-none (q .args .text .now) _ (q .args .ids .now) (q .args .places .now) (q .pre .even) _ (c .before .before .loop .i) (c .before .loop-test .left) (c .before .before .loop .inv)
+    let q = c .before .before .before .before .before .before .before .before .before in
+    c .own-times2 .ensures
+    ∙ seen-none (q .args .text .now) (q .args .form .own) _ (q .args .ids .now) (q .args .places .now) (q .pre .even) _ (c .before .before .loop .i) (c .before .loop-test .left) (c .before .before .loop .inv)
 
 pub times-at-spec : {M : Type 1} → statement M
 times-at-spec =
@@ -89,7 +79,7 @@ times-at-spec =
     (tie.spec
     Inv-loop
     μ-loop
-    times-requires
+    own-times-requires
     returns
     look-from-requires
     loop-holds
@@ -102,5 +92,5 @@ times-at-spec =
     add-i
     loop-less
     loop-again
-    times-requires-2
+    own-times-requires-2
     returns-3)
