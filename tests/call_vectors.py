@@ -1,15 +1,17 @@
 #!/usr/bin/env python3
 """What crates/call_vectors must print: `python3 tests/call_vectors.py > crates/call_vectors/stdout`.
 
-Its input: `python3 tests/call_vectors.py texts > crates/call_vectors/stdin`. Each case is an event's text, a window and the length of a buffer; what is
-printed is what the whole call gives. The recurrence ids are found here from document 01's six numbered rules by going through all days of every
-period, with Python's datetime, the table from 01's "The sheet and the words"; nothing is shared with the proved code. Where a case names the dates
-that its document prints, or the answer, they are compared first."""
+Its input: `python3 tests/call_vectors.py texts > crates/call_vectors/stdin`. Each case is an event's text, the number of a zone table, a window and
+the length of a buffer; what is printed is what the whole call gives. The recurrence ids are found here from document 01's six numbered rules by going
+through all days of every period, with Python's datetime, the table from 01's "The sheet and the words", and UTC in call_times.py; nothing is shared
+with the proved code. Where a case names the dates that its document prints, the times that were found by hand, or the answer, they are compared
+first."""
 import datetime
 import json
-import re
 import struct
 import sys
+
+import call_times
 
 DAYS = ['mo', 'tu', 'we', 'th', 'fr', 'sa', 'su']
 ONE = datetime.timedelta(days=1)
@@ -146,54 +148,46 @@ def seconds(moment):
     return since.days * 86400 + since.seconds
 
 
-# "The offset for a local time is that after the last transition whose mark is at or before it, else the initial one." The table of the program.
-ZONE = 'America/New_York'
-INITIAL = -14400
-ENTRIES = [(1604210400, -18000), (1615705200, -14400)]
-
-
-def offset(local):
-    before, found = INITIAL, INITIAL
-    for instant, after in ENTRIES:
-        if instant + max(before, after) <= local:
-            found = after
-        before = after
-    return found
-
-
-def duration(text):
-    weeks, days, hours, minutes, secs = (int(n or 0) for n in re.fullmatch(r'P(?:(\d+)W)?(?:(\d+)D)?(?:T(?:(\d+)H)?(?:(\d+)M)?(?:(\d+)S)?)?', text).groups())
-    return ((weeks * 7 + days) * 24 + hours) * 3600 + minutes * 60 + secs
-
-
-def record(event, moment):
-    """28 bytes: id, UTC start, UTC end, marks, three zeros."""
+def patched(event, moment):
+    """The properties of an occurrence after its patch. "Null means the default or no words"."""
     patch = event.get('recurrenceOverrides', {}).get(moment.isoformat(), {})
     after = {**event, 'start': moment.isoformat(), **patch}
+    return {name: value for name, value in after.items() if value is not None}
+
+
+def record(event, moment, zone):
+    """28 bytes: id, UTC start, UTC end, marks, three zeros."""
+    after = patched(event, moment)
     local = seconds(stamp(after['start']))
     floating = event.get('timeZone') is None
-    start = local if floating else local - offset(local)
+    used = call_times.FLOATING if floating else zone
     marks = (after.get('freeBusyStatus', 'busy') == 'busy') + 2 * after.get('showWithoutTime', False) + 4 * floating
-    return struct.pack('<qqqI', seconds(moment), start, start + duration(after.get('duration', 'PT0S')), marks)
+    return struct.pack('<qqqI', seconds(moment), used.utc(local), call_times.end(used, local, after.get('duration', 'PT0S')), marks)
 
 
-def table(event, window):
+def table(event, window, zone):
     secret = event.get('privacy') == 'secret'
     found = [] if secret else ids(event, window)
-    records = b''.join(record(event, x) for x in found)
+    records = b''.join(record(event, x, zone) for x in found)
     return records + struct.pack('<HHII', 28, 1, len(found), 28 * len(found))
 
 
-def outcome(event, window, room):
+def outcome(case):
     """The answer and the bytes: 12, 13 or 0. What is wrong with a text is said by the case."""
-    if event.get('privacy') != 'secret' and event.get('timeZone') not in (None, ZONE):
+    zone = call_times.ZONES[case.zone]
+    if case.event.get('privacy') != 'secret' and case.event.get('timeZone') not in (None, zone.name):
         return 12, b''
-    made = table(event, window)
-    return (13, b'') if room < len(made) else (0, made)
+    made = table(case.event, case.window, zone)
+    return (13, b'') if case.room < len(made) else (0, made)
+
+
+def times_in(made):
+    """The UTC start and end of each record."""
+    return [(start, end) for _, start, end, _ in struct.iter_unpack('<qqqI', made[:-12])]
 
 
 def line(answer, made):
-    """The last number: how many bytes behind the table changed."""
+    """The last number: how many bytes after the table changed."""
     return f'{answer} {len(made)} {made.hex()} 0'
 
 
@@ -201,14 +195,21 @@ def from_1600(moment):
     return seconds(moment) + 11676096000
 
 
+def instant(time):
+    """A time that a case names: a second count where Python's datetime has no such year."""
+    return time if isinstance(time, int) else seconds(stamp(time))
+
+
 def expected(case):
     if case.answer is not None:
         return line(case.answer, b'')
     if case.printed is not None and ids(case.event, case.window) != case.printed:
         sys.exit(f'the document prints other dates: {case.event}')
-    answer, made = outcome(case.event, case.window, case.room)
+    answer, made = outcome(case)
     if case.bytes is not None and made.hex() != case.bytes:
         sys.exit(f'the document prints other bytes: {case.event}')
+    if case.times is not None and times_in(made) != [(instant(start), instant(end)) for start, end in case.times]:
+        sys.exit(f'other times were found by hand: {case.event}')
     return line(answer, made)
 
 
@@ -217,6 +218,6 @@ if __name__ == '__main__':
     for case in cases():
         if sys.argv[1:] == ['texts']:
             text = case.text if case.text is not None else json.dumps(case.event, separators=(',', ':'))
-            sys.stdout.write(f'{from_1600(case.window[0])} {from_1600(case.window[1])} {case.room} {text}\x1e')
+            sys.stdout.write(f'{case.zone} {from_1600(case.window[0])} {from_1600(case.window[1])} {case.room} {text}\x1e')
         else:
             print(expected(case))

@@ -4,15 +4,10 @@ ghost use lib.ListN.{length};
 use crate::print::hexadecimal;
 use crate::print::number;
 use crate::print::say;
+use crate::zones;
+use crate::zones::Zone;
 use record::window::since_1970;
 use smocurant::by_numbers::smocurant_expand;
-
-// America/New_York from summer 2020 to summer 2021: the clock goes back, and on.
-const INSTANTS: [i64; 2] = [1604210400, 1615705200];
-
-const OFFSETS: [i64; 2] = [-18000, -14400];
-
-const SUMMER: i64 = -14400;
 
 // How many bytes from a place on are not what they were: 0.
 fn changed(buffer: &[u8], from: usize) -> u64
@@ -53,16 +48,16 @@ fn room_of(room: u64) -> usize
     8192
 }
 
-fn run(text: &[u8], from: u64, to: u64, buffer: &mut [u8])
+fn run(zone: Zone, name: &[u8], text: &[u8], from: u64, to: u64, buffer: &mut [u8])
     requires { ⌜ (from < 2 ^ 60) × (to < 2 ^ 60) ⌝ }
 {
     let mut size: u64 = 0;
-    let instants = INSTANTS;
-    let offsets = OFFSETS;
+    let instants = zone.instants;
+    let offsets = zone.offsets;
     let answer = smocurant_expand(
         text,
-        b"America/New_York",
-        SUMMER,
+        name,
+        zone.initial,
         &instants,
         &offsets,
         since_1970(from),
@@ -73,10 +68,47 @@ fn run(text: &[u8], from: u64, to: u64, buffer: &mut [u8])
     show(answer, size, buffer);
 }
 
-pub(crate) fn call(text: &[u8], from: u64, to: u64, room: u64)
+// The zone table is given by its number: 0 is New York's, and so is every number that is not listed.
+fn run_in(zone_number: u64, text: &[u8], from: u64, to: u64, buffer: &mut [u8])
+    requires { ⌜ (from < 2 ^ 60) × (to < 2 ^ 60) ⌝ }
+{
+    if zone_number == 1 {
+        run(zones::london(), b"Europe/London", text, from, to, buffer);
+        return;
+    }
+    if zone_number == 2 {
+        run(
+            zones::lord_howe(),
+            b"Australia/Lord_Howe",
+            text,
+            from,
+            to,
+            buffer,
+        );
+        return;
+    }
+    if zone_number == 3 {
+        run(zones::apia(), b"Pacific/Apia", text, from, to, buffer);
+        return;
+    }
+    if zone_number == 4 {
+        run(zones::widest(), b"Example/Widest", text, from, to, buffer);
+        return;
+    }
+    run(
+        zones::new_york(),
+        b"America/New_York",
+        text,
+        from,
+        to,
+        buffer,
+    );
+}
+
+pub(crate) fn call(text: &[u8], zone_number: u64, from: u64, to: u64, room: u64)
     requires { ⌜ (from < 2 ^ 60) × (to < 2 ^ 60) ⌝ }
 {
     let mut buffer = [0u8; 8192];
     let end = room_of(room);
-    run(text, from, to, &mut buffer[..end]);
+    run_in(zone_number, text, from, to, &mut buffer[..end]);
 }

@@ -1,12 +1,13 @@
 // Reads the cases of its input and writes what the whole call gives for each: the answer, the length, the table in hexadecimal digits, and how
-// many bytes of the buffer changed that are none of the table's. A case is three numbers, each with a space after it (the window's ends as
-// seconds from 1600, the buffer's length), and an event's text with byte 0x1E after it. The zone table is New York's in 2020 and 2021.
+// many bytes of the buffer changed that are none of the table's. A case is four numbers, each with a space after it (the zone table's number, the
+// window's ends as seconds from 1600, the buffer's length), and an event's text with byte 0x1E after it.
 ghost use Prim.Native.Nat.{_≤_, _<_, _^_};
 ghost use lib.ListN.{length};
 
 mod calls;
 mod numbers;
 mod print;
+mod zones;
 
 // What ends a text.
 const MARK: u8 = 0x1E;
@@ -29,7 +30,8 @@ fn text_end(all: &[u8], from: usize) -> usize
 fn read_all(all: &[u8]) {
     let mut at = 0;
     while at < all.len() {
-        let from = numbers::number_at(all, at);
+        let zone = numbers::number_at(all, at);
+        let from = numbers::number_at(all, zone.next);
         let to = numbers::number_at(all, from.next);
         let room = numbers::number_at(all, to.next);
         let text = room.next;
@@ -37,7 +39,13 @@ fn read_all(all: &[u8]) {
         if end == all.len() {
             return;
         }
-        calls::call(&all[text..end], from.value, to.value, room.value);
+        calls::call(
+            &all[text..end],
+            zone.value,
+            from.value,
+            to.value,
+            room.value,
+        );
         at = end + 1;
     }
 }

@@ -24,6 +24,9 @@ number-at-requires-2 c κs = search needs
 number-at-requires-3 : tie.Need-number-at-requires-3 Inv-loop μ-loop
 number-at-requires-3 c κs = search needs
 
+number-at-requires-4 : tie.Need-number-at-requires-4 Inv-loop μ-loop
+number-at-requires-4 c κs = search needs
+
 text-end-requires : tie.Need-text-end-requires Inv-loop μ-loop
 text-end-requires c κs = search needs
 
@@ -64,6 +67,7 @@ read-all-spec =
     number-at-requires
     number-at-requires-2
     number-at-requires-3
+    number-at-requires-4
     text-end-requires
     returns
     sub-call

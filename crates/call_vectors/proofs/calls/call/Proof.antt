@@ -10,11 +10,11 @@ room-of-requires c κs = search needs
 array-borrow-prefix-buffer : tie.Need-array-borrow-prefix-buffer
 array-borrow-prefix-buffer c = search needs
 
-slice-aggregate-run : tie.Need-slice-aggregate-run
-slice-aggregate-run c = sym (length-take-le _ _ (c .before .room-of .ensures))
+slice-aggregate-run-in : tie.Need-slice-aggregate-run-in
+slice-aggregate-run-in c = sym (length-take-le _ _ (c .before .room-of .ensures))
 
-run-requires : tie.Need-run-requires
-run-requires c κs = search needs
+run-in-requires : tie.Need-run-in-requires
+run-in-requires c κs = search needs
 
 returns : tie.Need-returns
 returns c = search needs
@@ -22,4 +22,4 @@ returns c = search needs
 pub call-spec : {M : Type 1} → statement M
 call-spec =
     tie.close
-    (tie.spec room-of-requires array-borrow-prefix-buffer slice-aggregate-run run-requires returns)
+    (tie.spec room-of-requires array-borrow-prefix-buffer slice-aggregate-run-in run-in-requires returns)
