@@ -6,7 +6,7 @@ use mathlib.Core.Logic.{_↔_}
 use mathlib.Core.Path.{_≡_, refl, sym, ap, _∙_, subst}
 use native.Mathlib.Omega.{arith}
 use lib.Dec.{ltb}
-use lib.IntN.{ℤ, pos, _+ℤ_}
+use lib.IntN.{ℤ}
 use lib.ListN.{length, getD}
 use lib.Seq.{sets}
 use lib.Signed.{ltZ}
@@ -18,9 +18,9 @@ use Rattle.zone.specs.Table.{validTable}
 use Rattle.event.specs.Types.{Event}
 use Rattle.event.specs.Event.{eventOf}
 use Rattle.call_definitions.specs.Window.{since1600, since1970, validWindow}
-use Rattle.call_definitions.specs.Occurrence.{datesOf, occurrences, detailsAt}
+use Rattle.call_definitions.specs.Occurrence.{datesOf, occurrences}
 use Rattle.call_definitions.specs.Utc.{ZoneTable}
-use Rattle.call_definitions.specs.Bytes.{secondsIn, recordsOf, trailerOf, tableOf}
+use Rattle.call_definitions.specs.Bytes.{recordsOf, trailerOf, tableOf}
 use Rattle.call_definitions.specs.Answer.{Outcome, isSecret, expanded}
 use Rattle.call_definitions.specs.Call.{textFault, expandText}
 use Rattle.call_definitions.specs.Results.{Gives}
@@ -33,7 +33,7 @@ use Rattle.demands.proofs.DemandOne.{table-answered}
 use Rattle.demands.proofs.SheetLaws.{has-sheet, id-back, start-back, end-back, marks-back, zeros-back}
 use Rattle.demands.proofs.Lists.{among-stands, at-among, increases-at}
 use Rattle.demands.proofs.WindowLaws.{back-1600, back-1970, earlier, low-enough, after-first, before-last, first-below, last-above}
-use Rattle.demands.proofs.Ranges.{id-fits, start-fits, end-fits}
+use Rattle.demands.proofs.Ranges.{id-fits, start-small, end-small, start-fits, end-fits}
 
 -- ---- what does not apply to a call that is answered 0
 
@@ -74,7 +74,7 @@ module _ (zones : ZoneTable) (s : List ℕ) (from to : ℤ) (before after : List
 
   module _ (increase : StrictlyIncreases xs) (exactly : (x : ℕ) → (among x xs ≡ true) ↔ OccursWithin (datesOf e) (since1600 from) (since1600 to) x)
       (is : after ≡ sets before 0 (recordsOf zones e xs ++ trailerOf (length xs))) (fits : 28 * length xs + 12 ≤ length before) where
-    small : (k : ℕ) → k < length xs → getD xs k 0 < 2 ^ 60
+    small : (k : ℕ) → k < length xs → getD xs k 0 < 2 ^ 39
     small k h = omega (arith, exactly (getD xs k 0) .0 (at-among xs k h) .before, window-last from to window)
 
     id-is : (k : ℕ) → k < length xs → idAt after k ≡ since1970 (getD xs k 0)
@@ -118,7 +118,11 @@ module _ (zones : ZoneTable) (s : List ℕ) (from to : ℤ) (before after : List
         let end = end-back zones e xs before after is fits k h (end-fits zones table s accepted (e .zone) x (small k h)) in
         record {
           startIs = rw (← is-x) start;
-          endIs = rw (← is-x) (end ∙ ap (λ (t : ℤ). t +ℤ pos (secondsIn (detailsAt e x .length))) (sym start));
+          endIs = rw (← is-x) end;
+          near = (
+            rw start (omega (arith, start-small zones table s accepted (e .zone) x (small k h))),
+            rw end (omega (arith, end-small zones table s accepted (e .zone) x (small k h))),
+          );
           marksIs = rw (← is-x) (marks-back zones e xs before after is fits k h);
           zeros = zeros-back zones e xs before after is fits k h;
         }

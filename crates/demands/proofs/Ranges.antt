@@ -1,23 +1,22 @@
--- The numbers of a record fit into its 8 bytes: what is known of an accepted event, of its window and of its zone table.
-use Prim.Native.Nat.{ℕ, suc, _+_, _*_, _<_, _≤_, _^_}
+-- The numbers of a record fit into its 8 bytes, and its times in UTC lie within ±2^40: what is known of an accepted event, of its window and of its
+-- zone table.
+use Prim.Native.Nat.{ℕ, suc, _<_, _≤_, _^_}
 use mathlib.Core.Bool.{Bool, true, false}
 use mathlib.Core.List.{List, [], _∷_}
 use mathlib.Core.Option.{Option, none, some}
-use mathlib.Core.Path.{_≡_, refl}
+use mathlib.Core.Path.{_≡_}
 use native.Mathlib.Omega.{arith}
 use lib.Dec.{eqb}
-use lib.IntN.{ℤ, pos, natAbs, subℕ, _+ℤ_}
+use lib.IntN.{natAbs}
 use lib.ListN.{length, getD}
 use mir.Syntax.{w64}
 use mir.Val.{SFits}
 use Rattle.signed.specs.Choose.{if_then_else_}
-use Rattle.signed.proofs.Parts.{parts-abs, subℕ-pos, subℕ-neg}
 use Rattle.fault.proofs.Laws.{lower-zero}
 use Rattle.zone.specs.Table.{validTable}
-use Rattle.zone.proofs.RangeLaws.{abs-fits, sum-abs}
-use Rattle.zone.proofs.LookupLaws.{utc-abs}
+use Rattle.zone.proofs.RangeLaws.{abs-fits}
 use Rattle.json_tree.specs.Tree.{Json, Fields, textTree}
-use Rattle.event.specs.Types.{Length, Details, Override, Event}
+use Rattle.event.specs.Types.{Details, Override, Event}
 use Rattle.event.specs.Values.{object}
 use Rattle.event.specs.Reading.{orWrong, optional}
 use Rattle.event.specs.Properties.{noLength, readLength}
@@ -25,12 +24,12 @@ use Rattle.event.specs.Overrides.{readOverrides}
 use Rattle.event.specs.Event.{detailsIn, noEvent, nothing, eventIn, objectFault, eventFault, eventOf}
 use Rattle.property.proofs.Ranges.{Short, length-range}
 use Rattle.override_text.proofs.RangeLaws.{InRange, read-range}
-use Rattle.call_definitions.specs.Window.{epoch, since1970}
+use Rattle.call_definitions.specs.Window.{since1970}
 use Rattle.call_definitions.specs.Occurrence.{overrideAt, withStart, patchedBy, detailsAt}
-use Rattle.call_definitions.specs.Utc.{ZoneTable, utcOf}
-use Rattle.call_definitions.specs.Bytes.{secondsIn}
+use Rattle.call_definitions.specs.Utc.{ZoneTable, utcStart, utcEnd}
 use Rattle.call_definitions.specs.Call.{textFault}
 use Rattle.call_definitions.proofs.Few.{accepted-event}
+use Rattle.call_definitions.proofs.UtcLaws.{since-near, start-near, end-near}
 
 -- ---- an accepted event
 
@@ -72,11 +71,12 @@ known s h = object-known (object (textTree s)) (accepted-event s h)
 
 -- ---- an occurrence of it
 
+-- An id of a window and a patched start lie before 9999-01-01, which is 265,046,860,800 seconds from 1600, less than 2^39.
 record Small (d : Details) : Type 0 where
-  start : d .start < 2 ^ 60
+  start : d .start < 2 ^ 39
   short : Short (d .length)
 
-module _ (own : Details) (short : Short (own .length)) (x : ℕ) (h : x < 2 ^ 60) where
+module _ (own : Details) (short : Short (own .length)) (x : ℕ) (h : x < 2 ^ 39) where
   patched-small : (os : List Override) → ((k : ℕ) → k < length os → (d : Override) → InRange (getD os k d)) → Small (patchedBy own x (overrideAt os x))
   unfolding overrideAt patchedBy withStart
   patched-small [] range = record { start = h; short = short }
@@ -86,41 +86,29 @@ module _ (own : Details) (short : Short (own .length)) (x : ℕ) (h : x < 2 ^ 60
       go rest true = let r = range 0 (omega arith) o in record { start = omega (arith, r .start .to); short = r .short }
       go rest false = rest
 
-details-small : (s : List ℕ) → textFault s ≡ 0 → (x : ℕ) → x < 2 ^ 60 → Small (detailsAt (eventOf s) x)
+details-small : (s : List ℕ) → textFault s ≡ 0 → (x : ℕ) → x < 2 ^ 39 → Small (detailsAt (eventOf s) x)
 unfolding detailsAt
 details-small s a x h = let k = known s a in patched-small (eventOf s .details) (k .short) x h (eventOf s .overrides) (k .ranged)
 
 -- ---- its numbers
 
-local-abs : (x : ℕ) → x < 2 ^ 60 → natAbs (since1970 x) ≤ 2 ^ 61
-unfolding since1970
-local-abs x h = parts-abs (subℕ x epoch) (2 ^ 61) (omega (arith, subℕ-pos x epoch)) (omega (arith, subℕ-neg x epoch))
+pub id-fits : (x : ℕ) → x < 2 ^ 39 → SFits w64 (since1970 x)
+id-fits x h = abs-fits (since1970 x) (omega (arith, since-near x (2 ^ 39) (omega arith) (omega arith)))
 
-pub id-fits : (x : ℕ) → x < 2 ^ 60 → SFits w64 (since1970 x)
-id-fits x h = abs-fits (since1970 x) (omega (arith, local-abs x h))
+module _ (zones : ZoneTable) (valid : validTable (zones .initial) (zones .instants) (zones .offsets) ≡ true) (s : List ℕ) (accepted : textFault s ≡ 0)
+    (zone : Option (List ℕ)) (x : ℕ) (h : x < 2 ^ 39) where
+  small : Small (detailsAt (eventOf s) x)
+  small = details-small s accepted x h
 
-module _ (zones : ZoneTable) (valid : validTable (zones .initial) (zones .instants) (zones .offsets) ≡ true) where
-  of-abs : (zone : Option (List ℕ)) (t : ℤ) → natAbs (utcOf zones zone t) ≤ natAbs t + 86399
-  unfolding utcOf
-  of-abs none t = omega arith
-  of-abs (some name) t = utc-abs (zones .initial) (zones .instants) (zones .offsets) valid t
+  pub start-small : natAbs (utcStart zones zone (detailsAt (eventOf s) x)) ≤ 2 ^ 40
+  start-small = omega (arith, start-near zones valid zone (detailsAt (eventOf s) x) (2 ^ 39) (omega (arith, small .start)) (omega arith))
 
-  module _ (s : List ℕ) (accepted : textFault s ≡ 0) (zone : Option (List ℕ)) (x : ℕ) (h : x < 2 ^ 60) where
-    pub start-fits : SFits w64 (utcOf zones zone (since1970 (detailsAt (eventOf s) x .start)))
-    start-fits =
-        let small = details-small s accepted x h in
-        abs-fits _ (omega (arith, of-abs zone (since1970 (detailsAt (eventOf s) x .start)), local-abs (detailsAt (eventOf s) x .start) (small .start)))
+  pub end-small : natAbs (utcEnd zones zone (detailsAt (eventOf s) x)) ≤ 2 ^ 40
+  end-small =
+      omega (arith, small .short, end-near zones valid zone (detailsAt (eventOf s) x) (2 ^ 39) (omega (arith, small .start)) (omega arith))
 
-    pub end-fits : SFits w64 (utcOf zones zone (since1970 (detailsAt (eventOf s) x .start)) +ℤ pos (secondsIn (detailsAt (eventOf s) x .length)))
-    unfolding secondsIn
-    end-fits =
-        let small = details-small s accepted x h in
-        let start = utcOf zones zone (since1970 (detailsAt (eventOf s) x .start)) in
-        let n = 86400 * detailsAt (eventOf s) x .length .days + detailsAt (eventOf s) x .length .seconds in
-        abs-fits _
-        (omega (
-          arith,
-          sum-abs start (pos n) (366 * 86400) (small .short),
-          of-abs zone (since1970 (detailsAt (eventOf s) x .start)),
-          local-abs (detailsAt (eventOf s) x .start) (small .start),
-        ))
+  pub start-fits : SFits w64 (utcStart zones zone (detailsAt (eventOf s) x))
+  start-fits = abs-fits _ (omega (arith, start-small))
+
+  pub end-fits : SFits w64 (utcEnd zones zone (detailsAt (eventOf s) x))
+  end-fits = abs-fits _ (omega (arith, end-small))

@@ -3,7 +3,6 @@ use Prim.Native.Nat.{ℕ, zero, suc, _+_, _*_, _<_, _≤_, _^_}
 use mathlib.Core.List.{List, [], _∷_, _++_, append-assoc}
 use mathlib.Core.Path.{_≡_, sym, ap, _∙_}
 use native.Mathlib.Omega.{arith}
-use lib.IntN.{ℤ, pos, _+ℤ_}
 use lib.ListN.{length, length-append, take, drop, getD}
 use lib.Seq.{sets, sets-eq, length-sets, drop-at, drop-drop, length-take-le}
 use mir.Syntax.{w64}
@@ -13,8 +12,8 @@ use Rattle.little_endian.proofs.ByteLaws.{bytes-length, signed-twos, twos-small
 use Rattle.event.specs.Types.{Event}
 use Rattle.call_definitions.specs.Window.{since1970}
 use Rattle.call_definitions.specs.Occurrence.{detailsAt}
-use Rattle.call_definitions.specs.Utc.{ZoneTable, utcOf}
-use Rattle.call_definitions.specs.Bytes.{secondsIn, marksOf, recordOf, recordsOf, trailerOf}
+use Rattle.call_definitions.specs.Utc.{ZoneTable, utcStart, utcEnd}
+use Rattle.call_definitions.specs.Bytes.{marksOf, recordOf, recordsOf, trailerOf}
 use Rattle.call_definitions.proofs.DemandTwo.{records-length, trailer-length}
 use Rattle.sheet.specs.Records.{idAt, startAt, endAt, marksAt, zerosAt}
 use Rattle.demands.specs.Sheet.{HasSheet}
@@ -161,9 +160,6 @@ module _ (zones : ZoneTable) (e : Event) (xs before after : List ℕ)
     x : ℕ
     x = getD xs k 0
 
-    utc : ℤ
-    utc = utcOf zones (e .zone) (since1970 (detailsAt e x .start))
-
     front : List ℕ
     front = recordsOf zones e (take k xs)
 
@@ -175,22 +171,21 @@ module _ (zones : ZoneTable) (e : Event) (xs before after : List ℕ)
     front-length = records-length zones e (take k xs) ∙ ap (λ (n : ℕ). 28 * n) (length-take-le k xs (omega arith))
 
     lies : after
-        ≡ front ++ (rowBytes (twos (since1970 x)) (twos utc) (twos (utc +ℤ pos (secondsIn (detailsAt e x .length)))) (marksOf (e .zone) (detailsAt e x)) ++ later)
-    unfolding x utc front later recordOf
+        ≡ front
+        ++ (rowBytes (twos (since1970 x)) (twos (utcStart zones (e .zone) (detailsAt e x))) (twos (utcEnd zones (e .zone) (detailsAt e x))) (marksOf (e .zone) (detailsAt e x)) ++ later)
+    unfolding x front later recordOf
     lies = parted ∙ records-split zones e xs k (trailerOf (length xs) ++ rest) h
 
     pub id-back : SFits w64 (since1970 (getD xs k 0)) → idAt after k ≡ since1970 (getD xs k 0)
     unfolding idAt x
     id-back f = rw (lies, first-read _ _ _ _ k front later front-length (twos-small _ f)) (signed-twos _ f)
 
-    pub start-back : SFits w64 (utcOf zones (e .zone) (since1970 (detailsAt e (getD xs k 0) .start)))
-        → startAt after k ≡ utcOf zones (e .zone) (since1970 (detailsAt e (getD xs k 0) .start))
-    unfolding startAt x utc
+    pub start-back : SFits w64 (utcStart zones (e .zone) (detailsAt e (getD xs k 0))) → startAt after k ≡ utcStart zones (e .zone) (detailsAt e (getD xs k 0))
+    unfolding startAt x
     start-back f = rw (lies, second-read _ _ _ _ k front later front-length (twos-small _ f)) (signed-twos _ f)
 
-    pub end-back : SFits w64 (utcOf zones (e .zone) (since1970 (detailsAt e (getD xs k 0) .start)) +ℤ pos (secondsIn (detailsAt e (getD xs k 0) .length)))
-        → endAt after k ≡ utcOf zones (e .zone) (since1970 (detailsAt e (getD xs k 0) .start)) +ℤ pos (secondsIn (detailsAt e (getD xs k 0) .length))
-    unfolding endAt x utc
+    pub end-back : SFits w64 (utcEnd zones (e .zone) (detailsAt e (getD xs k 0))) → endAt after k ≡ utcEnd zones (e .zone) (detailsAt e (getD xs k 0))
+    unfolding endAt x
     end-back f = rw (lies, third-read _ _ _ _ k front later front-length (twos-small _ f)) (signed-twos _ f)
 
     pub marks-back : marksAt after k ≡ marksOf (e .zone) (detailsAt e (getD xs k 0))

@@ -51,7 +51,7 @@ pub record TablePromises : Type 0 where
   -- 3. "Take any two accepted private events that agree on start, zone, length, busy mark, all-day mark, rules and excluded rules, and, for each
   -- override date, on its presence, its exclusion and what its patches make of start, length and the two marks. Whatever zone table, window and
   -- buffer come in, the same for both, the planner gets the same answer, the same length and the same bytes in the whole buffer. They are those of
-  -- demands 1 and 2."
+  -- demands 1 and 2." Request 2: "Demand 3 reads as before, with length meaning both parts."
   pub private : (s t : List ℕ) → Accepted Private s → Accepted Private t → Agree (eventOf s) (eventOf t)
       → (zones : ZoneTable) (from to : ℤ) (buffer : List ℕ) (answer answer′ size size′ : ℕ) (after after′ : List ℕ)
       → Gives (expandText zones s from to buffer) answer size after → Gives (expandText zones t from to buffer) answer′ size′ after′
