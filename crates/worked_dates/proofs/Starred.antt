@@ -28,8 +28,8 @@ use Rattle.keywords.specs.declared.Privacy.the-variants.{Public, Private, Secre
 use Rattle.event.specs.Types.{Event}
 use Rattle.call_definitions.specs.Window.{since1600, since1970, validWindow}
 use Rattle.call_definitions.specs.Occurrence.{datesOf, occurrences, overrideAt, withStart, patchedBy, detailsAt}
-use Rattle.call_definitions.specs.Utc.{ZoneTable, utcOf}
-use Rattle.call_definitions.specs.Bytes.{secondsIn, marksOf, recordOf, recordsOf, trailerOf, listed, tableOf}
+use Rattle.call_definitions.specs.Utc.{ZoneTable, utcOf, utcStart, daysLater, utcEnd}
+use Rattle.call_definitions.specs.Bytes.{marksOf, recordOf, recordsOf, trailerOf, listed, tableOf}
 use Rattle.call_definitions.specs.Answer.{Outcome, otherZone, answerFor, outcomeBy, expanded}
 use Rattle.worked_dates.specs.Inner.Written.{Case, on, lasting, eventOf, rule, row, floatingRows, noZone, dated, ruled, timed}
 use Rattle.worked_dates.specs.Inner.Cases.{newYork, losAngeles, melbourne, starred}
@@ -65,7 +65,7 @@ expanded-computed zones e from to buffer =
 
 computed-dates : map (λ (c : Case). computed (c .zones) (c .event) (negℤ (pos 11644473600)) (pos 253370764800) (replicate (length (c .table)) 7)) starred
     ≡ map (λ (c : Case). record { answer = 0; length = length (c .table); buffer = c .table }) starred
-unfolding placeOf isLeap yearLength leapYears firstOfYear lengthIn startIn monthLength monthStart dayOf fromMonth fromYear dateOf weekdayOf onDate dayAt any meets absent orElse countIn within notAfter periodOf sinceFirst daysOf inStep impliedDay impliedMonthDay impliedMonth daysFrom monthDaysFrom monthsFrom countsInYear isNth meetsNth meetsDay meetsMonthDay meetsMonth stays staysOn isPlace picked picks falls gives overrideExcludes overrideNames isStart someGives ruleGives excludedRuleGives inSet insert insertAll keep daysThat isPast ruleCandidates allCandidates candidates inWindow idsByCandidates bytesOf twos transitions larger mark zone.within allWithin increasing validTable lastAfter offsetAt utcAt same since1600 since1970 validWindow datesOf overrideAt withStart patchedBy detailsAt utcOf secondsIn marksOf recordOf recordsOf trailerOf otherZone answerFor outcomeBy over found computed on lasting eventOf rule row floatingRows noZone dated ruled timed newYork losAngeles melbourne starred
+unfolding placeOf isLeap yearLength leapYears firstOfYear lengthIn startIn monthLength monthStart dayOf fromMonth fromYear dateOf weekdayOf onDate dayAt any meets absent orElse countIn within notAfter periodOf sinceFirst daysOf inStep impliedDay impliedMonthDay impliedMonth daysFrom monthDaysFrom monthsFrom countsInYear isNth meetsNth meetsDay meetsMonthDay meetsMonth stays staysOn isPlace picked picks falls gives overrideExcludes overrideNames isStart someGives ruleGives excludedRuleGives inSet insert insertAll keep daysThat isPast ruleCandidates allCandidates candidates inWindow idsByCandidates bytesOf twos transitions larger mark zone.within allWithin increasing validTable lastAfter offsetAt utcAt same since1600 since1970 validWindow datesOf overrideAt withStart patchedBy detailsAt utcOf utcStart daysLater utcEnd marksOf recordOf recordsOf trailerOf otherZone answerFor outcomeBy over found computed on lasting eventOf rule row floatingRows noZone dated ruled timed newYork losAngeles melbourne starred
 computed-dates = refl
 
 pub worked-dates : map (λ (c : Case). expanded (c .zones) (c .event) (negℤ (pos 11644473600)) (pos 253370764800) (replicate (length (c .table)) 7)) starred
