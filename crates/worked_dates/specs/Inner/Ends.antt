@@ -8,56 +8,38 @@ use Rattle.rule.specs.declared.Frequency.the-variants.{Daily}
 use Rattle.json_text.specs.Ascii.{ascii}
 use Rattle.call_definitions.specs.Utc.{ZoneTable}
 use Rattle.call_definitions.specs.Bytes.{trailerOf}
+use Rattle.call_definitions.specs.Results.{zonesOf}
 use Rattle.worked_dates.specs.Inner.Written.{Case, on, lengthOf, lasting, eventOf, rule, row, ending}
 
 -- ---- zone tables: the changes that the cases need
 
 -- +00:00, from 2026-03-29T01:00:00Z +01:00, from 2026-10-25T01:00:00Z +00:00 again.
 unfoldable pub london : ZoneTable
-london =
-    record {
-      name = ascii "Europe/London";
-      initial = pos 0;
-      instants = pos 1774746000 ∷ pos 1792890000 ∷ [];
-      offsets = pos 3600 ∷ pos 0 ∷ [];
-    }
+london = zonesOf (ascii "Europe/London") (pos 0) (pos 1774746000 ∷ pos 1792890000 ∷ []) (pos 3600 ∷ pos 0 ∷ [])
 
 -- -05:00, from 2026-03-08T07:00:00Z -04:00, from 2026-11-01T06:00:00Z -05:00 again.
 unfoldable pub newYorkZone : ZoneTable
-newYorkZone =
-    record {
-      name = ascii "America/New_York";
-      initial = negℤ (pos 18000);
-      instants = pos 1772953200 ∷ pos 1793512800 ∷ [];
-      offsets = negℤ (pos 14400) ∷ negℤ (pos 18000) ∷ [];
-    }
+newYorkZone = zonesOf (ascii "America/New_York") (negℤ (pos 18000)) (pos 1772953200 ∷ pos 1793512800 ∷ []) (negℤ (pos 14400) ∷ negℤ (pos 18000) ∷ [])
 
 -- +11:00, from 2026-04-04T15:00:00Z +10:30, from 2026-10-03T15:30:00Z +11:00 again.
 unfoldable pub lordHowe : ZoneTable
-lordHowe =
-    record {
-      name = ascii "Australia/Lord_Howe";
-      initial = pos 39600;
-      instants = pos 1775314800 ∷ pos 1791041400 ∷ [];
-      offsets = pos 37800 ∷ pos 39600 ∷ [];
-    }
+lordHowe = zonesOf (ascii "Australia/Lord_Howe") (pos 39600) (pos 1775314800 ∷ pos 1791041400 ∷ []) (pos 37800 ∷ pos 39600 ∷ [])
 
 -- -12:00, from 1993-08-21T12:00:00Z +12:00: 21 August 1993 was skipped.
 unfoldable pub kwajalein : ZoneTable
-kwajalein =
-    record { name = ascii "Pacific/Kwajalein"; initial = negℤ (pos 43200); instants = pos 745934400 ∷ []; offsets = pos 43200 ∷ [] }
+kwajalein = zonesOf (ascii "Pacific/Kwajalein") (negℤ (pos 43200)) (pos 745934400 ∷ []) (pos 43200 ∷ [])
 
 -- Made up: -12:00, from 2026-01-01T12:00:00Z +14:00. The clock goes from 2026-01-01T00:00:00 to 2026-01-02T02:00:00.
 unfoldable pub jumping : ZoneTable
-jumping = record { name = ascii "Made/Up"; initial = negℤ (pos 43200); instants = pos 1767268800 ∷ []; offsets = pos 50400 ∷ [] }
+jumping = zonesOf (ascii "Made/Up") (negℤ (pos 43200)) (pos 1767268800 ∷ []) (pos 50400 ∷ [])
 
 -- +05:30, from 1985-12-31T18:30:00Z +05:45 for good.
 unfoldable pub kathmandu : ZoneTable
-kathmandu = record { name = ascii "Asia/Kathmandu"; initial = pos 19800; instants = pos 504901800 ∷ []; offsets = pos 20700 ∷ [] }
+kathmandu = zonesOf (ascii "Asia/Kathmandu") (pos 19800) (pos 504901800 ∷ []) (pos 20700 ∷ [])
 
 -- Made up: +00:00, from 10000-01-01T00:00:00Z +01:00.
 unfoldable pub late : ZoneTable
-late = record { name = ascii "Made/Up"; initial = pos 0; instants = pos 253402300800 ∷ []; offsets = pos 3600 ∷ [] }
+late = zonesOf (ascii "Made/Up") (pos 0) (pos 253402300800 ∷ []) (pos 3600 ∷ [])
 
 -- ---- cases that are no single event in a zone
 
