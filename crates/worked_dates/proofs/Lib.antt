@@ -1,1 +1,3 @@
+pub mod Computed
+pub mod Ends
 pub mod Starred

@@ -7,7 +7,7 @@ use lib.IntN.{ℤ, pos, negℤ, negsuc}
 use Rattle.rule.specs.declared.Frequency.the-variants.{Daily, Weekly, Monthly, Yearly}
 use Rattle.json_text.specs.Ascii.{ascii}
 use Rattle.call_definitions.specs.Utc.{ZoneTable}
-use Rattle.worked_dates.specs.Inner.Written.{Case, on, lasting, eventOf, rule, dated, ruled, timed}
+use Rattle.worked_dates.specs.Inner.Written.{Case, on, lengthOf, lasting, eventOf, rule, dated, ruled, timed}
 
 abbrev mo : ℕ
 mo = 0
@@ -32,7 +32,7 @@ unfoldable pub newYork : Case
 newYork =
     record {
       zones = record { name = ascii "America/New_York"; initial = negℤ (pos 18000); instants = []; offsets = [] };
-      event = eventOf (some (ascii "America/New_York")) (on 2018 1 15 + 46800) 3600 [] [] [];
+      event = eventOf (some (ascii "America/New_York")) (on 2018 1 15 + 46800) (lengthOf 0 3600) [] [] [];
       table =
           0xD0 ∷ 0xA5 ∷ 0x5C ∷ 0x5A ∷ 0x00 ∷ 0x00 ∷ 0x00 ∷ 0x00
           ∷ 0x20 ∷ 0xEC ∷ 0x5C ∷ 0x5A ∷ 0x00 ∷ 0x00 ∷ 0x00 ∷ 0x00
@@ -69,11 +69,11 @@ starred =
     -- "Weekly on `mo` from Wednesday 2024-01-03, count 3: 3, 8, 15 January."
     ∷ ruled (on 2024 1 3) (rule Weekly 1 mo (mo ∷ []) [] [] (some 3)) (on 2024 1 3 ∷ on 2024 1 8 ∷ on 2024 1 15 ∷ [])
     -- "Daily from 2024-01-01, count 3, weekly `tu` excluded: 1 and 3 January; an empty override on the 2nd brings it back."
-    ∷ dated (eventOf none (on 2024 1 1) 0 (rule Daily 1 mo [] [] [] (some 3) ∷ []) (rule Weekly 1 mo (tu ∷ []) [] [] none ∷ []) [])
+    ∷ dated (eventOf none (on 2024 1 1) (lengthOf 0 0) (rule Daily 1 mo [] [] [] (some 3) ∷ []) (rule Weekly 1 mo (tu ∷ []) [] [] none ∷ []) [])
     (on 2024 1 1 ∷ on 2024 1 3 ∷ [])
     ∷ dated
-    (eventOf none (on 2024 1 1) 0 (rule Daily 1 mo [] [] [] (some 3) ∷ []) (rule Weekly 1 mo (tu ∷ []) [] [] none ∷ [])
-    (record { id = on 2024 1 2; excluded = false; details = lasting (on 2024 1 2) 0 } ∷ []))
+    (eventOf none (on 2024 1 1) (lengthOf 0 0) (rule Daily 1 mo [] [] [] (some 3) ∷ []) (rule Weekly 1 mo (tu ∷ []) [] [] none ∷ [])
+    (record { id = on 2024 1 2; excluded = false; details = lasting (on 2024 1 2) (lengthOf 0 0) } ∷ []))
     (on 2024 1 1 ∷ on 2024 1 2 ∷ on 2024 1 3 ∷ [])
     -- "Monthly, `mo` to `fr`, position -1, from 2024-05-31, count 3: May 31, Jun 28, Jul 31."
     ∷ ruled (on 2024 5 31) (rule Monthly 1 mo (mo ∷ tu ∷ we ∷ th ∷ fr ∷ []) [] (negsuc 0 ∷ []) (some 3)) (on 2024 5 31 ∷ on 2024 6 28 ∷ on 2024 7 31 ∷ [])

@@ -10,7 +10,7 @@ use Rattle.rule.specs.declared.Frequency.{Frequency}
 use Rattle.rule.specs.Written.{NDay, RecurrenceRule}
 use Rattle.little_endian.specs.Bytes.{bytesOf, twos}
 use Rattle.keywords.specs.declared.Privacy.the-variants.{Public}
-use Rattle.event.specs.Types.{Details, Override, Event}
+use Rattle.event.specs.Types.{Length, Details, Override, Event}
 use Rattle.call_definitions.specs.Window.{since1970}
 use Rattle.call_definitions.specs.Utc.{ZoneTable}
 use Rattle.call_definitions.specs.Bytes.{trailerOf}
@@ -27,13 +27,16 @@ pub record Case : Type 0 where
 unfoldable pub on : ℕ → ℕ → ℕ → ℕ
 on y m d = 86400 * dayOf (record { year = y; month = m; day = d })
 
-unfoldable pub lasting : ℕ → ℕ → Details
-lasting start seconds =
-    record { start = start; length = record { days = 0; seconds = seconds }; busy = true; allDay = false; title = none; description = none }
+-- A length by its two parts: weeks and days, in days; hours, minutes and seconds, in seconds.
+unfoldable pub lengthOf : ℕ → ℕ → Length
+lengthOf days seconds = record { days = days; seconds = seconds }
 
-unfoldable pub eventOf : Option (List ℕ) → ℕ → ℕ → List RecurrenceRule → List RecurrenceRule → List Override → Event
-eventOf zone start seconds rules excluded overrides =
-    record { zone = zone; privacy = Public; details = lasting start seconds; rules = rules; excludedRules = excluded; overrides = overrides }
+unfoldable pub lasting : ℕ → Length → Details
+lasting start size = record { start = start; length = size; busy = true; allDay = false; title = none; description = none }
+
+unfoldable pub eventOf : Option (List ℕ) → ℕ → Length → List RecurrenceRule → List RecurrenceRule → List Override → Event
+eventOf zone start size rules excluded overrides =
+    record { zone = zone; privacy = Public; details = lasting start size; rules = rules; excludedRules = excluded; overrides = overrides }
 
 -- A rule of this frequency and interval, first day of the week, days, days of the month, positions and count.
 unfoldable pub rule : Frequency → ℕ → ℕ → List ℕ → List ℤ → List ℤ → Option ℕ → RecurrenceRule
@@ -70,9 +73,13 @@ unfoldable pub dated : Event → List ℕ → Case
 dated e xs = record { zones = noZone; event = e; table = floatingRows xs ++ trailerOf (length xs) }
 
 unfoldable pub ruled : ℕ → RecurrenceRule → List ℕ → Case
-ruled start r xs = dated (eventOf none start 0 (r ∷ []) [] []) xs
+ruled start r xs = dated (eventOf none start (lengthOf 0 0) (r ∷ []) [] []) xs
 
--- A single event of no length in a zone: its local time, from 1600 and from 1970, and its time in UTC.
+-- A single event in a zone: its local start, from 1600, and its length; the local start, from 1970, and the start and the end in UTC.
+unfoldable pub ending : ZoneTable → ℕ → Length → ℤ → ℤ → ℤ → Case
+ending zones start size local utc end =
+    record { zones = zones; event = eventOf (some (zones .name)) start size [] [] []; table = row local utc end 1 ++ trailerOf 1 }
+
+-- One of no length.
 unfoldable pub timed : ZoneTable → ℕ → ℤ → ℤ → Case
-timed zones start local utc =
-    record { zones = zones; event = eventOf (some (zones .name)) start 0 [] [] []; table = row local utc utc 1 ++ trailerOf 1 }
+timed zones start local utc = ending zones start (lengthOf 0 0) local utc utc
