@@ -54,12 +54,12 @@ fn last_end(start: &str, length: &str, members: &str, window_end: &str) -> Strin
     time::written(table.records().next_back().unwrap().end)
 }
 
-/// A table from a file goes on after its window as far as the longest length leads, also from a start that is moved. The clocks change at
-/// 2027-03-14T07:00:00Z and at 2028-03-12T07:00:00Z, when it is 03:00:00 in summer time.
+/// A table from a file goes on after its window as far as the longest length leads, also from a start that is moved. The file's changes end in
+/// 2037. By its rule the clocks change at 2051-03-12T07:00:00Z and 2052-03-10T07:00:00Z, when it becomes 03:00:00 in summer time.
 #[test]
 fn ends_far_after_the_window() {
-    assert_eq!(last_end("2026-03-13T03:00:00", "P366D", "", "2026-03-13T03:00:01"), "2027-03-14T07:00:00");
-    assert_eq!(last_end("2026-03-13T02:59:59", "P366D", "", "2026-03-13T03:00:00"), "2027-03-14T07:59:59");
-    let moved = r#", "recurrenceOverrides": {"2026-03-11T00:00:00": {"start": "2027-03-12T03:00:00"}}"#;
-    assert_eq!(last_end("2026-03-10T00:00:00", "P366D", moved, "2026-03-11T12:00:00"), "2028-03-12T07:00:00");
+    assert_eq!(last_end("2050-03-11T03:00:00", "P366D", "", "2050-03-11T03:00:01"), "2051-03-12T07:00:00");
+    assert_eq!(last_end("2050-03-11T02:59:59", "P366D", "", "2050-03-11T03:00:00"), "2051-03-12T07:59:59");
+    let moved = r#", "recurrenceOverrides": {"2050-03-09T00:00:00": {"start": "2051-03-10T03:00:00"}}"#;
+    assert_eq!(last_end("2050-03-08T00:00:00", "P366D", moved, "2050-03-09T03:00:01"), "2052-03-10T07:00:00");
 }
