@@ -72,7 +72,7 @@ fn zone() -> Rc<ZoneTable> {
     LONDON.with(Rc::clone)
 }
 
-/// London from its file, with the file's rule carried on to 2077.
+/// London from its file, with the file's rule carried on to 2078.
 fn london() -> ZoneTable {
     let bytes = include_bytes!("../../../examples/zones/Europe/London");
     let window = Window::new(dates::read("1970-01-01"), dates::read("2076-01-01")).expect("the dates are in order");
@@ -82,6 +82,7 @@ fn london() -> ZoneTable {
 /// The workloads of one line each.
 pub fn all() -> Vec<Workload> {
     let mut list = rules();
+    list.extend(far_rules());
     list.extend(texts::worst().into_iter().map(|(name, text)| Workload::new(name, text, "2026-01-01", "2027-01-01")));
     list.push(Workload::new("64 KiB: 13,000 members of one name", texts::alike(13_000), "2026-01-01", "2027-01-01"));
     list
@@ -108,34 +109,32 @@ fn rules() -> Vec<Workload> {
     vec![
         Workload::new("a theatre event, a year", texts::THEATRE, "2026-01-01", "2027-01-01"),
         Workload::new("daily, 1 year", recurring(at, daily), "2026-01-01", "2027-01-01").with_rule("FREQ=DAILY", at),
+        Workload::new("daily in London, PT24H, 1 year", in_zone(at, "PT24H", daily), "2026-01-01", "2027-01-01"),
+        Workload::new("daily in London, P1D, 1 year", in_zone(at, "P1D", daily), "2026-01-01", "2027-01-01"),
         Workload::new("daily, 30 years", recurring(at, daily), "2026-01-01", "2056-01-01").with_rule("FREQ=DAILY", at),
         Workload::new("weekly on five days, 1 year", recurring(at, &weekly), "2026-01-01", "2027-01-01")
             .with_rule("FREQ=WEEKLY;BYDAY=MO,TU,WE,TH,FR", at),
         Workload::new("last weekday of the month, 10 years", recurring(at, &last), "2026-01-01", "2036-01-01")
             .with_rule("FREQ=MONTHLY;BYDAY=MO,TU,WE,TH,FR;BYSETPOS=-1", at),
         Workload::new("yearly, 50 years", recurring(at, yearly), "2026-01-01", "2076-01-01").with_rule("FREQ=YEARLY", at),
+    ]
+}
+
+/// Rules that begin long before the window, end by a count, or go through the widest window.
+fn far_rules() -> Vec<Workload> {
+    let (at, first) = ("2026-01-01T09:00:00", "1601-01-01T09:00:00");
+    let daily = r#""frequency": "daily""#;
+    let weekly = format!(r#""frequency": "weekly", {}, "count": 10000"#, by_day("mo tu we th fr"));
+    let counted = r#""frequency": "daily", "count": 10000"#;
+    let never = r#""frequency": "yearly", "byMonth": ["2"], "byMonthDay": [30]"#;
+    vec![
         Workload::new("daily, a year, start 30 years before", recurring("1996-01-01T09:00:00", daily), "2026-01-01", "2027-01-01"),
-        Workload::new(
-            "daily, count 10,000, its last year",
-            recurring(at, r#""frequency": "daily", "count": 10000"#),
-            "2052-01-01",
-            "2054-01-01",
-        ),
-        Workload::new(
-            "weekly on five days, count 10,000, all of it",
-            recurring(at, &format!(r#"{weekly}, "count": 10000"#)),
-            "2026-01-01",
-            "2076-01-01",
-        )
-        .with_rule("FREQ=WEEKLY;BYDAY=MO,TU,WE,TH,FR;COUNT=10000", at),
-        Workload::new("daily, the widest window", recurring("1601-01-01T09:00:00", daily), "1601-01-01", "9999-01-01"),
-        Workload::new("yearly, the widest window", recurring("1601-01-01T09:00:00", yearly), "1601-01-01", "9999-01-01"),
-        Workload::new(
-            "30 February, the widest window",
-            recurring("1601-01-01T09:00:00", r#""frequency": "yearly", "byMonth": ["2"], "byMonthDay": [30]"#),
-            "1601-01-01",
-            "9999-01-01",
-        ),
+        Workload::new("daily, count 10,000, its last year", recurring(at, counted), "2052-01-01", "2054-01-01"),
+        Workload::new("weekly on five days, count 10,000, all of it", recurring(at, &weekly), "2026-01-01", "2076-01-01")
+            .with_rule("FREQ=WEEKLY;BYDAY=MO,TU,WE,TH,FR;COUNT=10000", at),
+        Workload::new("daily, the widest window", recurring(first, daily), "1601-01-01", "9999-01-01"),
+        Workload::new("yearly, the widest window", recurring(first, r#""frequency": "yearly""#), "1601-01-01", "9999-01-01"),
+        Workload::new("30 February, the widest window", recurring(first, never), "1601-01-01", "9999-01-01"),
     ]
 }
 
@@ -157,12 +156,17 @@ pub fn in_london() -> Vec<(Workload, CString)> {
         ("yearly, 50 years", r#""frequency": "yearly""#.to_string(), "FREQ=YEARLY", "2026-01-01", "2076-01-01"),
     ]
     .map(|(name, rule, short, from, to)| {
-        let members = r#", "timeZone": "Europe/London", "duration": "PT1H", "recurrenceRules": "#;
         let start = format!("{from}T09:00:00");
-        let text = event(&start, &format!(r#"{members}[{{"@type": "RecurrenceRule", {rule}}}]"#));
+        let text = in_zone(&start, "PT1H", &rule);
         (Workload::new(name, text, from, to).with_rule(short, &start), icalendar(&start, short))
     })
     .into()
+}
+
+/// An event in London with a length and one rule. Its start is looked up in the zone table; days of its length ask for a second look.
+fn in_zone(start: &str, length: &str, rule: &str) -> String {
+    let members = format!(r#", "timeZone": "Europe/London", "duration": "{length}", "recurrenceRules": "#);
+    event(start, &format!(r#"{members}[{{"@type": "RecurrenceRule", {rule}}}]"#))
 }
 
 /// An event of one hour as an iCalendar text. libical knows its zone by this name, and reads it from the system once.

@@ -14,6 +14,8 @@ fn the_examples() {
     assert!(out.contains("events/theatre-lists.json: 137 occurrences"), "{out}");
     assert!(out.contains("2026-07-01T08:00:00  2026-07-01T07:00:00Z  2026-07-01T11:30:00Z  busy"), "{out}");
     assert!(out.contains("2026-05-25T08:00:00  2026-05-26T07:00:00Z"), "{out}");
+    // A day over the March clock change ends at the next midnight, after 23 hours.
+    assert!(out.contains("2026-03-29T00:00:00  2026-03-29T00:00:00Z  2026-03-29T23:00:00Z  busy all-day"), "{out}");
     assert!(out.contains("events/secret-audit.json: no occurrences"));
     for hidden in ["clinic", "audit:", "Unannounced", "Inspection"] {
         assert!(!out.contains(hidden), "{hidden}");

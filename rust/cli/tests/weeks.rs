@@ -209,6 +209,19 @@ fn closures_that_begin_before_the_range() {
     assert_eq!((code, classes(&out).as_str(), errors.as_str()), (0, "sm", ""));
 }
 
+/// A day from Sunday 00:30 over the March clock change ends on Monday 00:30 in London, which is still Sunday in UTC. 24 hours end an hour later.
+#[test]
+fn closures_over_a_clock_change() {
+    let folder = folder("weeks-clock");
+    for (length, expected) in [("P1D", "sm"), ("PT24H", "ss"), ("P1DT30M", "sm"), ("P1DT31M", "ss")] {
+        let members = format!(r#""start": "2026-03-29T00:30:00", "timeZone": "Europe/London", "duration": "{length}""#);
+        let file = closure(&folder, "a.json", &members);
+        let zone = ["--zones", "zones", "--zone", "Europe/London"];
+        let (code, out, _) = weeks("", &[&zone[..], &["--from", "2026-03-23", "--to", "2026-04-06", "--format", "csv", &file]].concat());
+        assert_eq!((code, classes(&out).as_str()), (0, expected), "{length}");
+    }
+}
+
 #[test]
 fn closures_that_an_override_moves() {
     let folder = folder("weeks-moved");

@@ -22,13 +22,14 @@ pub mod json;
 mod recurrence;
 mod sheet;
 mod table;
+mod times;
 mod weeks;
 mod window;
 mod zone;
 
 pub use answer::Refusal;
 pub use calls::{description, expand, title};
-pub use event::{Details, Event, Occurrence, Privacy};
+pub use event::{Details, Duration, Event, Occurrence, Privacy};
 pub use sheet::{Sheet, SheetRecord};
 pub use weeks::weeks;
 pub use window::Window;

@@ -2,6 +2,7 @@
 //! zeros. The trailer stands last and points back". All numbers are little-endian.
 
 use crate::event::{Event, Occurrence, Privacy};
+use crate::times;
 use crate::window::Window;
 use crate::zone::Zone;
 
@@ -40,10 +41,7 @@ pub fn write(event: &Event, zone: &Zone, ids: &[i64], bytes: &mut [u8]) {
 
 fn write_record(event: &Event, zone: &Zone, occurrence: &Occurrence, record: &mut [u8]) {
     let is_floating = event.zone().is_none();
-    // "UTC is local minus offset; floating uses 0"
-    let offset = if is_floating { 0 } else { zone.offset(occurrence.start) };
-    let start = occurrence.start - offset;
-    let end = start + occurrence.details.duration;
+    let (start, end) = times::start_and_end(occurrence, (!is_floating).then_some(zone));
     let mark = |is_set: bool, bit: u8| if is_set { bit } else { 0 };
     record[0..8].copy_from_slice(&occurrence.id.to_le_bytes());
     record[8..16].copy_from_slice(&start.to_le_bytes());

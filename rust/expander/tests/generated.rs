@@ -1,6 +1,7 @@
 //! What holds of every event, asked of generated ones.
 
-use expander::{Event, Window};
+use expander::{Duration, Event, Sheet, Window};
+use generator::dates::{DAY, END};
 use generator::{pairs, Case, Model, Random};
 
 const CASES: u64 = 2_000;
@@ -18,6 +19,52 @@ fn models_are_accepted() {
         let text = Model::random(random).text(random);
         assert_eq!(Event::read(&text).err(), None, "seed {seed}: {}", String::from_utf8_lossy(&text));
     }
+}
+
+/// Both parts of each length are read as they were meant, however they are spelled.
+#[test]
+fn lengths_keep_their_parts() {
+    for seed in 0..CASES {
+        let random = &mut Random::new(seed);
+        let model = Model::random(random);
+        let text = model.text(random);
+        let own = Event::read(&text).unwrap().occurrence(i64::MIN).details.duration;
+        assert_eq!(
+            (own.days, own.seconds),
+            (model.duration.days, model.duration.seconds),
+            "seed {seed}: {}",
+            String::from_utf8_lossy(&text)
+        );
+    }
+}
+
+/// The UTC start and the UTC end of each record of a case's table.
+fn times(case: &Case, buffer: &mut [u8]) -> Vec<(i64, i64)> {
+    let (_, length) = expand(case, &case.text, buffer);
+    Sheet::read(&buffer[..length as usize]).map_or(Vec::new(), |sheet| sheet.records().map(|record| (record.start, record.end)).collect())
+}
+
+/// Ends that days of 86,400 seconds would not give, ends before and at their starts, and ends after 9999 all come up, each in many cases.
+#[test]
+fn ends_of_every_kind_come_up() {
+    let mut seen = [0u64; 4];
+    let mut buffer = vec![0; 1 << 16];
+    for case in (0..10 * CASES).map(Case::new) {
+        let Ok(event) = Event::read(&case.text) else { continue };
+        let Duration { days, seconds } = event.occurrence(i64::MIN).details.duration;
+        let fixed = days * DAY + seconds;
+        let kinds: [&dyn Fn(i64, i64) -> bool; 4] = [
+            &|start, end| days > 0 && seconds > 0 && end - start != fixed,
+            &|start, end| end < start,
+            &|start, end| end == start && fixed > 0,
+            &|_, end| end >= END + 365 * DAY,
+        ];
+        let times = times(&case, &mut buffer);
+        for (count, is_of_kind) in seen.iter_mut().zip(kinds) {
+            *count += u64::from(times.iter().any(|(start, end)| is_of_kind(*start, *end)));
+        }
+    }
+    assert!(seen.iter().all(|cases| *cases > CASES / 100), "{seen:?}");
 }
 
 #[test]

@@ -1,7 +1,7 @@
 //! Titles and descriptions.
 
 mod support;
-use expander::Event;
+use expander::{Duration, Event};
 use generator::examples::COURSE;
 use support::{event, seconds};
 
@@ -36,5 +36,5 @@ fn texts_and_times_of_overrides() {
     assert_eq!(title("2020-06-25T09:00:00"), (0, "Calculus I Exam"));
     assert_eq!(title("2020-06-25T10:00:00"), (14, ""));
     let exam = Event::read(COURSE.as_bytes()).unwrap().occurrence(seconds("2020-06-25T09:00:00"));
-    assert_eq!((exam.start, exam.details.duration), (seconds("2020-06-25T10:00:00"), 7_200));
+    assert_eq!((exam.start, exam.details.duration), (seconds("2020-06-25T10:00:00"), Duration { days: 0, seconds: 7_200 }));
 }

@@ -20,9 +20,10 @@ const DATE_TIMES: [&str; 22] = [
     "2024-01-01t00:00:00", "2024-01-01",
 ];
 #[rustfmt::skip]
-const DURATIONS: [&str; 20] = [
+const DURATIONS: [&str; 28] = [
     "P1D", "PT0.5S", "PT0.50S", "PT0.0S", "PT1H5S", "P366D", "P366DT0S", "P366DT1S", "P367D", "P366DT0.5S", "P365DT23H59M59.9S", "P",
-    "PT", "pt1h", "P1W2D", "P2D1W", "P1DT", "PT99999999999999999999M", "P52W2D", "-P1D",
+    "PT", "pt1h", "P1W2D", "P2D1W", "P1DT", "PT99999999999999999999M", "P52W2D", "-P1D", "PT24H", "P1DT24H", "P1W", "P365DT24H",
+    "P365DT24H0M1S", "PT8784H", "PT8784H0M1S", "PT8783H59M59.9S",
 ];
 #[rustfmt::skip]
 const WORDS: [&str; 26] = [

@@ -9,6 +9,7 @@ mod damage;
 pub mod dates;
 pub mod examples;
 pub mod instants;
+mod lengths;
 mod model;
 mod node;
 mod overrides;
@@ -22,6 +23,7 @@ mod spelling;
 mod strange;
 mod tables;
 
+pub use lengths::Length;
 pub use model::Model;
 pub use random::Random;
 pub use replay::Replay;
@@ -52,7 +54,7 @@ impl Case {
             8 => strange::long(&model, random),
             _ => strange::text(random),
         };
-        let zone = ZoneNumbers::random(model.zone.as_deref(), model.start, random);
+        let zone = ZoneNumbers::random(&model, random);
         Case { text, zone, window: tables::window(&model, random), dates: model.dates(random) }
     }
 }

@@ -1,6 +1,7 @@
 //! What an event says, apart from how it is written.
 
 use crate::dates::{self, DAY, END, FIRST};
+use crate::lengths::Length;
 use crate::node::Node;
 use crate::overrides::OverrideModel;
 use crate::random::Random;
@@ -14,7 +15,7 @@ pub struct Model {
     pub zone: Option<String>,
     /// The word in the text; unknown ones mean private.
     pub privacy: String,
-    pub duration: i64,
+    pub duration: Length,
     pub busy: bool,
     pub all_day: bool,
     pub title: Option<String>,
@@ -34,7 +35,7 @@ impl Model {
             start,
             zone: (!random.once_in(4)).then(|| random.pick(&["Europe/London", "Z", "America/New_York", "ä"]).to_string()),
             privacy: random.pick(&["public", "public", "public", "private", "secret", "confidential", ""]).to_string(),
-            duration: seconds(random),
+            duration: Length::random(random),
             busy: !random.once_in(3),
             all_day: random.once_in(3),
             title: random.once_in(2).then(|| text(random)),
@@ -48,6 +49,21 @@ impl Model {
     /// Has it few occurrences, even in the widest window?
     pub fn is_short(&self) -> bool {
         self.rules.iter().all(|rule| rule.is_short(self.start))
+    }
+
+    /// A local time that is turned to UTC: the start of an occurrence, or that start moved by the days of its length.
+    pub(crate) fn turned_to_utc(&self, random: &mut Random) -> i64 {
+        let (start, length) = match self.overrides.first() {
+            Some((id, OverrideModel::Patch(patch))) if random.once_in(2) => {
+                (patch.start.unwrap_or(*id), patch.duration.unwrap_or(self.duration))
+            }
+            _ => (self.start, self.duration),
+        };
+        if random.once_in(2) {
+            start
+        } else {
+            length.moves(start)
+        }
     }
 
     /// The event as a text, in one of its spellings.
@@ -79,7 +95,7 @@ impl Model {
         either(members, "timeZone", zone, self.zone.is_none(), random);
         either(members, "privacy", Node::string(&self.privacy), self.privacy == "public", random);
         let length = Node::string(duration(self.duration, random));
-        either(members, "duration", length, self.duration == 0, random);
+        either(members, "duration", length, self.duration == Length::default(), random);
         either(members, "freeBusyStatus", Node::string(if self.busy { "busy" } else { "free" }), self.busy, random);
         let all_day = Node::leaf(if self.all_day { "true" } else { "false" });
         either(members, "showWithoutTime", all_day, !self.all_day, random);
@@ -110,27 +126,19 @@ impl Model {
 
 /// The start: mostly of our time, sometimes at an edge of the calendar or of the profile.
 fn start(random: &mut Random) -> i64 {
-    let day = match random.below(10) {
+    let day = match random.below(11) {
         0 => FIRST / DAY + random.within(0..=800),
         1 => END / DAY - random.within(1..=800),
-        2 => random.within(FIRST / DAY..=END / DAY - 1),
+        // December 9998, from where most lengths lead into 9999 and some to 10000.
+        2 => END / DAY - random.within(1..=31),
+        3 => random.within(FIRST / DAY..=END / DAY - 1),
         // Around a turn of the year, a leap day, and the end of January.
-        3 => random.within(0..=100) * 365 + random.within(-10..=70),
-        4 => random.pick(&[19_782, 19_753, 11_016, -25_508, 8_459, 47_540]),
+        4 => random.within(0..=100) * 365 + random.within(-10..=70),
+        5 => random.pick(&[19_782, 19_753, 11_016, -25_508, 8_459, 47_540]),
         _ => random.within(18_000..=21_000),
     };
     let time = random.pick(&[0, 32_400, 86_399, 1, 46_800]);
     day * DAY + time
-}
-
-/// A length of an occurrence.
-pub(crate) fn seconds(random: &mut Random) -> i64 {
-    match random.below(6) {
-        0 => 0,
-        1 => 366 * DAY,
-        2 => random.within(0..=366 * DAY),
-        _ => random.within(0..=400) * 900,
-    }
 }
 
 /// Some overrides near the start, each date once.

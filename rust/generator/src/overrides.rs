@@ -1,9 +1,10 @@
 //! Overrides of single dates.
 
+use crate::dates;
+use crate::lengths::Length;
 use crate::node::Node;
 use crate::random::Random;
 use crate::spelling::{duration, either, text, word};
-use crate::{dates, model};
 
 /// What is said of one date.
 #[derive(Clone, Debug)]
@@ -16,7 +17,7 @@ pub enum OverrideModel {
 #[derive(Clone, Debug, Default)]
 pub struct PatchModel {
     pub start: Option<i64>,
-    pub duration: Option<i64>,
+    pub duration: Option<Length>,
     pub busy: Option<bool>,
     pub all_day: Option<bool>,
     pub title: Option<Option<String>>,
@@ -33,7 +34,7 @@ impl OverrideModel {
         if random.once_in(3) {
             patch.start = Some((id + random.within(-100_000..=100_000)).clamp(dates::FIRST, dates::END - 1));
         }
-        patch.duration = random.once_in(3).then(|| model::seconds(random));
+        patch.duration = random.once_in(3).then(|| Length::random(random));
         patch.busy = random.once_in(4).then(|| random.once_in(2));
         patch.all_day = random.once_in(4).then(|| random.once_in(2));
         patch.title = random.once_in(3).then(|| random.once_in(2).then(|| text(random)));
@@ -54,9 +55,9 @@ impl PatchModel {
     fn node(&self, random: &mut Random) -> Node {
         let mut members = Vec::new();
         let mut put = |name: &str, value: Option<Node>| members.extend(value.map(|value| (name.to_string(), value)));
-        let spelled = self.duration.map(|seconds| Node::string(duration(seconds, random)));
+        let spelled = self.duration.map(|length| Node::string(duration(length, random)));
         put("start", self.start.map(|start| Node::string(dates::written(start))));
-        put("duration", or_null(spelled, self.duration == Some(0), random));
+        put("duration", or_null(spelled, self.duration == Some(Length::default()), random));
         let busy = self.busy.map(|busy| Node::string(if busy { "busy" } else { "free" }));
         put("freeBusyStatus", or_null(busy, self.busy == Some(true), random));
         let all_day = self.all_day.map(|all_day| Node::leaf(if all_day { "true" } else { "false" }));

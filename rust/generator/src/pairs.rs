@@ -5,7 +5,7 @@ use crate::overrides::OverrideModel;
 use crate::random::Random;
 use crate::spelling::text;
 
-/// Two private events that agree on dates, lengths, marks and zone: they differ in texts, identity, spelling and order.
+/// Two private events that agree on dates, both parts of each length, marks and zone: they differ in texts, identity, spelling and order.
 pub fn private(random: &mut Random) -> (Model, [Vec<u8>; 2]) {
     let model = Model::random(random);
     let texts = [(); 2].map(|()| {

@@ -107,6 +107,7 @@ fn many_overrides(start: i64, random: &mut Random) -> Node {
     let patch = |place: i64| match place % 5 {
         0 => Node::Object(vec![("excluded".to_string(), Node::leaf("true"))]),
         1 => Node::Object(vec![("duration".to_string(), Node::string("PT5M"))]),
+        2 => Node::Object(vec![("duration".to_string(), Node::string("P1D"))]),
         _ => Node::Object(Vec::new()),
     };
     let mut overrides: Vec<(String, Node)> = (0..count).map(|place| (dates::written(first + place * spacing), patch(place))).collect();

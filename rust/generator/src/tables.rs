@@ -4,6 +4,9 @@ use crate::dates::{DAY, END, FIRST};
 use crate::model::Model;
 use crate::random::Random;
 
+/// Offsets lie so far from UTC at most.
+const LARGEST_OFFSET: i64 = 86_399;
+
 /// The numbers of a zone table.
 #[derive(Clone, Debug, PartialEq, Eq)]
 pub struct ZoneNumbers {
@@ -14,15 +17,15 @@ pub struct ZoneNumbers {
 }
 
 impl ZoneNumbers {
-    /// A table for an event's zone with changes around its start; some are invalid, some have another name.
-    pub fn random(zone: Option<&str>, start: i64, random: &mut Random) -> ZoneNumbers {
-        let name = match (zone, random.below(16)) {
+    /// A table for an event, with changes around a local time that is turned to UTC; some are invalid, some have another name.
+    pub fn random(model: &Model, random: &mut Random) -> ZoneNumbers {
+        let name = match (&model.zone, random.below(16)) {
             (_, 0) => "Europe/Londo".to_string(),
             (Some(zone), 1) => format!("{zone} "),
             (Some(zone), _) => zone.to_string(),
             (None, _) => String::new(),
         };
-        let mut zone = regular(start, random);
+        let mut zone = regular(model.turned_to_utc(random), random);
         zone.name = name.into_bytes();
         if random.once_in(12) {
             spoil(&mut zone, random);
@@ -31,17 +34,29 @@ impl ZoneNumbers {
     }
 }
 
-/// Two changes a year, an hour or some seconds each; or none, or as many as are allowed.
-fn regular(start: i64, random: &mut Random) -> ZoneNumbers {
-    let initial_offset = random.within(-12..=14) * 3_600 + random.within(-1..=1) * random.within(0..=1_800);
+/// Two changes a year around a local time, or one every few days; or none, or as many as are allowed.
+fn regular(local: i64, random: &mut Random) -> ZoneNumbers {
+    let (initial_offset, other) = offsets(random);
     let count = random.pick(&[0, 0, 1, 2, 20, 20, 1_024]);
-    let step = random.pick(&[3_600, -3_600, 1_800, 7]);
-    // Half of the tables have a mark at the start's time of day, or a second beside it; 182 days are whole weeks.
+    // 182 days are whole weeks.
+    let spacing = DAY * random.pick(&[182, 182, 182, 7, 2, 1]);
+    // Half of the tables have a mark at the local time, or a second beside it.
     let beside = if random.once_in(2) { random.within(-1..=1) } else { random.within(-3 * DAY..=3 * DAY) };
-    let first = start - count / 2 * 182 * DAY - initial_offset - step.max(0) + beside;
-    let instants = (0..count).map(|place| first + place * 182 * DAY).collect();
-    let offsets = (0..count).map(|place| initial_offset + if place % 2 == 0 { step } else { 0 }).collect();
+    let first = local - count / 2 * spacing - initial_offset.max(other) + beside;
+    let instants = (0..count).map(|place| first + place * spacing).collect();
+    let offsets = (0..count).map(|place| if place % 2 == 0 { other } else { initial_offset }).collect();
     ZoneNumbers { name: Vec::new(), initial_offset, instants, offsets }
+}
+
+/// The two offsets of a table: an hour or some seconds apart, and in one table of three a day or more.
+fn offsets(random: &mut Random) -> (i64, i64) {
+    if random.once_in(3) {
+        let jump = random.pick(&[DAY, DAY + 1, 25 * 3_600, 36 * 3_600, 2 * LARGEST_OFFSET]);
+        let lower = random.within(-LARGEST_OFFSET..=LARGEST_OFFSET - jump);
+        return if random.once_in(2) { (lower, lower + jump) } else { (lower + jump, lower) };
+    }
+    let initial = random.within(-12..=14) * 3_600 + random.within(-1..=1) * random.within(0..=1_800);
+    (initial, initial + random.pick(&[3_600, -3_600, 1_800, 7]))
 }
 
 /// A change that makes most tables invalid.

@@ -13,7 +13,8 @@ pub struct Record {
     pub id: i64,
     /// The start in UTC, in seconds from 1970-01-01T00:00:00Z; of a floating event the local start.
     pub start: i64,
-    /// The end, like the start.
+    /// The end, like the start. Weeks and days of a length are added to the local start, hours, minutes and seconds in UTC: a day may take 23
+    /// or 25 hours. Where the offset jumps by more than a day, the end may lie before the start.
     pub end: i64,
     /// The time is taken.
     pub busy: bool,

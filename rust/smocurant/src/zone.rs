@@ -11,6 +11,8 @@ pub struct Transition {
 }
 
 /// A time zone: its name, and when its offset from UTC changes. Whether a table is valid is judged by the library, at each call.
+///
+/// Starts are looked up in it, and starts moved by the weeks and days of their length: up to 366 days later. It has to go on as far.
 #[derive(Clone, Debug, PartialEq, Eq, Hash)]
 pub struct ZoneTable {
     name: String,

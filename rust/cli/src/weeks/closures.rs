@@ -7,7 +7,7 @@ use crate::options::Common;
 use crate::progress::Progress;
 use smocurant::{Table, WeekRange, Window};
 
-/// An occurrence lasts no longer.
+/// The longest length. The end in UTC lies at most this and the furthest offset after the local start, whatever the clock does in between.
 const LONGEST: i64 = 366 * DAY;
 
 /// A local time is not further from UTC.

@@ -1,14 +1,14 @@
 //! What an occurrence shows beside its dates.
 
-use super::{duration, values, Event, Override, Patch, Privacy};
+use super::{duration, values, Duration, Event, Override, Patch, Privacy};
 use crate::answer::{Faults, Refusal};
 use crate::json::{Object, Text, Value};
 
 /// Length, marks and texts; those of the event, or of one occurrence.
 #[derive(Clone, Copy, Debug, PartialEq)]
 pub struct Details<'t> {
-    /// Seconds from start to end.
-    pub duration: i64,
+    /// The length, in its two parts.
+    pub duration: Duration,
     /// `freeBusyStatus` is `busy`.
     pub busy: bool,
     /// `showWithoutTime` is true.
@@ -22,7 +22,7 @@ pub struct Details<'t> {
 /// The defaults of RFC 8984.
 impl Default for Details<'_> {
     fn default() -> Self {
-        Details { duration: 0, busy: true, all_day: false, title: None, description: None }
+        Details { duration: Duration::default(), busy: true, all_day: false, title: None, description: None }
     }
 }
 

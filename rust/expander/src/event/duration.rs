@@ -16,31 +16,40 @@ use crate::answer::Refusal;
 use crate::civil::DAY;
 use crate::json::Value;
 
-/// "total at most 366 days"
-pub const LONGEST: u64 = 366 * DAY as u64;
+/// "total at most 366 days", "still counted with 86,400"
+const LONGEST: u64 = 366 * DAY as u64;
 
-/// The seconds of a duration; "a legal fraction answers 8".
-pub fn read(value: &Value) -> Result<i64, Refusal> {
+/// A length in its two parts. They stay apart: a day is not always 24 hours long. Two lengths are equal where both parts are.
+#[derive(Clone, Copy, Debug, Default, PartialEq, Eq)]
+pub struct Duration {
+    /// The weeks and days, in days: "A week is always the same as seven days."
+    pub days: i64,
+    /// The hours, minutes and seconds, in seconds.
+    pub seconds: i64,
+}
+
+/// The parts of a duration; "a legal fraction answers 8".
+pub fn read(value: &Value) -> Result<Duration, Refusal> {
     let word = values::word(value)?.to_ascii_uppercase();
-    let (total, fraction) = parse(&word).ok_or(Refusal::Value)?;
-    if fraction.is_empty() && total <= LONGEST {
-        Ok(total as i64)
-    } else if is_legal_fraction(fraction) && total < LONGEST {
+    let units = parse(&word).ok_or(Refusal::Value)?;
+    if units.fraction.is_empty() && units.total() <= LONGEST {
+        Ok(Duration { days: units.days as i64, seconds: units.seconds as i64 })
+    } else if is_legal_fraction(units.fraction) && units.total() < LONGEST {
         Err(Refusal::Unsupported)
     } else {
         Err(Refusal::Value)
     }
 }
 
-/// The whole seconds, and the fraction with its point.
-fn parse(word: &[u8]) -> Option<(u64, &[u8])> {
-    let mut units = Units { rest: word.strip_prefix(b"P")?, total: 0, fraction: b"" };
-    let has_weeks = units.take(b'W', 7 * DAY as u64);
-    let has_days = units.take(b'D', DAY as u64);
+/// A word of the grammar, taken apart.
+fn parse(word: &[u8]) -> Option<Units<'_>> {
+    let mut units = Units { rest: word.strip_prefix(b"P")?, days: 0, seconds: 0, fraction: b"" };
+    let has_weeks = units.take_days(b'W', 7);
+    let has_days = units.take_days(b'D', 1);
     if let Some(time) = units.rest.strip_prefix(b"T") {
         units.rest = time;
-        let has_hours = units.take(b'H', 3_600);
-        let has_minutes = units.take(b'M', 60);
+        let has_hours = units.take_time(b'H', 3_600);
+        let has_minutes = units.take_time(b'M', 60);
         // Seconds follow minutes, or stand alone: `PT1H5S` is not in the grammar.
         let has_seconds = (has_minutes || !has_hours) && units.take_seconds();
         if !(has_hours || has_minutes || has_seconds) {
@@ -49,43 +58,60 @@ fn parse(word: &[u8]) -> Option<(u64, &[u8])> {
     } else if !(has_weeks || has_days) {
         return None;
     }
-    units.rest.is_empty().then_some((units.total, units.fraction))
+    units.rest.is_empty().then_some(units)
 }
 
-/// What is left of a duration, and the sum so far. Sums stop at the largest number, which is over every limit.
+/// What is left of a duration, and the sums so far. Sums stop at the largest number, which is over every limit.
 struct Units<'w> {
     rest: &'w [u8],
-    total: u64,
+    days: u64,
+    /// The whole seconds of the part after the `T`.
+    seconds: u64,
+    /// The fraction with its point.
     fraction: &'w [u8],
 }
 
 impl<'w> Units<'w> {
-    /// Takes digits and a letter, if these come next.
-    fn take(&mut self, letter: u8, seconds: u64) -> bool {
-        let (digits, behind) = split_digits(self.rest);
-        match behind.strip_prefix(&[letter]) {
-            Some(rest) if !digits.is_empty() => {
-                self.rest = rest;
-                self.total = self.total.saturating_add(number(digits).saturating_mul(seconds));
-                true
-            }
-            _ => false,
-        }
+    /// The whole seconds, counted with days of 86,400.
+    fn total(&self) -> u64 {
+        self.days.saturating_mul(DAY as u64).saturating_add(self.seconds)
+    }
+
+    /// Takes weeks or days, if these come next.
+    fn take_days(&mut self, letter: u8, days: u64) -> bool {
+        let number = self.take(letter);
+        self.days = self.days.saturating_add(number.unwrap_or(0).saturating_mul(days));
+        number.is_some()
+    }
+
+    /// Takes hours, minutes or seconds, if these come next.
+    fn take_time(&mut self, letter: u8, seconds: u64) -> bool {
+        let number = self.take(letter);
+        self.seconds = self.seconds.saturating_add(number.unwrap_or(0).saturating_mul(seconds));
+        number.is_some()
+    }
+
+    /// Takes digits and a letter, if these come next: the number.
+    fn take(&mut self, letter: u8) -> Option<u64> {
+        let (digits, after) = split_digits(self.rest);
+        let rest = after.strip_prefix(&[letter]).filter(|_| !digits.is_empty())?;
+        self.rest = rest;
+        Some(number(digits))
     }
 
     /// Takes seconds with their fraction.
     fn take_seconds(&mut self) -> bool {
-        let (digits, behind) = split_digits(self.rest);
-        if let (false, Some(decimals)) = (digits.is_empty(), behind.strip_prefix(b".")) {
-            let (decimals, behind_decimals) = split_digits(decimals);
-            if let (false, Some(rest)) = (decimals.is_empty(), behind_decimals.strip_prefix(b"S")) {
-                self.fraction = &behind[..1 + decimals.len()];
+        let (digits, after) = split_digits(self.rest);
+        if let (false, Some(decimals)) = (digits.is_empty(), after.strip_prefix(b".")) {
+            let (decimals, after_decimals) = split_digits(decimals);
+            if let (false, Some(rest)) = (decimals.is_empty(), after_decimals.strip_prefix(b"S")) {
+                self.fraction = &after[..1 + decimals.len()];
                 self.rest = rest;
-                self.total = self.total.saturating_add(number(digits));
+                self.seconds = self.seconds.saturating_add(number(digits));
                 return true;
             }
         }
-        self.take(b'S', 1)
+        self.take_time(b'S', 1)
     }
 }
 
@@ -102,31 +128,43 @@ mod tests {
     use super::*;
     use crate::json::Text;
 
-    fn duration(raw: &str) -> Result<i64, Refusal> {
+    fn duration(raw: &str) -> Result<Duration, Refusal> {
         read(&Value::String(Text { start: 0, raw: raw.as_bytes() }))
     }
 
     #[test]
     fn durations() {
-        for (word, seconds) in [
-            ("PT1H", 3_600),
-            ("P1D", 86_400),
-            ("P1W2D", 9 * 86_400),
-            ("P1DT1H1M1S", 90_061),
-            ("PT0S", 0),
-            ("PT90M", 5_400),
-            ("PT1M5S", 65),
-            ("PT5S", 5),
-            ("P1WT5S", 604_805),
-            ("pt1h", 3_600),
-            ("p1w2dT3m", 777_780),
-            ("P000000000000000000000000000001D", 86_400),
-            ("P366D", 366 * 86_400),
-            ("P52W2D", 366 * 86_400),
-            ("PT31622400S", 366 * 86_400),
-            ("P365DT24H", 366 * 86_400),
+        for (word, days, seconds) in [
+            ("PT1H", 0, 3_600),
+            ("P1D", 1, 0),
+            ("PT24H", 0, 86_400),
+            ("PT1440M", 0, 86_400),
+            ("P1DT24H", 1, 86_400),
+            ("P2D", 2, 0),
+            ("P1W", 7, 0),
+            ("P7D", 7, 0),
+            ("P1W2D", 9, 0),
+            ("P0W9D", 9, 0),
+            ("P1DT1H1M1S", 1, 3_661),
+            ("P1W2DT3H", 9, 10_800),
+            ("PT0S", 0, 0),
+            ("P0D", 0, 0),
+            ("PT90M", 0, 5_400),
+            ("PT1H30M", 0, 5_400),
+            ("PT1M5S", 0, 65),
+            ("PT5S", 0, 5),
+            ("P1WT5S", 7, 5),
+            ("pt1h", 0, 3_600),
+            ("p1w2dT3m", 9, 180),
+            ("P000000000000000000000000000001D", 1, 0),
+            ("P366D", 366, 0),
+            ("P366DT0S", 366, 0),
+            ("P52W2D", 366, 0),
+            ("PT31622400S", 0, 31_622_400),
+            ("P365DT24H", 365, 86_400),
+            ("P1DT31536000S", 1, 31_536_000),
         ] {
-            assert_eq!(duration(word), Ok(seconds), "{word}");
+            assert_eq!(duration(word), Ok(Duration { days, seconds }), "{word}");
         }
     }
 
@@ -140,40 +178,24 @@ mod tests {
         }
     }
 
+    /// Over 366 days by a second, by a day or by far, in one part or in both.
+    #[test]
+    fn too_long_durations() {
+        for wrong in ["P366DT1S", "P367D", "P53W", "P52W2DT1S", "P365DT86401S", "P1DT31536001S", "PT31622401S", "PT8784H0M1S"] {
+            assert_eq!(duration(wrong), Err(Refusal::Value), "{wrong}");
+        }
+        for digits in ["99999999999999999999999", "18446744073709551615", "18446744073709551616", "213503982334602"] {
+            for wrong in [format!("P{digits}D"), format!("P{digits}W1DT1S"), format!("P1DT{digits}S"), format!("PT{digits}H")] {
+                assert_eq!(duration(&wrong), Err(Refusal::Value), "{wrong}");
+            }
+        }
+    }
+
     #[test]
     fn wrong_durations() {
         for wrong in [
-            "",
-            "P",
-            "PT",
-            "T1H",
-            "1D",
-            "P1",
-            "P1H",
-            "PT1",
-            "PT1D",
-            "P1D2W",
-            "P1DT",
-            "PT1H5S",
-            "PT1S1M",
-            "P1M",
-            "P1Y",
-            "-P1D",
-            "+P1D",
-            "P-1D",
-            "P1D ",
-            " P1D",
-            "P1D1D",
-            "PT1H1H",
-            "P366DT1S",
-            "P367D",
-            "P53W",
-            "P99999999999999999999999D",
-            "PT31622401S",
-            "P1W1W",
-            "PTT1H",
-            "PPT1H",
-            "P1d\\n",
+            "", "P", "PT", "T1H", "1D", "P1", "P1H", "PT1", "PT1D", "P1D2W", "P1DT", "PT1H5S", "PT1S1M", "P1M", "P1Y", "-P1D", "+P1D",
+            "P-1D", "P1D ", " P1D", "P1D1D", "PT1H1H", "P1W1W", "PTT1H", "PPT1H", "P1d\\n",
         ] {
             assert_eq!(duration(wrong), Err(Refusal::Value), "{wrong}");
         }

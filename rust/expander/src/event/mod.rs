@@ -8,6 +8,7 @@ mod rule;
 mod values;
 
 pub use details::{Details, Occurrence};
+pub use duration::Duration;
 pub use overrides::{Override, Patch};
 pub use rule::{End, Frequency, NthDay, Rule};
 

@@ -1,7 +1,7 @@
 //! `recurrenceOverrides`: "an object of LocalDateTime names and patch objects".
 
 use super::details::{read_busy, read_text};
-use super::{date_time, duration, values};
+use super::{date_time, duration, values, Duration};
 use crate::answer::{Faults, Refusal};
 use crate::json::{Object, Text, Value};
 use std::collections::BTreeMap;
@@ -28,7 +28,7 @@ impl Default for Override<'_> {
 #[derive(Debug, Default)]
 pub struct Patch<'t> {
     pub start: Option<i64>,
-    pub duration: Option<i64>,
+    pub duration: Option<Duration>,
     pub busy: Option<bool>,
     pub all_day: Option<bool>,
     pub title: Option<Option<Text<'t>>>,
@@ -70,7 +70,7 @@ fn read_patch<'t>(object: &Object<'t>) -> Result<Patch<'t>, Refusal> {
     let patch = Patch {
         // "for `start` null answers 6", as every value does that is no date-time.
         start: faults.keep(values::property(object, "start", |value| date_time::occurrence(value).map(Some))),
-        duration: faults.keep(patched(object, "duration", 0, duration::read)),
+        duration: faults.keep(patched(object, "duration", Duration::default(), duration::read)),
         busy: faults.keep(patched(object, "freeBusyStatus", true, read_busy)),
         all_day: faults.keep(patched(object, "showWithoutTime", false, values::boolean)),
         title: faults.keep(patched(object, "title", None, read_text)),

@@ -1,7 +1,8 @@
-//! Events with the dates that documents give for them: those of document 01, of RFC 5545 and of RFC 8984. And [`replays`] with what the request
-//! for them gives.
+//! Events with the dates that documents give for them: those of document 01, of RFC 5545 and of RFC 8984. Events with their [`ends`], and
+//! [`replays`], each with what the request for them gives.
 
 pub mod answers;
+pub mod ends;
 mod other_calendars;
 pub mod replays;
 mod rfc5545;

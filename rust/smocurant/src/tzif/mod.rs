@@ -1,8 +1,8 @@
 //! Zone tables from the system: TZif files (RFC 8536), version 2 and later.
 //!
-//! A file has the changes of the past, and a rule for the time behind them. The rule is carried on to one year behind the window, so that an
-//! occurrence that is moved a little beyond it still finds its offset. A table has 1,024 entries, which is some 400 years of summer time; for
-//! windows that end later there is no table, rather than one with wrong offsets.
+//! A file has the changes of the past, and a rule for the time after them. The rule is carried on to two years after the window: one for an
+//! occurrence that an override moves beyond it, and one for its length, since days of a length end at a local time. A table has 1,024 entries,
+//! which is some 400 years of summer time; for windows that end later there is no table, rather than one with wrong offsets.
 //!
 //! ```no_run
 //! use smocurant::{tzif, Window};

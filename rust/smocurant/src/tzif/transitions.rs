@@ -7,24 +7,33 @@ use crate::time;
 use crate::window::Window;
 use crate::zone::{Transition, ZoneTable};
 
+/// Seconds of a day.
+const DAY: i64 = 86_400;
+
 /// The instants of a table lie within these.
 const FURTHEST_INSTANT: i64 = 1 << 40;
 
 /// No date of an event lies before 1601, so a rule that holds from the beginning need not go further back.
 const FIRST_YEAR: i64 = 1600;
 
-/// The rule is carried on so many seconds behind the window's end.
-const BEHIND_WINDOW: i64 = 366 * 86_400;
+/// So far after the window an override may move a start.
+const FURTHEST_MOVE: i64 = 366 * DAY;
+
+/// So far after a start the days of its length lead, in local time.
+const LONGEST: i64 = 366 * DAY;
+
+/// The rule is carried on so many seconds after the window's end: a local time is less than a day from UTC.
+const AFTER_WINDOW: i64 = FURTHEST_MOVE + LONGEST + DAY;
 
 /// The initial offset and the entries of a table for a window.
 pub fn all(file: &File, window: Window) -> Result<(i64, Vec<Transition>), Error> {
     let last_written = file.changes.last().map(|(instant, _)| *instant);
-    let horizon = (window.end() + BEHIND_WINDOW).max(last_written.map_or(i64::MIN, |last| last.saturating_add(1)));
+    let horizon = (window.end() + AFTER_WINDOW).max(last_written.map_or(i64::MIN, |last| last.saturating_add(1)));
     let mut changes = file.changes.clone();
     if let Some(rule) = &file.rule {
         let first_year = last_written.map_or(FIRST_YEAR, |last| time::date(last).0.max(FIRST_YEAR));
         // One year more, since an end of daylight saving time may be its next start.
-        let last_year = time::date(window.end() + BEHIND_WINDOW).0 + 1;
+        let last_year = time::date(window.end() + AFTER_WINDOW).0 + 1;
         let ruled = (first_year..=last_year).flat_map(|year| in_year(rule, year));
         changes.extend(ruled.filter(|(instant, _)| last_written.is_none_or(|last| *instant > last)));
     }
@@ -86,7 +95,7 @@ mod tests {
     }
 
     #[test]
-    fn a_rule_goes_on_behind_the_last_change() {
+    fn a_rule_goes_on_after_the_last_change() {
         let (initial, entries) = all(&file(&[(0, 3_600), (1_711_846_800, 7_200)], "CET-1CEST,M3.5.0,M10.5.0/3"), year(2025)).unwrap();
         assert_eq!(initial, 100);
         let shown: Vec<(String, i64)> = entries.iter().map(|entry| (time::written(entry.instant), entry.offset)).collect();
@@ -98,6 +107,8 @@ mod tests {
             ("2025-10-26T01:00:00", 3_600),
             ("2026-03-29T01:00:00", 7_200),
             ("2026-10-25T01:00:00", 3_600),
+            ("2027-03-28T01:00:00", 7_200),
+            ("2027-10-31T01:00:00", 3_600),
         ];
         assert_eq!(shown, expected.map(|(instant, offset)| (instant.to_string(), offset)));
     }
