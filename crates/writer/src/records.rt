@@ -29,16 +29,7 @@ pub fn write_records(
     while i < chunk.len() {
         let x = chunk[i];
         let t = times_at(text, ends, form, ids, places, x);
-        put_occurrence(
-            buffer,
-            place,
-            x,
-            t,
-            initial,
-            instants,
-            offsets,
-            &mut hint,
-        );
+        put_occurrence(buffer, place, x, t, initial, instants, offsets, &mut hint);
         place += 28;
         i += 1;
     }
