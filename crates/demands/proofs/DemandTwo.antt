@@ -12,6 +12,7 @@ use lib.Seq.{sets}
 use lib.Signed.{ltZ}
 use borrow.Author.Tests.{ltb-false}
 use Rattle.rule.specs.Lists.{any}
+use Rattle.rule.specs.Gives.{endDay}
 use Rattle.recurrence.specs.Inner.Order.{StrictlyIncreases, among}
 use Rattle.recurrence.specs.Inner.Within.{OccursWithin}
 use Rattle.zone.specs.Table.{validTable}
@@ -33,7 +34,7 @@ use Rattle.demands.proofs.DemandOne.{table-answered}
 use Rattle.demands.proofs.SheetLaws.{has-sheet, id-back, start-back, end-back, marks-back, zeros-back}
 use Rattle.demands.proofs.Lists.{among-stands, at-among, increases-at}
 use Rattle.demands.proofs.WindowLaws.{back-1600, back-1970, earlier, low-enough, after-first, before-last, first-below, last-above}
-use Rattle.demands.proofs.Ranges.{id-fits, start-small, end-small, start-fits, end-fits}
+use Rattle.demands.proofs.Ranges.{id-fits, end-reach, start-small, end-small, start-fits, end-fits}
 
 -- ---- what does not apply to a call that is answered 0
 
@@ -74,7 +75,7 @@ module _ (zones : ZoneTable) (s : List ℕ) (from to : ℤ) (before after : List
 
   module _ (increase : StrictlyIncreases xs) (exactly : (x : ℕ) → (among x xs ≡ true) ↔ OccursWithin (datesOf e) (since1600 from) (since1600 to) x)
       (is : after ≡ sets before 0 (recordsOf zones e xs ++ trailerOf (length xs))) (fits : 28 * length xs + 12 ≤ length before) where
-    small : (k : ℕ) → k < length xs → getD xs k 0 < 2 ^ 39
+    small : (k : ℕ) → k < length xs → getD xs k 0 < 86400 * endDay
     small k h = omega (arith, exactly (getD xs k 0) .0 (at-among xs k h) .before, window-last from to window)
 
     id-is : (k : ℕ) → k < length xs → idAt after k ≡ since1970 (getD xs k 0)
@@ -119,6 +120,7 @@ module _ (zones : ZoneTable) (s : List ℕ) (from to : ℤ) (before after : List
         record {
           startIs = rw (← is-x) start;
           endIs = rw (← is-x) end;
+          reach = rw (← is-x) (end-reach s accepted x (small k h));
           near = (
             rw start (omega (arith, start-small zones table s accepted (e .zone) x (small k h))),
             rw end (omega (arith, end-small zones table s accepted (e .zone) x (small k h))),

@@ -1,6 +1,6 @@
 -- The numbers of a record fit into its 8 bytes, and its times in UTC lie within ±2^40: what is known of an accepted event, of its window and of its
 -- zone table.
-use Prim.Native.Nat.{ℕ, suc, _<_, _≤_, _^_}
+use Prim.Native.Nat.{ℕ, suc, _+_, _*_, _<_, _≤_, _^_}
 use mathlib.Core.Bool.{Bool, true, false}
 use mathlib.Core.List.{List, [], _∷_}
 use mathlib.Core.Option.{Option, none, some}
@@ -15,6 +15,7 @@ use Rattle.signed.specs.Choose.{if_then_else_}
 use Rattle.fault.proofs.Laws.{lower-zero}
 use Rattle.zone.specs.Table.{validTable}
 use Rattle.zone.proofs.RangeLaws.{abs-fits}
+use Rattle.rule.specs.Gives.{endDay}
 use Rattle.json_tree.specs.Tree.{Json, Fields, textTree}
 use Rattle.event.specs.Types.{Details, Override, Event}
 use Rattle.event.specs.Values.{object}
@@ -26,7 +27,7 @@ use Rattle.property.proofs.Ranges.{Short, length-range}
 use Rattle.override_text.proofs.RangeLaws.{InRange, read-range}
 use Rattle.call_definitions.specs.Window.{since1970}
 use Rattle.call_definitions.specs.Occurrence.{overrideAt, withStart, patchedBy, detailsAt}
-use Rattle.call_definitions.specs.Utc.{ZoneTable, utcStart, utcEnd}
+use Rattle.call_definitions.specs.Utc.{ZoneTable, utcStart, daysLater, utcEnd}
 use Rattle.call_definitions.specs.Call.{textFault}
 use Rattle.call_definitions.proofs.Few.{accepted-event}
 use Rattle.call_definitions.proofs.UtcLaws.{since-near, start-near, end-near}
@@ -71,12 +72,12 @@ known s h = object-known (object (textTree s)) (accepted-event s h)
 
 -- ---- an occurrence of it
 
--- An id of a window and a patched start lie before 9999-01-01, which is 265,046,860,800 seconds from 1600, less than 2^39.
+-- An id of a window and a patched start lie before 9999-01-01.
 record Small (d : Details) : Type 0 where
-  start : d .start < 2 ^ 39
+  start : d .start < 86400 * endDay
   short : Short (d .length)
 
-module _ (own : Details) (short : Short (own .length)) (x : ℕ) (h : x < 2 ^ 39) where
+module _ (own : Details) (short : Short (own .length)) (x : ℕ) (h : x < 86400 * endDay) where
   patched-small : (os : List Override) → ((k : ℕ) → k < length os → (d : Override) → InRange (getD os k d)) → Small (patchedBy own x (overrideAt os x))
   unfolding overrideAt patchedBy withStart
   patched-small [] range = record { start = h; short = short }
@@ -86,17 +87,22 @@ module _ (own : Details) (short : Short (own .length)) (x : ℕ) (h : x < 2 ^ 39
       go rest true = let r = range 0 (omega arith) o in record { start = omega (arith, r .start .to); short = r .short }
       go rest false = rest
 
-details-small : (s : List ℕ) → textFault s ≡ 0 → (x : ℕ) → x < 2 ^ 39 → Small (detailsAt (eventOf s) x)
+details-small : (s : List ℕ) → textFault s ≡ 0 → (x : ℕ) → x < 86400 * endDay → Small (detailsAt (eventOf s) x)
 unfolding detailsAt
 details-small s a x h = let k = known s a in patched-small (eventOf s .details) (k .short) x h (eventOf s .overrides) (k .ranged)
 
 -- ---- its numbers
 
-pub id-fits : (x : ℕ) → x < 2 ^ 39 → SFits w64 (since1970 x)
+pub id-fits : (x : ℕ) → x < 86400 * endDay → SFits w64 (since1970 x)
 id-fits x h = abs-fits (since1970 x) (omega (arith, since-near x (2 ^ 39) (omega arith) (omega arith)))
 
+pub end-reach : (s : List ℕ) → textFault s ≡ 0 → (x : ℕ) → x < 86400 * endDay
+    → daysLater (detailsAt (eventOf s) x .start) (detailsAt (eventOf s) x .length .days) < 86400 * (endDay + 366)
+unfolding daysLater
+end-reach s accepted x h = let small = details-small s accepted x h in omega (arith, small .start, small .short)
+
 module _ (zones : ZoneTable) (valid : validTable (zones .initial) (zones .instants) (zones .offsets) ≡ true) (s : List ℕ) (accepted : textFault s ≡ 0)
-    (zone : Option (List ℕ)) (x : ℕ) (h : x < 2 ^ 39) where
+    (zone : Option (List ℕ)) (x : ℕ) (h : x < 86400 * endDay) where
   small : Small (detailsAt (eventOf s) x)
   small = details-small s accepted x h
 

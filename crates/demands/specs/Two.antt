@@ -1,7 +1,7 @@
 -- Demand 2, of one call: "When an accepted event that is not secret is answered 0, the recurrence ids on the sheet strictly increase, and a date-time
 -- of the window is there exactly when no override excludes it and either an override names it, or it is the start or a rule gives it, and no
 -- excluded rule does. RFC 8984 decides, in the written profile. UTC times, marks and words are those of the same document."
-use Prim.Native.Nat.{ℕ, _<_, _≤_, _^_}
+use Prim.Native.Nat.{ℕ, _+_, _*_, _<_, _≤_, _^_}
 use mathlib.Core.Bool.{true}
 use mathlib.Core.List.{List, []}
 use mathlib.Core.Logic.{_↔_}
@@ -10,11 +10,12 @@ use mathlib.Core.Path.{_≡_}
 use lib.IntN.{ℤ, natAbs}
 use lib.ListN.{length, take, drop}
 use lib.Signed.{leZ, ltZ}
+use Rattle.rule.specs.Gives.{endDay}
 use Rattle.recurrence.specs.Occurs.{Occurs}
 use Rattle.event.specs.Types.{Text, Details, Event}
 use Rattle.call_definitions.specs.Window.{since1600}
 use Rattle.call_definitions.specs.Occurrence.{datesOf, isOccurrence, detailsAt}
-use Rattle.call_definitions.specs.Utc.{ZoneTable, utcStart, utcEnd}
+use Rattle.call_definitions.specs.Utc.{ZoneTable, utcStart, daysLater, utcEnd}
 use Rattle.call_definitions.specs.Bytes.{marksOf}
 use Rattle.call_definitions.specs.Answer.{dateTimeOf}
 use Rattle.sheet.specs.Records.{idAt, startAt, endAt, marksAt, zerosAt}
@@ -43,8 +44,9 @@ pub record Row (zones : ZoneTable) (e : Event) (sheet : List ℕ) (k : ℕ) : Ty
   -- Request 2: "The end is now found in its steps: add weeks and days to the local start, convert to UTC, add the hours, minutes and seconds as
   -- absolute time." "Where a jump puts the end before the start, it is written as calculated."
   pub endIs : endAt sheet k ≡ utcEnd zones (e .zone) (detailsOn e sheet k)
-  -- The days may lead past 9998, to 10000-01-01 at the latest. Nothing overflows: both times stay within the range of a zone table's instants (01:
-  -- "instants within ±2^40").
+  -- The days may lead past 9998. The local end lies before 10000-01-02, which is 366 days after 9999-01-01, and is looked up as any local time.
+  pub reach : daysLater (detailsOn e sheet k .start) (detailsOn e sheet k .length .days) < 86400 * (endDay + 366)
+  -- Nothing overflows: both times stay within the range of a zone table's instants (01: "instants within ±2^40").
   pub near : (natAbs (startAt sheet k) ≤ 2 ^ 40) × (natAbs (endAt sheet k) ≤ 2 ^ 40)
   pub marksIs : marksAt sheet k ≡ marksOf (e .zone) (detailsOn e sheet k)
   pub zeros : zerosAt sheet k ≡ 0

@@ -1,5 +1,5 @@
 -- `duration`, 01, "Reading the event": "ABNF of source document 004, so `P1W2D` is right and `P` is wrong; default zero; total at most 366
--- days, else 6; a legal fraction answers 8. A day is taken as 86,400 seconds."
+-- days, else 6; a legal fraction answers 8." Request 2: "The limit of 366 days stays, still counted with 86,400."
 use Prim.Native.Nat.{ℕ, _+_, _-_, _*_}
 use mathlib.Core.Bool.{Bool, not}
 use mathlib.Core.List.{List}
