@@ -21,7 +21,7 @@ use Rattle.call_definitions.specs.Window.{since1970}
 use Rattle.call_definitions.specs.Utc.{ZoneTable, isFloating, utcOf, utcStart, daysLater, utcEnd}
 use Rattle.call_definitions.proofs.UtcLaws.{since-near}
 use Rattle.record.specs.declared.Times.{Times}
-use Rattle.record.specs.Inner.Utc.{timesOf, offsetBy, localStart, localEnd, startOffset, endOffset, startBy, endBy, Brief, Ending}
+use Rattle.record.specs.Inner.Utc.{timesOf, offsetBy, localStart, localEnd, startOffset, endOffset, startBy, endBy, Begun, Ending}
 
 abbrev pub again : ℤ → ℤ
 again z = toZ w64 (ofZ w64 z)
@@ -87,14 +87,14 @@ end-found b ts ns t local r f g is e = rw (toZ-ofZ f, toZ-ofZ g, is) at e
 
 -- ---- the calls of `end_of`, one after the other: B the offset at the start, L the local end, O the offset there, U the local end in UTC
 
-module _ (b : ℤ) (ts ns : List ℤ) (f : SFits w64 b) (v : validTable b ts ns ≡ true) (t : Times) (s : Brief t) (B : ℤ) (g : SFits w64 B)
-    (known : B ≡ startOffset b ts ns t) (n : ℕ) (sum : n ≡ t .start + 86400 * t .days) (L : ℤ) (l : mag L < 2 ^ 63) (le : L ≡ since1970 n) where
+module _ (b : ℤ) (ts ns : List ℤ) (f : SFits w64 b) (t : Times) (B : ℤ) (g : SFits w64 B) (known : Begun t B b ts ns)
+    (n : ℕ) (sum : n ≡ t .start + 86400 * t .days) (L : ℤ) (l : mag L < 2 ^ 63) (le : L ≡ since1970 n) where
   end-local : again L ≡ localEnd t
   unfolding daysLater
   end-local = back L l ∙ (le ∙ ap since1970 sum)
 
   pub ending : Ending t (again B) (again b) ts ns (again L)
-  ending = record { valid = rw (toZ-ofZ f) v; at-start = rw (toZ-ofZ f, toZ-ofZ g) known; at-end = end-local }
+  ending = record { valid = rw (toZ-ofZ f) (known .valid); at-start = rw (toZ-ofZ f, toZ-ofZ g) (known .at-start); at-end = end-local }
 
   module _ (O : ℤ) (o : mag O < 2 ^ 63) (oe : O ≡ endOffset (again b) ts ns t) where
     end-offset : again O ≡ endOffset b ts ns t
@@ -103,7 +103,7 @@ module _ (b : ℤ) (ts ns : List ℤ) (f : SFits w64 b) (v : validTable b ts ns 
     pub end-less : (natAbs (again L) ≤ 2 ^ 61) × (natAbs (again O) ≤ 86399)
     unfolding endOffset daysLater
     end-less =
-        (rw end-local (local-abs _ (omega (arith, s .start-small, s .length-small))), rw end-offset (by-abs (t .floating) b ts ns v (localEnd t)))
+        (rw end-local (local-abs _ (omega (arith, known .brief .start-small, known .brief .length-small))), rw end-offset (by-abs (t .floating) b ts ns (known .valid) (localEnd t)))
 
     module _ (U : ℤ) (u : mag U < 2 ^ 63) (ue : U ≡ again L -ℤ again O) where
       moved : again U ≡ localEnd t -ℤ endOffset b ts ns t
@@ -111,7 +111,7 @@ module _ (b : ℤ) (ts ns : List ℤ) (f : SFits w64 b) (v : validTable b ts ns 
 
       pub end-later : (natAbs (again U) ≤ 2 ^ 62) × (t .seconds ≤ 2 ^ 40)
       end-later =
-          (rw (back U u, ue) (omega (arith, difference-abs (again L) (again O) 86399 (end-less .1), end-less .0)), omega (arith, s .length-small))
+          (rw (back U u, ue) (omega (arith, difference-abs (again L) (again O) 86399 (end-less .1), end-less .0)), omega (arith, known .brief .length-small))
 
       pub end-is : (E : ℤ) → mag E < 2 ^ 63 → E ≡ again U +ℤ pos (t .seconds) → again E ≡ endBy b ts ns t
       unfolding endBy

@@ -9,12 +9,13 @@ ghost use Rattle.record.specs.Inner.Occurrences.{occurrenceRow, Small};
 use crate::Times;
 use crate::rows::marks;
 use crate::rows::put_record;
+use crate::utc::START;
 use crate::utc::end_of;
 use crate::utc::less;
 use crate::utc::offset_of;
 use crate::window::since_1970;
 
-// The record of the occurrence `id` at a place of the buffer. The hint says where in the zone table the last offset was found.
+// The record of the occurrence `id` at a place of the buffer. The two hints say where in the zone table the last offsets were found.
 pub fn put_occurrence(
     buf: &mut [u8],
     at: usize,
@@ -23,15 +24,23 @@ pub fn put_occurrence(
     initial: i64,
     instants: &[i64],
     offsets: &[i64],
-    hint: &mut usize,
+    hints: &mut [usize],
 )
-    requires { ⌜ (at + 28 ≤ length (now buf)) × ((validTable initial (now instants) (now offsets) ≡ true) × Small id times) ⌝ }
+    requires { ⌜ (at + 28 ≤ length (now buf)) × ((validTable initial (now instants) (now offsets) ≡ true) × (Small id times × (length (now hints) ≡ 2))) ⌝ }
     ensures { λ _. ⌜ now (buf .exit) ≡ sets (now (buf .entry)) at (occurrenceRow initial (now (instants .entry)) (now (offsets .entry)) id times) ⌝ }
 {
     let local = since_1970(times.start);
-    let offset = offset_of(times.floating, initial, instants, offsets, local, hint);
+    let offset = offset_of(
+        times.floating,
+        initial,
+        instants,
+        offsets,
+        local,
+        hints,
+        START,
+    );
     let start = less(local, offset);
-    let end = end_of(times, offset, initial, instants, offsets, hint);
+    let end = end_of(times, offset, initial, instants, offsets, hints);
     let m = marks(times.busy, times.allday, times.floating);
     put_record(buf, at, since_1970(id), start, end, m);
 }

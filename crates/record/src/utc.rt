@@ -1,29 +1,39 @@
 // When an occurrence starts and ends in UTC. The days of its length are added to the local start, the seconds to the time in UTC.
 ghost use mathlib.Core.Bool.{true};
 ghost use mathlib.Core.Path.{_≡_};
-ghost use Prim.Native.Nat.{_+_, _*_, _≤_, _^_};
+ghost use Prim.Native.Nat.{_+_, _*_, _<_, _≤_, _^_};
 ghost use lib.IntN.{pos, natAbs, _+ℤ_, _-ℤ_};
+ghost use lib.ListN.{length};
 ghost use Rattle.zone.specs.Table.{validTable};
-ghost use Rattle.record.specs.Inner.Utc.{offsetBy, startOffset, endOffset, endBy, Brief, Ending};
+ghost use Rattle.record.specs.Inner.Utc.{offsetBy, endOffset, endBy, Brief, Begun, Ending};
 use crate::Times;
 use crate::window::since_1970;
 
-// The offset at a local time. The hint says where in the zone table the last one was found.
+// Where in the zone table the offset of the last start was found, and that of the last end: each is near the next one of its kind.
+pub(crate) const START: usize = 0;
+
+const END: usize = 1;
+
+// The offset at a local time, looked for near the hint at a place of the two.
 pub(crate) fn offset_of(
     floating: bool,
     initial: i64,
     instants: &[i64],
     offsets: &[i64],
     local: i64,
-    hint: &mut usize,
+    hints: &mut [usize],
+    at: usize,
 ) -> i64
-    requires { ⌜ validTable initial (now instants) (now offsets) ≡ true ⌝ }
+    requires { ⌜ (validTable initial (now instants) (now offsets) ≡ true) × (at < length (now hints)) ⌝ }
     ensures { λ r. ⌜ r ≡ offsetBy floating initial (now (instants .entry)) (now (offsets .entry)) local ⌝ }
 {
     if floating {
         return 0;
     }
-    zone::offset(initial, instants, offsets, local, hint)
+    let mut hint = hints[at];
+    let offset = zone::offset(initial, instants, offsets, local, &mut hint);
+    hints[at] = hint;
+    offset
 }
 
 pub(crate) fn less(local: i64, offset: i64) -> i64
@@ -56,15 +66,23 @@ fn end_offset(
     instants: &[i64],
     offsets: &[i64],
     local: i64,
-    hint: &mut usize,
+    hints: &mut [usize],
 ) -> i64
-    requires { ⌜ Ending times before initial (now instants) (now offsets) local ⌝ }
+    requires { ⌜ Ending times before initial (now instants) (now offsets) local × (length (now hints) ≡ 2) ⌝ }
     ensures { λ r. ⌜ r ≡ endOffset initial (now (instants .entry)) (now (offsets .entry)) times ⌝ }
 {
     if times.days == 0 {
         return before;
     }
-    offset_of(times.floating, initial, instants, offsets, local, hint)
+    offset_of(
+        times.floating,
+        initial,
+        instants,
+        offsets,
+        local,
+        hints,
+        END,
+    )
 }
 
 // The end, given the offset at the start.
@@ -74,13 +92,13 @@ pub(crate) fn end_of(
     initial: i64,
     instants: &[i64],
     offsets: &[i64],
-    hint: &mut usize,
+    hints: &mut [usize],
 ) -> i64
-    requires { ⌜ (validTable initial (now instants) (now offsets) ≡ true) × (Brief times × (before ≡ startOffset initial (now instants) (now offsets) times)) ⌝ }
+    requires { ⌜ Begun times before initial (now instants) (now offsets) × (length (now hints) ≡ 2) ⌝ }
     ensures { λ r. ⌜ r ≡ endBy initial (now (instants .entry)) (now (offsets .entry)) times ⌝ }
 {
     let local = since_1970(local_end(times));
-    let offset = end_offset(times, before, initial, instants, offsets, local, hint);
+    let offset = end_offset(times, before, initial, instants, offsets, local, hints);
     let utc = less(local, offset);
     later(utc, times.seconds)
 }

@@ -23,13 +23,13 @@ pub fn write_records(
     ensures { λ r. ⌜ WroteChunk (rowFor (now (text .entry)) form (now (ids .entry)) (now (places .entry)) initial (now (instants .entry)) (now (offsets .entry)))
         (now (chunk .entry)) at (now (buffer .entry)) (now (buffer .exit)) r ⌝ }
 {
-    let mut hint = 0;
+    let mut hints = [0usize; 2];
     let mut place = at;
     let mut i = 0;
     while i < chunk.len() {
         let x = chunk[i];
         let t = times_at(text, ends, form, ids, places, x);
-        put_occurrence(buffer, place, x, t, initial, instants, offsets, &mut hint);
+        put_occurrence(buffer, place, x, t, initial, instants, offsets, &mut hints);
         place += 28;
         i += 1;
     }

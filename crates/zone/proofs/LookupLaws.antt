@@ -115,6 +115,20 @@ module _ (b : ℤ) (ts ns : List ℤ) (v : validTable b ts ns ≡ true) (x : ℤ
         beyond = w .beyond;
       }
 
+  -- the place after a mark at or before the local time, with none or one beyond it next
+  pub halves-at : (i : ℕ) → i ≤ length ts → ((i ≡ 0 → ⊥) → ltZ x (markAt b ts ns (i - 1)) ≡ false) → (i < length ts → ltZ x (markAt b ts ns i) ≡ true)
+      → Halves b ts ns x i i
+  halves-at zero h p q = record { order = omega arith; fits = h; found = look-start b ts ns x; beyond = q }
+  halves-at (suc i) h p q =
+      let back : suc i - 1 ≡ i = omega arith in
+      let same : i + 1 ≡ suc i = omega arith in
+      record {
+        order = omega arith;
+        fits = h;
+        found = rw same at (look-over i 0 i (omega arith) (omega arith) (look-start b ts ns x) (rw back at (p (λ e. omega arith))));
+        beyond = q;
+      }
+
   pub halves-end : (low high : ℕ) → high ≤ low → Halves b ts ns x low high → getD (b ∷ ns) low (pos 0) ≡ offsetAt b ts ns x
   halves-end low high h w =
       let same : high ≡ low = omega (arith, w .order) in

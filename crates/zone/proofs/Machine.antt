@@ -4,7 +4,7 @@ use mathlib.Core.Bool.{Bool, true, false, not}
 use mathlib.Core.List.{List, _∷_}
 use mathlib.Core.Path.{_≡_, refl, sym, _∙_, ap}
 use native.Mathlib.Omega.{arith}
-use borrow.Author.Tests.{not-true, not-false}
+use borrow.Author.Tests.{not-true, not-false, ne-eqb}
 use lib.IntN.{ℤ, pos, negsuc, natAbs, _+ℤ_, _-ℤ_}
 use lib.ListN.{length, getD}
 use lib.Signed.{leZ, ltZ, mag}
@@ -15,11 +15,13 @@ use Rattle.signed.proofs.Parts.{back}
 use Rattle.zone.specs.Table.{larger, within, allWithin, increasing, validTable}
 use Rattle.zone.specs.Lookup.{offsetAt}
 use Rattle.zone.specs.Inner.Places.{InRange, markAt}
+use Rattle.zone.specs.Inner.Hint.{begunAt, aheadAt, stillAt}
 use Rattle.zone.proofs.RangeLaws.{range-at, sum-abs, difference-abs, abs-fits}
 use Rattle.zone.proofs.OrderLaws.{ends-first, ends-last}
 use Rattle.zone.proofs.TableLaws.{valid-gives}
 use Rattle.zone.proofs.PassLaws.{Pass, both, markOf, pass-start, pass-wide, pass-down, pass-next, pass-end, added-small}
 use Rattle.zone.proofs.LookupLaws.{Halves, halves-high, halves-low, halves-end}
+use Rattle.zone.proofs.HintLaws.{still-gives}
 
 abbrev pub again : ℤ → ℤ
 again z = toZ w64 (ofZ w64 z)
@@ -164,6 +166,10 @@ module _ (b : ℤ) (ts ns : List ℤ) (x : ℤ) (f : SFits w64 b) (g : SFits w64
   found : (R y : ℤ) → mag R < 2 ^ 63 → R ≡ y → y ≡ offsetAt (again b) ts ns (again x) → again R ≡ offsetAt b ts ns x
   found R y k e h = back R k ∙ e ∙ (rw (toZ-ofZ f, toZ-ofZ g) at h)
 
+  -- a hint that still holds
+  pub hint-place : (i : ℕ) (r : Bool) → r ≡ stillAt (markAt (again b) ts ns) (length ts) (again x) i → r ≡ true → Halves (again b) ts ns (again x) i i
+  hint-place i r e t = still-gives (again b) ts ns valid-again (again x) i (sym e ∙ t)
+
   module _ (low high : ℕ) (w : Halves (again b) ts ns (again x) low high) where
     pub offset-end : high ≤ low → (R : ℤ) → mag R < 2 ^ 63 → R ≡ getD (again b ∷ ns) low (pos 0) → again R ≡ offsetAt b ts ns x
     offset-end h R k e = found R _ k e (halves-end (again b) ts ns valid-again (again x) low high h w)
@@ -177,3 +183,27 @@ module _ (b : ℤ) (ts ns : List ℤ) (x : ℤ) (f : SFits w64 b) (g : SFits w64
 
       pub offset-low : ltZ (again x) (again M) ≡ false → Halves (again b) ts ns (again x) (middle + 1) high
       offset-low t = halves-low (again b) ts ns valid-again (again x) low high middle p q w (judged false t)
+
+-- ---- the look at the hint: M is the mark as `mark::at` gives it
+
+pub range-again : (b : ℤ) (ts ns : List ℤ) → SFits w64 b → InRange b ts ns → InRange (again b) ts ns
+range-again b ts ns f v = rw (toZ-ofZ f) v
+
+module _ (b : ℤ) (ts ns : List ℤ) (x : ℤ) (i : ℕ) (f : SFits w64 b) (g : SFits w64 x) where
+  pub passed-begun : (r : Bool) → r ≡ begunAt (markAt (again b) ts ns) (again x) i → r ≡ begunAt (markAt b ts ns) x i
+  passed-begun r e = rw (toZ-ofZ f, toZ-ofZ g) at e
+
+  pub passed-ahead : (r : Bool) → r ≡ aheadAt (markAt (again b) ts ns) (length ts) (again x) i → r ≡ aheadAt (markAt b ts ns) (length ts) x i
+  passed-ahead r e = rw (toZ-ofZ f, toZ-ofZ g) at e
+
+  pub begun-is : (i ≡ 0 → ⊥) → (M : ℤ) → mag M < 2 ^ 63 → M ≡ markAt (again b) ts ns (i - 1) → leZ (again M) (again x) ≡ begunAt (markAt b ts ns) x i
+  unfolding begunAt
+  begun-is n M m e =
+      let is : M ≡ markAt b ts ns (i - 1) = rw (toZ-ofZ f) at e in
+      rw (back M m, toZ-ofZ g, ne-eqb i 0 n, is)
+
+  pub ahead-is : (i ≡ length ts → ⊥) → (M : ℤ) → mag M < 2 ^ 63 → M ≡ markAt (again b) ts ns i → ltZ (again x) (again M) ≡ aheadAt (markAt b ts ns) (length ts) x i
+  unfolding aheadAt
+  ahead-is n M m e =
+      let is : M ≡ markAt b ts ns i = rw (toZ-ofZ f) at e in
+      rw (back M m, toZ-ofZ g, ne-eqb i (length ts) n, is)

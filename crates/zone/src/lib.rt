@@ -1,5 +1,6 @@
 // The zone table of a call: is it valid, which offset holds at a local time, and what that time is in UTC. The table is an initial
 // offset and two slices, the entries' instants and the offsets from then on.
+mod hint;
 mod mark;
 mod range;
 
@@ -56,15 +57,18 @@ fn fewer(n: u32) -> u32 {
     n - 1
 }
 
-// Marks increase, so the first one beyond the local time is found by halving: what stands before `low` is at or before it, and the mark at
-// `high`, where there is one, is beyond it. The hint is where it was found before and is left where it is found now: a time up to one
-// transition after the last one takes two looks, up to two transitions three (a yearly rule moves by two). Any hint is right, so which one is
-// left is not promised.
+// The hint is where the last offset was found, and is left where this one is found. Where the local time is still there, two marks say so.
+// Else, since marks increase, the first one beyond the local time is found by halving: what stands before `low` is at or before it, and the
+// mark at `high`, where there is one, is beyond it. It first looks near the hint: a yearly rule moves by two transitions. Any hint is right,
+// so which one is left is not promised.
 pub fn offset(initial: i64, instants: &[i64], offsets: &[i64], local: i64, hint: &mut usize) -> i64
     requires { ⌜ validTable initial (now instants) (now offsets) ≡ true ⌝ }
     ensures { λ r. ⌜ r ≡ offsetAt initial (now (instants .entry)) (now (offsets .entry)) local ⌝ }
 {
     let guess = *hint;
+    if hint::still(initial, instants, offsets, local, guess) {
+        return mark::before(initial, offsets, guess);
+    }
     let mut low = 0;
     let mut high = instants.len();
     let mut near: u32 = 4;

@@ -45,6 +45,12 @@ pub record Brief (t : Times) : Type 0 where
   pub start-small : t .start < 2 ^ 60
   pub length-small : 86400 * t .days + t .seconds ≤ 2 ^ 40
 
+-- What the end is found from: the offset at the start, over a table that is valid.
+pub record Begun (t : Times) (before initial : ℤ) (instants offsets : List ℤ) : Type 0 where
+  pub valid : validTable initial instants offsets ≡ true
+  pub brief : Brief t
+  pub at-start : before ≡ startOffset initial instants offsets t
+
 -- What the look for the offset at the end is given: the offset at the start, and the local end.
 pub record Ending (t : Times) (before initial : ℤ) (instants offsets : List ℤ) (local : ℤ) : Type 0 where
   pub valid : validTable initial instants offsets ≡ true

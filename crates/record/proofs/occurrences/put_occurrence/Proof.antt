@@ -12,18 +12,21 @@ offset-of-requires c κs = search needs
 
 less-requires : tie.Need-less-requires
 less-requires c κs =
-    let l = c .before .before .since-1970 in
-    let p = c .before .before .before .before in
-    start-less _ (p .args .instants .now) (p .args .offsets .now) (p .fits .initial) (p .pre .1 .0) _ (p .args .times) (p .pre .1 .1)
-    _ (l .ok) (l .ensures) _ (c .offset-of .ok) (c .offset-of .ensures)
+    let o = c .before .before .offset-of in
+    let l = c .before .before .before .before .since-1970 in
+    let p = c .before .before .before .before .before .before .before in
+    start-less _ (p .args .instants .now) (p .args .offsets .now) (p .fits .initial) (p .pre .1 .0) _ (p .args .times) (p .pre .1 .1 .0)
+    _ (l .ok) (l .ensures) _ (o .ok) (o .ensures)
 
 end-of-requires : tie.Need-end-of-requires
 end-of-requires c κs =
-    let o = c .before .before .offset-of in
-    let l = c .before .before .before .before .since-1970 in
-    let p = c .before .before .before .before .before .before in
-    end-needs _ (p .args .instants .now) (p .args .offsets .now) (p .fits .initial) (p .pre .1 .0) _ (p .args .times) (p .pre .1 .1)
-    _ (l .ok) (l .ensures) _ (o .ok) (o .ensures)
+    let o = c .before .before .before .before .offset-of in
+    let l = c .before .before .before .before .before .before .since-1970 in
+    let p = c .before .before .before .before .before .before .before .before .before in (
+      end-needs _ (p .args .instants .now) (p .args .offsets .now) (p .fits .initial) (p .pre .1 .0) _ (p .args .times) (p .pre .1 .1 .0)
+          _ (l .ok) (l .ensures) _ (o .ok) (o .ensures),
+      search needs,
+    )
 
 marks-requires : tie.Need-marks-requires
 marks-requires c κs = search needs
@@ -37,16 +40,19 @@ put-record-requires c κs = search needs
 same-length : tie.Need-same-length
 same-length c = search needs
 
+same-length-2 : tie.Need-same-length-2
+same-length-2 c = search needs
+
 returns : tie.Need-returns
 returns c =
     let i = c .before .before .before .since-19702 in
     let m = c .before .before .before .before .before .marks in
-    let e = c .before .before .before .before .before .before .end-of in
-    let u = c .before .before .before .before .before .before .before .before .less in
-    let o = c .before .before .before .before .before .before .before .before .before .offset-of in
-    let l = c .before .before .before .before .before .before .before .before .before .before .before .since-1970 in
-    let p = c .before .before .before .before .before .before .before .before .before .before .before .before .before in
-    row-is _ (p .args .instants .now) (p .args .offsets .now) (p .fits .initial) (p .pre .1 .0) _ (p .args .times) (p .pre .1 .1)
+    let e = c .before .before .before .before .before .before .before .before .end-of in
+    let u = c .before .before .before .before .before .before .before .before .before .before .less in
+    let o = c .before .before .before .before .before .before .before .before .before .before .before .before .before .offset-of in
+    let l = c .before .before .before .before .before .before .before .before .before .before .before .before .before .before .before .since-1970 in
+    let p = c .before .before .before .before .before .before .before .before .before .before .before .before .before .before .before .before .before .before in
+    row-is _ (p .args .instants .now) (p .args .offsets .now) (p .fits .initial) (p .pre .1 .0) _ (p .args .times) (p .pre .1 .1 .0)
     _ (l .ok) (l .ensures) _ (o .ok) (o .ensures) _ (u .ok) (u .ensures) _ (e .ok) (e .ensures) _ (m .ensures) _ (i .ok) (i .ensures)
     _ _ _ (c .before .before .put-record .ensures)
 
@@ -62,4 +68,5 @@ put-occurrence-spec =
     since-1970-requires-2
     put-record-requires
     same-length
+    same-length-2
     returns)

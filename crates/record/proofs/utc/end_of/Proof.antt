@@ -14,38 +14,40 @@ end-offset-requires : tie.Need-end-offset-requires
 end-offset-requires c κs =
     let s = c .before .since-1970 in
     let n = c .before .before .local-end in
-    let p = c .before .before .before in
-    ending _ (p .args .instants .now) (p .args .offsets .now) (p .fits .initial) (p .pre .0) (p .args .times) (p .pre .1 .0) _ (p .fits .before) (p .pre .1 .1)
-    _ (n .ensures) _ (s .ok) (s .ensures)
+    let p = c .before .before .before .before in (
+      ending _ (p .args .instants .now) (p .args .offsets .now) (p .fits .initial) (p .args .times) _ (p .fits .before) (p .pre .0)
+          _ (n .ensures) _ (s .ok) (s .ensures),
+      c .before .before .before .before .pre .1,
+    )
 
 less-requires : tie.Need-less-requires
 less-requires c κs =
-    let s = c .before .before .since-1970 in
-    let n = c .before .before .before .local-end in
-    let p = c .before .before .before .before in
-    end-less _ (p .args .instants .now) (p .args .offsets .now) (p .fits .initial) (p .pre .0) (p .args .times) (p .pre .1 .0) _ (p .fits .before) (p .pre .1 .1)
-    _ (n .ensures) _ (s .ok) (s .ensures)
-    _ (c .end-offset .ok) (c .end-offset .ensures)
+    let s = c .before .before .before .before .since-1970 in
+    let n = c .before .before .before .before .before .local-end in
+    let p = c .before .before .before .before .before .before .before in
+    end-less _ (p .args .instants .now) (p .args .offsets .now) (p .fits .initial) (p .args .times) _ (p .fits .before) (p .pre .0)
+    _ (n .ensures) _ (s .ok) (s .ensures) _ (c .before .before .end-offset .ok) (c .before .before .end-offset .ensures)
 
 later-requires : tie.Need-later-requires
 later-requires c κs =
-    let s = c .before .before .before .since-1970 in
-    let n = c .before .before .before .before .local-end in
-    let p = c .before .before .before .before .before in
-    end-later _ (p .args .instants .now) (p .args .offsets .now) (p .fits .initial) (p .pre .0) (p .args .times) (p .pre .1 .0) _ (p .fits .before) (p .pre .1 .1)
-    _ (n .ensures) _ (s .ok) (s .ensures)
-    _ (c .before .end-offset .ok) (c .before .end-offset .ensures) _ (c .less .ok) (c .less .ensures)
+    let s = c .before .before .before .before .before .since-1970 in
+    let n = c .before .before .before .before .before .before .local-end in
+    let p = c .before .before .before .before .before .before .before .before in
+    end-later _ (p .args .instants .now) (p .args .offsets .now) (p .fits .initial) (p .args .times) _ (p .fits .before) (p .pre .0)
+    _ (n .ensures) _ (s .ok) (s .ensures) _ (c .before .before .before .end-offset .ok) (c .before .before .before .end-offset .ensures) _ (c .less .ok) (c .less .ensures)
+
+same-length : tie.Need-same-length
+same-length c = search needs
 
 returns : tie.Need-returns
 returns c =
-    let s = c .before .before .before .before .since-1970 in
-    let n = c .before .before .before .before .before .local-end in
-    let p = c .before .before .before .before .before .before in
-    end-is _ (p .args .instants .now) (p .args .offsets .now) (p .fits .initial) (p .pre .0) (p .args .times) (p .pre .1 .0) _ (p .fits .before) (p .pre .1 .1)
-    _ (n .ensures) _ (s .ok) (s .ensures)
-    _ (c .before .before .end-offset .ok) (c .before .before .end-offset .ensures) _ (c .before .less .ok) (c .before .less .ensures) _ (c .later .ok) (c .later .ensures)
+    let s = c .before .before .before .before .before .before .since-1970 in
+    let n = c .before .before .before .before .before .before .before .local-end in
+    let p = c .before .before .before .before .before .before .before .before .before in
+    end-is _ (p .args .instants .now) (p .args .offsets .now) (p .fits .initial) (p .args .times) _ (p .fits .before) (p .pre .0)
+    _ (n .ensures) _ (s .ok) (s .ensures) _ (c .before .before .before .before .end-offset .ok) (c .before .before .before .before .end-offset .ensures) _ (c .before .less .ok) (c .before .less .ensures) _ (c .later .ok) (c .later .ensures)
 
 pub end-of-spec : {M : Type 1} → statement M
 end-of-spec =
     tie.close
-    (tie.spec local-end-requires since-1970-requires end-offset-requires less-requires later-requires returns)
+    (tie.spec local-end-requires since-1970-requires end-offset-requires less-requires later-requires same-length returns)

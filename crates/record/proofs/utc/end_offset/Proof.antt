@@ -9,17 +9,20 @@ use Rattle.record.proofs.utc.end_offset.Tie as tie
 
 returns : tie.Need-returns
 returns c =
-    let p = c .before .before in
-    toZ-ofZ (p .fits .before) ∙ (p .pre .at-start ∙ no-days _ (p .args .instants .now) (p .args .offsets .now) (p .args .times) (c .if1 .taken))
+    let p = c .before .before .before in
+    toZ-ofZ (p .fits .before) ∙ (p .pre .0 .at-start ∙ no-days _ (p .args .instants .now) (p .args .offsets .now) (p .args .times) (c .if1 .taken))
 
 offset-of-requires : tie.Need-offset-of-requires
 offset-of-requires c κs = search needs
 
+same-length : tie.Need-same-length
+same-length c = search needs
+
 returns-2 : tie.Need-returns-2
 returns-2 c =
-    let p = c .before .before .before .before in
-    back _ (c .offset-of .ok)
-    ∙ end-found _ (p .args .instants .now) (p .args .offsets .now) (p .args .times) _ _ (p .fits .initial) (p .fits .local) (p .pre .at-end) (c .offset-of .ensures)
+    let p = c .before .before .before .before .before .before .before in
+    let o = c .before .before .offset-of in
+    back _ (o .ok) ∙ end-found _ (p .args .instants .now) (p .args .offsets .now) (p .args .times) _ _ (p .fits .initial) (p .fits .local) (p .pre .0 .at-end) (o .ensures)
 
 pub end-offset-spec : {M : Type 1} → statement M
-end-offset-spec = tie.close (tie.spec returns offset-of-requires returns-2)
+end-offset-spec = tie.close (tie.spec returns offset-of-requires same-length returns-2)
