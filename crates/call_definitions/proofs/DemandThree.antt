@@ -8,7 +8,6 @@ use mathlib.Core.Path.{_≡_, refl, sym, ap, ap₂, _∙_}
 use lib.Dec.{eqb}
 use lib.IntN.{ℤ}
 use lib.ListN.{length}
-use Rattle.signed.specs.Choose.{if_then_else_}
 use Rattle.signed.proofs.Parts.{false-true}
 use Rattle.rule.specs.Lists.{any}
 use Rattle.recurrence.specs.Event.{inSet}
@@ -17,14 +16,14 @@ use Rattle.recurrence.specs.Inner.Order.{among}
 use Rattle.recurrence.proofs.Ordered.{head-among}
 use Rattle.recurrence.proofs.Exactly.{ids-exactly}
 use Rattle.keywords.specs.declared.Privacy.{Privacy}
-use Rattle.keywords.specs.declared.Privacy.the-variants.{Public, Private, Secret}
+use Rattle.keywords.specs.declared.Privacy.the-variants.{Private, Secret}
 use Rattle.event.specs.Types.{Text, Details, Event}
-use Rattle.call_definitions.specs.Window.{since1600, since1970}
+use Rattle.call_definitions.specs.Window.{since1600}
 use Rattle.call_definitions.specs.Occurrence.{datesOf, isOccurrence, occurrences, detailsAt}
 use Rattle.call_definitions.specs.Utc.{ZoneTable, utcStart, utcEnd}
 use Rattle.call_definitions.specs.Bytes.{marksOf, recordOf, recordsOf, trailerOf, listed, tableOf}
-use Rattle.call_definitions.specs.Answer.{isSecret, outcomeBy, answerFor, expanded, dateTimeOf, textAnswerFor, textAnswer}
-use Rattle.call_definitions.specs.Call.{textFault, expandText, Shown, placeOf, noPlace, shownFor, shownAt, textOf}
+use Rattle.call_definitions.specs.Answer.{outcomeBy, answerFor, expanded, dateTimeOf, textAnswerFor, textAnswer}
+use Rattle.call_definitions.specs.Call.{expandText, Shown, placeOf, noPlace, shownFor, shownAt, textOf}
 use Rattle.event.specs.Event.{eventOf}
 use Rattle.call_definitions.specs.Agree.{Times, timesOf, Agree, Accepted}
 use Rattle.call_definitions.proofs.Same.{same-set, same-occurrences, same-times}

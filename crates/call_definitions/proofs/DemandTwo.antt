@@ -11,20 +11,18 @@ use lib.IntN.{ℤ}
 use lib.ListN.{length, length-append}
 use lib.Seq.{sets}
 use borrow.Author.Tests.{eqb-true}
-use Rattle.signed.specs.Choose.{if_then_else_}
 use Rattle.signed.proofs.Parts.{true-false}
-use Rattle.little_endian.specs.Bytes.{bytesOf, twos}
 use Rattle.little_endian.proofs.ByteLaws.{bytes-length}
 use Rattle.recurrence.specs.Inner.Order.{StrictlyIncreases, among}
 use Rattle.recurrence.specs.Inner.Within.{OccursWithin}
 use Rattle.recurrence.proofs.Exactly as recurrence
 use Rattle.keywords.specs.declared.Privacy.{Privacy}
 use Rattle.keywords.specs.declared.Privacy.the-variants.{Public, Private, Secret}
-use Rattle.event.specs.Types.{Details, Event}
-use Rattle.call_definitions.specs.Window.{since1600, since1970}
+use Rattle.event.specs.Types.{Event}
+use Rattle.call_definitions.specs.Window.{since1600}
 use Rattle.call_definitions.specs.Occurrence.{datesOf, occurrences, detailsAt}
 use Rattle.call_definitions.specs.Utc.{ZoneTable}
-use Rattle.call_definitions.specs.Bytes.{marksOf, recordOf, recordsOf, trailerOf, listed, tableOf}
+use Rattle.call_definitions.specs.Bytes.{recordOf, recordsOf, trailerOf, listed, tableOf}
 use Rattle.call_definitions.specs.Answer.{isSecret, Outcome, answerFor, outcomeBy, expanded}
 
 -- What a call that is answered 0 leaves.

@@ -1,8 +1,7 @@
 -- 01, "The sheet and the words": the bytes of the table of occurrences (01: "the sheet"). All numbers are little-endian.
 use Prim.Native.Nat.{ℕ, _+_, _*_}
-use mathlib.Core.Bool.{Bool, true, false}
-use mathlib.Core.List.{List, [], _∷_, _++_, map}
-use mathlib.Core.Option.{Option, none, some}
+use mathlib.Core.List.{List, [], _∷_, _++_}
+use mathlib.Core.Option.{Option}
 use lib.IntN.{ℤ}
 use lib.ListN.{length}
 use Rattle.signed.specs.Choose.{if_then_else_}

@@ -1,15 +1,15 @@
 -- Demand 1 of every call that keeps its contract: `Gives (expandText ..)` is that of the sheet's calls, `Shows (textOf ..)` and
 -- `Tells (textOf ..)` are those of the texts'.
-use Prim.Native.Nat.{ℕ, _<_}
+use Prim.Native.Nat.{ℕ}
 use mathlib.Core.Bool.{Bool, true, false, not, _&&_, _||_}
-use mathlib.Core.List.{List, [], _∷_, _++_}
+use mathlib.Core.List.{List, [], _∷_}
 use mathlib.Core.Option.{Option, none, some}
 use mathlib.Core.Path.{_≡_, refl, sym, ap, _∙_, subst}
 use native.Mathlib.Omega.{arith}
 use lib.Dec.{eqb}
 use lib.IntN.{ℤ}
 use lib.ListN.{take, drop}
-use borrow.Author.Tests.{eqb-true, eq-eqb, ne-eqb}
+use borrow.Author.Tests.{eqb-true, ne-eqb}
 use Rattle.signed.specs.Choose.{if_then_else_}
 use Rattle.rule.proofs.Bools.{by}
 use Rattle.keywords.specs.declared.Privacy.{Privacy}
@@ -18,10 +18,10 @@ use Rattle.event.specs.Event.{eventOf}
 use Rattle.call_definitions.specs.Occurrence.{isOccurrence, detailsAt}
 use Rattle.call_definitions.specs.Utc.{ZoneTable}
 use Rattle.call_definitions.specs.Bytes.{tableOf}
-use Rattle.call_definitions.specs.Answer.{Outcome, isSecret, isPublic, answerFor, outcomeBy, expanded, dateTimeOf, textAnswerFor, textAnswer}
+use Rattle.call_definitions.specs.Answer.{isSecret, isPublic, answerFor, outcomeBy, expanded, dateTimeOf, textAnswerFor, textAnswer}
 use Rattle.call_definitions.specs.Call.{textFault, expandText, Shown, placeFrom, placeOf, noPlace, shownFor, shownAt, textOf}
 use Rattle.call_definitions.specs.Results.{Gives, Shows, Tells}
-use Rattle.demands.specs.Conditions.{Numbered, Lowest, textConditions, callConditions, tableConditions, occursAt, wordsConditions}
+use Rattle.demands.specs.Conditions.{Lowest, textConditions, callConditions, tableConditions, occursAt, wordsConditions}
 use Rattle.demands.specs.One.{TableAnswered, TextAnswered, PartAnswered}
 use Rattle.demands.proofs.Lowest.{lowestOf, Rising, lowest-of}
 use Rattle.demands.proofs.TextAnswers.{lowest-join, text-lowest, text-rises}

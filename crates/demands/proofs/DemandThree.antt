@@ -2,7 +2,7 @@
 use Prim.Native.Nat.{ℕ, _+_, _*_, _≤_}
 use mathlib.Core.List.{List, [], _++_}
 use mathlib.Core.Option.{Option}
-use mathlib.Core.Path.{_≡_, refl, sym, ap, _∙_}
+use mathlib.Core.Path.{_≡_, sym, ap, _∙_}
 use native.Mathlib.Omega.{arith}
 use lib.IntN.{ℤ}
 use lib.ListN.{length}
@@ -13,7 +13,7 @@ use Rattle.event.specs.Event.{eventOf}
 use Rattle.call_definitions.specs.Agree.{Agree, Accepted}
 use Rattle.call_definitions.specs.Utc.{ZoneTable}
 use Rattle.call_definitions.specs.Bytes.{recordsOf, trailerOf}
-use Rattle.call_definitions.specs.Answer.{Outcome, isSecret, dateTimeOf, textAnswer}
+use Rattle.call_definitions.specs.Answer.{Outcome, isSecret}
 use Rattle.call_definitions.specs.Call.{Shown, expandText, noPlace, textOf}
 use Rattle.call_definitions.specs.Results.{Gives, Shows, Tells}
 use Rattle.call_definitions.proofs.DemandTwo.{table-written, trailer-length}

@@ -13,7 +13,7 @@ use mir.Val.{SFits, toZ, ofZ}
 use mir.Facts.{toZ-ofZ, toZ-pos}
 use Rattle.signed.proofs.Parts.{back}
 use Rattle.zone.specs.Table.{validTable}
-use Rattle.zone.specs.Lookup.{offsetAt, utcAt}
+use Rattle.zone.specs.Lookup.{utcAt}
 use Rattle.zone.proofs.RangeLaws.{abs-fits, sum-abs, difference-abs}
 use Rattle.zone.proofs.LookupLaws.{offset-abs}
 use Rattle.event.specs.Types.{Details}
@@ -21,7 +21,7 @@ use Rattle.call_definitions.specs.Window.{since1970}
 use Rattle.call_definitions.specs.Utc.{ZoneTable, isFloating, utcOf, utcStart, daysLater, utcEnd}
 use Rattle.call_definitions.proofs.UtcLaws.{since-near}
 use Rattle.record.specs.declared.Times.{Times}
-use Rattle.record.specs.Inner.Utc.{timesOf, offsetBy, localStart, localEnd, startOffset, endOffset, startBy, endBy, Begun, Ending}
+use Rattle.record.specs.Inner.Utc.{timesOf, offsetBy, localEnd, startOffset, endOffset, startBy, endBy, Begun, Ending}
 
 abbrev pub again : ℤ → ℤ
 again z = toZ w64 (ofZ w64 z)

@@ -3,7 +3,7 @@ use Prim.Native.Nat.{ℕ, _+_}
 use mathlib.Core.Bool.{false}
 use mathlib.Core.List.{List, [], _∷_}
 use mathlib.Core.Option.{none, some}
-use lib.IntN.{ℤ, pos, negℤ, negsuc}
+use lib.IntN.{pos, negℤ, negsuc}
 use Rattle.rule.specs.declared.Frequency.the-variants.{Daily, Weekly, Monthly, Yearly}
 use Rattle.json_text.specs.Ascii.{ascii}
 use Rattle.call_definitions.specs.Utc.{ZoneTable}

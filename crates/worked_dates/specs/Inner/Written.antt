@@ -7,7 +7,7 @@ use lib.IntN.{ℤ}
 use lib.ListN.{length}
 use Rattle.gregorian.specs.Days.{dayOf}
 use Rattle.rule.specs.declared.Frequency.{Frequency}
-use Rattle.rule.specs.Written.{NDay, RecurrenceRule}
+use Rattle.rule.specs.Written.{RecurrenceRule}
 use Rattle.little_endian.specs.Bytes.{bytesOf, twos}
 use Rattle.keywords.specs.declared.Privacy.the-variants.{Public}
 use Rattle.event.specs.Types.{Length, Details, Override, Event}

@@ -1,7 +1,6 @@
 -- `zone::offset` meets its contract: the hint still holds, or what lies between `low` and `high` is halved at each turn, but for four looks near it.
-use Prim.Native.Nat.{_≤_, _-_, _+_, _/_}
+use Prim.Native.Nat.{_-_}
 use native.Mathlib.Omega.{arith}
-use lib.ListN.{length}
 use mir.Syntax.{w64}
 use mir.Val.{toZ}
 use Rattle.zone.proofs.LookupLaws.{Halves, halves-start}
