@@ -19,7 +19,7 @@ use Rattle.call_definitions.specs.Utc.{ZoneTable, isFloating}
 use Rattle.call_definitions.specs.Bytes.{recordOf}
 use Rattle.record.specs.declared.Times.{Times}
 use Rattle.record.specs.Inner.Rows.{marksFor, rowOf}
-use Rattle.record.specs.Inner.Utc.{timesOf, offsetBy, localStart, startOffset, startBy, endBy, Begun}
+use Rattle.record.specs.Inner.Utc.{timesOf, offsetBy, localStart, startOffset, startBy, endBy, Started}
 use Rattle.record.specs.Inner.Occurrences.{occurrenceRow, Small}
 use Rattle.record.proofs.RowLaws.{marks-of, record-of}
 use Rattle.record.proofs.UtcLaws.{again, start-by, end-by, local-abs, by-abs}
@@ -40,12 +40,12 @@ module _ (b : ℤ) (ts ns : List ℤ) (f : SFits w64 b) (v : validTable b ts ns 
   unfolding startOffset
   offset-is = back O o ∙ (rw (toZ-ofZ f, local-is) at oe)
 
-  pub start-less : (natAbs (again L) ≤ 2 ^ 61) × (natAbs (again O) ≤ 86399)
+  pub start-converts : (natAbs (again L) ≤ 2 ^ 61) × (natAbs (again O) ≤ 86399)
   unfolding startOffset
-  start-less =
+  start-converts =
       (rw local-is (local-abs (t .start) (omega (arith, s .brief .start-small))), rw offset-is (by-abs (t .floating) b ts ns v (localStart t)))
 
-  pub end-needs : Begun t (again O) (again b) ts ns
+  pub end-needs : Started t (again O) (again b) ts ns
   end-needs = record { valid = rw (toZ-ofZ f) v; brief = s .brief; at-start = rw (toZ-ofZ f) offset-is }
 
   module _ (U : ℤ) (u : mag U < 2 ^ 63) (ue : U ≡ again L -ℤ again O) (E : ℤ) (e : mag E < 2 ^ 63) (ee : E ≡ endBy (again b) ts ns t)

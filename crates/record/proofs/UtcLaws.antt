@@ -21,7 +21,7 @@ use Rattle.call_definitions.specs.Window.{since1970}
 use Rattle.call_definitions.specs.Utc.{ZoneTable, isFloating, utcOf, utcStart, daysLater, utcEnd}
 use Rattle.call_definitions.proofs.UtcLaws.{since-near}
 use Rattle.record.specs.declared.Times.{Times}
-use Rattle.record.specs.Inner.Utc.{timesOf, offsetBy, localEnd, startOffset, endOffset, startBy, endBy, Begun, Ending}
+use Rattle.record.specs.Inner.Utc.{timesOf, offsetBy, localEnd, startOffset, endOffset, startBy, endBy, Started, Ending}
 
 abbrev pub again : ℤ → ℤ
 again z = toZ w64 (ofZ w64 z)
@@ -46,11 +46,11 @@ module _ (table : ZoneTable) (zone : Option (List ℕ)) (d : Details) where
 -- ---- a local time less an offset, and seconds later
 
 module _ (a b : ℤ) (f : SFits w64 a) (g : SFits w64 b) (p : natAbs a ≤ 2 ^ 61) (q : natAbs b ≤ 86399) where
-  pub less-fits : SFits w64 (again a -ℤ again b)
-  less-fits = rw (toZ-ofZ f, toZ-ofZ g) (abs-fits (a -ℤ b) (omega (arith, difference-abs a b 86399 q)))
+  pub utc-fits : SFits w64 (again a -ℤ again b)
+  utc-fits = rw (toZ-ofZ f, toZ-ofZ g) (abs-fits (a -ℤ b) (omega (arith, difference-abs a b 86399 q)))
 
-  pub less-is : again (again a -ℤ again b) ≡ a -ℤ b
-  less-is = toZ-ofZ less-fits ∙ (rw (toZ-ofZ f, toZ-ofZ g))
+  pub utc-is : again (again a -ℤ again b) ≡ a -ℤ b
+  utc-is = toZ-ofZ utc-fits ∙ (rw (toZ-ofZ f, toZ-ofZ g))
 
 module _ (t : ℤ) (f : SFits w64 t) (n : ℕ) (p : natAbs t ≤ 2 ^ 62) (q : n ≤ 2 ^ 40) where
   sum-is : again t +ℤ toZ w64 n ≡ t +ℤ pos n
@@ -87,7 +87,7 @@ end-found b ts ns t local r f g is e = rw (toZ-ofZ f, toZ-ofZ g, is) at e
 
 -- ---- the calls of `end_of`, one after the other: B the offset at the start, L the local end, O the offset there, U the local end in UTC
 
-module _ (b : ℤ) (ts ns : List ℤ) (f : SFits w64 b) (t : Times) (B : ℤ) (g : SFits w64 B) (known : Begun t B b ts ns)
+module _ (b : ℤ) (ts ns : List ℤ) (f : SFits w64 b) (t : Times) (B : ℤ) (g : SFits w64 B) (known : Started t B b ts ns)
     (n : ℕ) (sum : n ≡ t .start + 86400 * t .days) (L : ℤ) (l : mag L < 2 ^ 63) (le : L ≡ since1970 n) where
   end-local : again L ≡ localEnd t
   unfolding daysLater
@@ -100,9 +100,9 @@ module _ (b : ℤ) (ts ns : List ℤ) (f : SFits w64 b) (t : Times) (B : ℤ) (g
     end-offset : again O ≡ endOffset b ts ns t
     end-offset = back O o ∙ (rw (toZ-ofZ f) at oe)
 
-    pub end-less : (natAbs (again L) ≤ 2 ^ 61) × (natAbs (again O) ≤ 86399)
+    pub end-converts : (natAbs (again L) ≤ 2 ^ 61) × (natAbs (again O) ≤ 86399)
     unfolding endOffset daysLater
-    end-less =
+    end-converts =
         (rw end-local (local-abs _ (omega (arith, known .brief .start-small, known .brief .length-small))), rw end-offset (by-abs (t .floating) b ts ns (known .valid) (localEnd t)))
 
     module _ (U : ℤ) (u : mag U < 2 ^ 63) (ue : U ≡ again L -ℤ again O) where
@@ -111,7 +111,7 @@ module _ (b : ℤ) (ts ns : List ℤ) (f : SFits w64 b) (t : Times) (B : ℤ) (g
 
       pub end-later : (natAbs (again U) ≤ 2 ^ 62) × (t .seconds ≤ 2 ^ 40)
       end-later =
-          (rw (back U u, ue) (omega (arith, difference-abs (again L) (again O) 86399 (end-less .1), end-less .0)), omega (arith, known .brief .length-small))
+          (rw (back U u, ue) (omega (arith, difference-abs (again L) (again O) 86399 (end-converts .1), end-converts .0)), omega (arith, known .brief .length-small))
 
       pub end-is : (E : ℤ) → mag E < 2 ^ 63 → E ≡ again U +ℤ pos (t .seconds) → again E ≡ endBy b ts ns t
       unfolding endBy

@@ -1,18 +1,15 @@
 // The record of one occurrence: its times in UTC, and its marks.
-ghost use mathlib.Core.Bool.{true};
 ghost use mathlib.Core.Path.{_≡_};
-ghost use Prim.Native.Nat.{_+_, _≤_};
 ghost use lib.ListN.{length};
 ghost use lib.Seq.{sets};
-ghost use Rattle.zone.specs.Table.{validTable};
-ghost use Rattle.record.specs.Inner.Occurrences.{occurrenceRow, Small};
+ghost use Rattle.record.specs.Inner.Occurrences.{occurrenceRow, PutsRecord};
 use crate::Times;
 use crate::rows::marks;
 use crate::rows::put_record;
 use crate::utc::START;
 use crate::utc::end_of;
-use crate::utc::less;
 use crate::utc::offset_of;
+use crate::utc::to_utc;
 use crate::window::since_1970;
 
 // The record of the occurrence `id` at a place of the buffer. The two hints say where in the zone table the last offsets were found.
@@ -26,7 +23,7 @@ pub fn put_occurrence(
     offsets: &[i64],
     hints: &mut [usize],
 )
-    requires { ⌜ (at + 28 ≤ length (now buf)) × ((validTable initial (now instants) (now offsets) ≡ true) × (Small id times × (length (now hints) ≡ 2))) ⌝ }
+    requires { ⌜ PutsRecord (length (now buf)) at id times initial (now instants) (now offsets) (length (now hints)) ⌝ }
     ensures { λ _. ⌜ now (buf .exit) ≡ sets (now (buf .entry)) at (occurrenceRow initial (now (instants .entry)) (now (offsets .entry)) id times) ⌝ }
 {
     let local = since_1970(times.start);
@@ -39,7 +36,7 @@ pub fn put_occurrence(
         hints,
         START,
     );
-    let start = less(local, offset);
+    let start = to_utc(local, offset);
     let end = end_of(times, offset, initial, instants, offsets, hints);
     let m = marks(times.busy, times.allday, times.floating);
     put_record(buf, at, since_1970(id), start, end, m);

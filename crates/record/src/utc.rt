@@ -5,7 +5,7 @@ ghost use Prim.Native.Nat.{_+_, _*_, _<_, _≤_, _^_};
 ghost use lib.IntN.{pos, natAbs, _+ℤ_, _-ℤ_};
 ghost use lib.ListN.{length};
 ghost use Rattle.zone.specs.Table.{validTable};
-ghost use Rattle.record.specs.Inner.Utc.{offsetBy, endOffset, endBy, Brief, Begun, Ending};
+ghost use Rattle.record.specs.Inner.Utc.{offsetBy, endOffset, endBy, Brief, Started, Ending};
 use crate::Times;
 use crate::window::since_1970;
 
@@ -36,7 +36,8 @@ pub(crate) fn offset_of(
     offset
 }
 
-pub(crate) fn less(local: i64, offset: i64) -> i64
+// UTC is local less the offset.
+pub(crate) fn to_utc(local: i64, offset: i64) -> i64
     requires { ⌜ (natAbs local ≤ 2 ^ 61) × (natAbs offset ≤ 86399) ⌝ }
     ensures { λ r. ⌜ r ≡ local -ℤ offset ⌝ }
 {
@@ -94,11 +95,11 @@ pub(crate) fn end_of(
     offsets: &[i64],
     hints: &mut [usize],
 ) -> i64
-    requires { ⌜ Begun times before initial (now instants) (now offsets) × (length (now hints) ≡ 2) ⌝ }
+    requires { ⌜ Started times before initial (now instants) (now offsets) × (length (now hints) ≡ 2) ⌝ }
     ensures { λ r. ⌜ r ≡ endBy initial (now (instants .entry)) (now (offsets .entry)) times ⌝ }
 {
     let local = since_1970(local_end(times));
     let offset = end_offset(times, before, initial, instants, offsets, local, hints);
-    let utc = less(local, offset);
+    let utc = to_utc(local, offset);
     later(utc, times.seconds)
 }

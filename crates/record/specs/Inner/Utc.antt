@@ -46,7 +46,7 @@ pub record Brief (t : Times) : Type 0 where
   pub length-small : 86400 * t .days + t .seconds ≤ 2 ^ 40
 
 -- What the end is found from: the offset at the start, over a table that is valid.
-pub record Begun (t : Times) (before initial : ℤ) (instants offsets : List ℤ) : Type 0 where
+pub record Started (t : Times) (before initial : ℤ) (instants offsets : List ℤ) : Type 0 where
   pub valid : validTable initial instants offsets ≡ true
   pub brief : Brief t
   pub at-start : before ≡ startOffset initial instants offsets t

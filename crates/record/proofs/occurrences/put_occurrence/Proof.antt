@@ -1,5 +1,5 @@
 -- `record::occurrences::put_occurrence` meets its contract: what the calls give is the record.
-use Rattle.record.proofs.OccurrenceLaws.{start-less, end-needs, row-is}
+use Rattle.record.proofs.OccurrenceLaws.{start-converts, end-needs, row-is}
 use borrow.Author.Needs.{needs}
 use Rattle.record.proofs.occurrences.put_occurrence.Statement.{statement}
 use Rattle.record.proofs.occurrences.put_occurrence.Tie as tie
@@ -10,12 +10,12 @@ since-1970-requires c κs = search needs
 offset-of-requires : tie.Need-offset-of-requires
 offset-of-requires c κs = search needs
 
-less-requires : tie.Need-less-requires
-less-requires c κs =
+to-utc-requires : tie.Need-to-utc-requires
+to-utc-requires c κs =
     let o = c .before .before .offset-of in
     let l = c .before .before .before .before .since-1970 in
     let p = c .before .before .before .before .before .before .before in
-    start-less _ (p .args .instants .now) (p .args .offsets .now) (p .fits .initial) (p .pre .1 .0) _ (p .args .times) (p .pre .1 .1 .0)
+    start-converts _ (p .args .instants .now) (p .args .offsets .now) (p .fits .initial) (p .pre .valid) _ (p .args .times) (p .pre .small)
     _ (l .ok) (l .ensures) _ (o .ok) (o .ensures)
 
 end-of-requires : tie.Need-end-of-requires
@@ -23,7 +23,7 @@ end-of-requires c κs =
     let o = c .before .before .before .before .offset-of in
     let l = c .before .before .before .before .before .before .since-1970 in
     let p = c .before .before .before .before .before .before .before .before .before in (
-      end-needs _ (p .args .instants .now) (p .args .offsets .now) (p .fits .initial) (p .pre .1 .0) _ (p .args .times) (p .pre .1 .1 .0)
+      end-needs _ (p .args .instants .now) (p .args .offsets .now) (p .fits .initial) (p .pre .valid) _ (p .args .times) (p .pre .small)
           _ (l .ok) (l .ensures) _ (o .ok) (o .ensures),
       search needs,
     )
@@ -48,11 +48,11 @@ returns c =
     let i = c .before .before .before .since-19702 in
     let m = c .before .before .before .before .before .marks in
     let e = c .before .before .before .before .before .before .before .before .end-of in
-    let u = c .before .before .before .before .before .before .before .before .before .before .less in
+    let u = c .before .before .before .before .before .before .before .before .before .before .to-utc in
     let o = c .before .before .before .before .before .before .before .before .before .before .before .before .before .offset-of in
     let l = c .before .before .before .before .before .before .before .before .before .before .before .before .before .before .before .since-1970 in
     let p = c .before .before .before .before .before .before .before .before .before .before .before .before .before .before .before .before .before .before in
-    row-is _ (p .args .instants .now) (p .args .offsets .now) (p .fits .initial) (p .pre .1 .0) _ (p .args .times) (p .pre .1 .1 .0)
+    row-is _ (p .args .instants .now) (p .args .offsets .now) (p .fits .initial) (p .pre .valid) _ (p .args .times) (p .pre .small)
     _ (l .ok) (l .ensures) _ (o .ok) (o .ensures) _ (u .ok) (u .ensures) _ (e .ok) (e .ensures) _ (m .ensures) _ (i .ok) (i .ensures)
     _ _ _ (c .before .before .put-record .ensures)
 
@@ -62,7 +62,7 @@ put-occurrence-spec =
     (tie.spec
     since-1970-requires
     offset-of-requires
-    less-requires
+    to-utc-requires
     end-of-requires
     marks-requires
     since-1970-requires-2

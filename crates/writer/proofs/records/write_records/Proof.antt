@@ -49,10 +49,13 @@ put-occurrence-requires c κs =
     let t = c .before .before .times-at in
     let i = c .before .before .before .before .before .loop in
     let more = c .before .before .before .before .loop-test .taken in
-    let q = c .before .before .before .before .before .before .before .before .before .before .before .before in (
-      chunk-room _ _ _ _ _ _ _ (i .inv .1) more (q .pre .room),
-      (writes-again _ _ _ _ _ _ _ _ (q .fits .initial) (q .pre .writes) .valid, (subst (Small _) (sym (t .ensures)) (q .pre .writes .small _ (q .pre .early (i .i) more)), i .inv .0)),
-    )
+    let q = c .before .before .before .before .before .before .before .before .before .before .before .before in
+    record {
+      room = chunk-room _ _ _ _ _ _ _ (i .inv .1) more (q .pre .room);
+      valid = writes-again _ _ _ _ _ _ _ _ (q .fits .initial) (q .pre .writes) .valid;
+      small = subst (Small _) (sym (t .ensures)) (q .pre .writes .small _ (q .pre .early (i .i) more));
+      two = i .inv .0;
+    }
 
 add-place : tie.Need-add-place Inv-loop μ-loop
 add-place c =
