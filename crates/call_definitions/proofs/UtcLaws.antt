@@ -64,18 +64,18 @@ pub since-near : (x k : ℕ) → x ≤ k → epoch ≤ k → natAbs (since1970 x
 unfolding since1970
 since-near x k h e = parts-abs (subℕ x epoch) k (omega (arith, subℕ-pos x epoch)) (omega (arith, subℕ-neg x epoch))
 
-module _ (table : ZoneTable) (valid : validTable (table .initial) (table .instants) (table .offsets) ≡ true) (zone : Option (List ℕ)) where
+module _ (table : ZoneTable) (valid : validTable (table .initial) (table .instants) (table .offsets) ≡ true) where
   utc-near : (zone : Option (List ℕ)) (t : ℤ) → natAbs (utcOf table zone t) ≤ natAbs t + 86399
   unfolding utcOf
   utc-near none t = omega arith
   utc-near (some name) t = utc-abs (table .initial) (table .instants) (table .offsets) valid t
 
-  module _ (d : Details) (k : ℕ) (h : d .start ≤ k) (e : epoch ≤ k) where
+  module _ (zone : Option (List ℕ)) (d : Details) (k : ℕ) (h : d .start ≤ k) (e : epoch ≤ k) where
     pub start-near : natAbs (utcStart table zone d) ≤ k + 86399
     unfolding utcStart
     start-near = omega (arith, utc-near zone (since1970 (d .start)), since-near (d .start) k h e)
 
-    -- The days may lead past 9998. The look-up goes on as before: its last offset holds.
+    -- The days may lead past 9998: the look-up goes on there.
     pub end-near : natAbs (utcEnd table zone d) ≤ k + 86399 + fixed d
     unfolding utcEnd daysLater
     end-near =

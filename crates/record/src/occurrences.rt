@@ -12,7 +12,8 @@ use crate::utc::offset_of;
 use crate::utc::to_utc;
 use crate::window::since_1970;
 
-// The record of the occurrence `id` at a place of the buffer. The two hints say where in the zone table the last offsets were found.
+// The record of the occurrence `id` at a place of the buffer. The two hints say where in the zone table the last offsets were found: any are
+// right, so which ones are left is not promised.
 pub fn put_occurrence(
     buf: &mut [u8],
     at: usize,

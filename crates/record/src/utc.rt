@@ -14,7 +14,7 @@ pub(crate) const START: usize = 0;
 
 const END: usize = 1;
 
-// The offset at a local time, looked for near the hint at a place of the two.
+// The offset at a local time, looked for near the hint at a place of the two. Any hint is right, so which one is left is not promised.
 pub(crate) fn offset_of(
     floating: bool,
     initial: i64,
