@@ -1,3 +1,4 @@
 pub mod Runs
 pub mod Records
+pub mod Writing
 pub mod Reading
