@@ -1,9 +1,9 @@
 -- Numbers as bytes (01, "The sheet and the words": "Little-endian.").
-use Prim.Native.Nat.{ℕ, zero, suc, _+_, _*_, _-_, _/_, _%_, _^_}
+use Prim.Native.Nat.{ℕ, zero, suc, _+_, _*_, _-_, _/_, _%_, _<_, _^_}
 use mathlib.Core.List.{List, [], _∷_}
 use lib.Dec.{ltb}
 use lib.IntN.{ℤ, pos, negsuc}
-use lib.ListN.{take, drop}
+use lib.ListN.{getD, take, drop}
 use Rattle.signed.specs.Choose.{if_then_else_}
 
 -- the n lowest bytes of v, the lowest first
@@ -29,3 +29,7 @@ numberAt n i s = valueOf (take n (drop i s))
 -- The signed number of which v is the two's complement in 64 bits.
 unfoldable pub signedOf : ℕ → ℤ
 signedOf v = if ltb v (2 ^ 63) then pos v else negsuc (2 ^ 64 - 1 - v)
+
+-- Each number of the list is a byte.
+abbrev pub AllBytes : List ℕ → Type 0
+AllBytes s = (k : ℕ) → getD s k 0 < 256

@@ -1,12 +1,13 @@
 -- Laws of `every` and `tabulate`.
 use Prim.Native.Nat.{ℕ, zero, suc, _+_, _-_, _<_, _≤_}
 use mathlib.Core.Bool.{Bool, true, false}
-use mathlib.Core.List.{map}
+use mathlib.Core.List.{List, _∷_, map}
 use mathlib.Core.Path.{_≡_, refl, sym, ap, _∙_}
 use native.Mathlib.Omega.{arith}
 use native.Mathlib.Numerals.{add-one, sub-one}
 use lib.Dec.{ltb}
-use lib.ListN.{length, getD, set}
+use lib.ListN.{length, getD, set, drop, drop-of-length-le}
+use lib.Seq.{drop-cons}
 use borrow.Author.Tests.{ltb-true, ltb-false}
 use Rattle.rule.proofs.Bools.{by, left, right}
 use Rattle.sheet.specs.Runs.{tabulate, every}
@@ -82,6 +83,14 @@ module _ {A : Type 0} where
   tab-set f g k (suc n) (suc j) v h o =
       let e : suc k + j ≡ k + suc j = omega arith in
       rw (o k (λ r. omega arith), tab-set f g (suc k) n j v (λ p. ap g e ∙ h (omega arith)) (λ i p. o i (λ r. p (omega arith))))
+
+  -- a list is the run of its elements
+  pub tab-drop : (f : ℕ → A) (l : List A) (d : A) (k n : ℕ) → k + n ≡ length l → ((j : ℕ) → j < length l → f j ≡ getD l j d) → tabulate f k n ≡ drop k l
+  unfolding tabulate
+  tab-drop f l d k zero h e = sym (drop-of-length-le l {i = k} (omega arith))
+  tab-drop f l d k (suc n) h e =
+      let x : k < length l = omega arith in
+      rw (e k x, tab-drop f l d (suc k) n (omega arith) e) (sym (drop-cons l k d x))
 
 pub tab-map : {A B : Type 0} (g : A → B) (f : ℕ → A) (k n : ℕ) → map g (tabulate f k n) ≡ tabulate (λ i. g (f i)) k n
 unfolding tabulate
