@@ -6,7 +6,8 @@ ghost use Rattle.sheet.specs.Runs.{tabulate};
 ghost use Rattle.weeks.specs.Inner.Marks.{Span, afterOf, spanAt, raiseAll, raise as Marks·raise, larger as Marks·larger};
 use crate::instants::first_of;
 use crate::instants::up;
-use little_endian::reading::get_i64;
+use sheet_reader::fields::end_at;
+use sheet_reader::fields::start_at;
 use signed::positive_part;
 
 pub(crate) fn larger(a: u64, b: u64) -> u64
@@ -51,8 +52,8 @@ fn mark(s: &[u8], k: usize, b: u64, p: &mut [i64])
     requires { ⌜ 28 * k + 28 ≤ length (now s) ⌝ }
     ensures { λ _. ⌜ now (p .exit) ≡ Marks·raise (now (p .entry)) (spanAt (now (s .entry)) b k) ⌝ }
 {
-    let x = up(get_i64(s, 28 * k + 8));
-    let y = up(get_i64(s, 28 * k + 16));
+    let x = up(start_at(s, k));
+    let y = up(end_at(s, k));
     raise(p, first_of(b, x), after_of(b, x, y));
 }
 

@@ -27,7 +27,7 @@ pub goes-on : (t : Bool) (x m : ℕ) → 0 < m → (if not t then m else x) ≡ 
 goes-on true x m h e = (refl, e)
 goes-on false x m h e = absurd (omega arith)
 
-long-enough : (t : Bool) (x m : ℕ) → 0 < m → (if t then m else x) ≡ 0 → (t ≡ false) × (x ≡ 0)
+pub long-enough : (t : Bool) (x m : ℕ) → 0 < m → (if t then m else x) ≡ 0 → (t ≡ false) × (x ≡ 0)
 long-enough false x m h e = (refl, e)
 long-enough true x m h e = absurd (omega arith)
 

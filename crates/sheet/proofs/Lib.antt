@@ -4,3 +4,4 @@ pub mod Worked
 pub mod WrittenLaws
 pub mod WrittenRead
 pub mod ReadWritten
+pub mod FetchLaws

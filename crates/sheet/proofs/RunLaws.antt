@@ -1,12 +1,12 @@
 -- Laws of `every` and `tabulate`.
-use Prim.Native.Nat.{ℕ, zero, suc, _+_, _-_, _<_, _≤_}
+use Prim.Native.Nat.{ℕ, zero, suc, _+_, _-_, _<_, _≤_, min}
 use mathlib.Core.Bool.{Bool, true, false}
 use mathlib.Core.List.{List, _∷_, map}
-use mathlib.Core.Path.{_≡_, refl, sym, ap, _∙_}
+use mathlib.Core.Path.{_≡_, refl, sym, ap, ap₂, _∙_}
 use native.Mathlib.Omega.{arith}
 use native.Mathlib.Numerals.{add-one, sub-one}
 use lib.Dec.{ltb}
-use lib.ListN.{length, getD, set, drop, drop-of-length-le}
+use lib.ListN.{length, getD, set, take, drop, drop-of-length-le}
 use lib.Seq.{drop-cons}
 use borrow.Author.Tests.{ltb-true, ltb-false}
 use Rattle.rule.proofs.Bools.{by, left, right}
@@ -83,6 +83,26 @@ module _ {A : Type 0} where
   tab-set f g k (suc n) (suc j) v h o =
       let e : suc k + j ≡ k + suc j = omega arith in
       rw (o k (λ r. omega arith), tab-set f g (suc k) n j v (λ p. ap g e ∙ h (omega arith)) (λ i p. o i (λ r. p (omega arith))))
+
+  pub tab-take : (f : ℕ → A) (k n m : ℕ) → take m (tabulate f k n) ≡ tabulate f k (min m n)
+  unfolding tabulate
+  tab-take f k n zero = let e : 0 ≡ min 0 n = omega arith in ap (tabulate f k) e
+  tab-take f k zero (suc m) = let e : 0 ≡ min (suc m) 0 = omega arith in ap (tabulate f k) e
+  tab-take f k (suc n) (suc m) =
+      let e : suc (min m n) ≡ min (suc m) (suc n) = omega arith in
+      ap (λ (l : List A). f k ∷ l) (tab-take f (suc k) n m) ∙ ap (tabulate f k) e
+
+  pub tab-past : (f : ℕ → A) (k n j : ℕ) → drop j (tabulate f k n) ≡ tabulate f (k + j) (n - j)
+  unfolding tabulate
+  tab-past f k n zero =
+      let a : k ≡ k + 0 = omega arith in
+      let b : n ≡ n - 0 = omega arith in
+      ap₂ (tabulate f) a b
+  tab-past f k zero (suc j) = let b : 0 ≡ 0 - suc j = omega arith in ap (tabulate f (k + suc j)) b
+  tab-past f k (suc n) (suc j) =
+      let a : suc k + j ≡ k + suc j = omega arith in
+      let b : n - j ≡ suc n - suc j = omega arith in
+      tab-past f (suc k) n j ∙ ap₂ (tabulate f) a b
 
   -- a list is the run of its elements
   pub tab-drop : (f : ℕ → A) (l : List A) (d : A) (k n : ℕ) → k + n ≡ length l → ((j : ℕ) → j < length l → f j ≡ getD l j d) → tabulate f k n ≡ drop k l

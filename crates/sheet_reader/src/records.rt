@@ -1,35 +1,36 @@
-// The records of a sheet, judged: ids that strictly increase, marks of the version, zeros. Each is judged over all records before the next.
+// The records of a sheet, judged: ids that strictly increase, marks of the version, zeros. One pass finds that nothing is wrong; only where
+// something is, each is judged over all records before the next.
 ghost use mathlib.Core.Path.{_≡_};
-ghost use Prim.Native.Nat.{_+_, _*_, _-_, _≤_};
+ghost use Prim.Native.Nat.{_+_, _*_, _-_, _<_, _≤_};
 ghost use lib.ListN.{length};
 ghost use Rattle.sheet.specs.Runs.{every};
 ghost use Rattle.sheet.specs.Reading.{risesAt, markedAt, clearAt, faultInRows};
-use little_endian::reading::get_i64;
-use little_endian::reading::get_u8;
-use little_endian::reading::get_u24;
+ghost use Rattle.sheet_reader.specs.Inner.Good.{soundAt, goodFrom};
+use crate::fields::id_at;
+use crate::fields::marks_at;
+use crate::fields::zeros_at;
+use little_endian::reading::get_u32;
 
 // The id of record k is below that of the next one.
 fn rises(s: &[u8], k: usize) -> bool
     requires { ⌜ 28 * k + 56 ≤ length (now s) ⌝ }
     ensures { λ r. ⌜ r ≡ risesAt (now (s .entry)) k ⌝ }
 {
-    let a = get_i64(s, 28 * k);
-    let b = get_i64(s, 28 * k + 28);
-    a < b
+    id_at(s, k) < id_at(s, k + 1)
 }
 
-fn marked(s: &[u8], k: usize, most: u64) -> bool
+fn marked(s: &[u8], k: usize, most: u32) -> bool
     requires { ⌜ 28 * k + 28 ≤ length (now s) ⌝ }
     ensures { λ r. ⌜ r ≡ markedAt most (now (s .entry)) k ⌝ }
 {
-    get_u8(s, 28 * k + 24) <= most
+    marks_at(s, k) <= most
 }
 
 fn clear(s: &[u8], k: usize) -> bool
     requires { ⌜ 28 * k + 28 ≤ length (now s) ⌝ }
     ensures { λ r. ⌜ r ≡ clearAt (now (s .entry)) k ⌝ }
 {
-    get_u24(s, 28 * k + 25) == 0
+    zeros_at(s, k) == 0
 }
 
 fn rising(s: &[u8], n: usize) -> bool
@@ -48,7 +49,7 @@ fn rising(s: &[u8], n: usize) -> bool
     true
 }
 
-fn all_marked(s: &[u8], n: usize, most: u64) -> bool
+fn all_marked(s: &[u8], n: usize, most: u32) -> bool
     requires { ⌜ 28 * n ≤ length (now s) ⌝ }
     ensures { λ r. ⌜ r ≡ every (markedAt most (now (s .entry))) 0 n ⌝ }
 {
@@ -80,11 +81,44 @@ fn all_clear(s: &[u8], n: usize) -> bool
     true
 }
 
-// Of n records: 0, or 38 to 40.
-pub(crate) fn judge_rows(s: &[u8], most: u64, n: usize) -> u32
+// The marks and the zeros of record k, as one number.
+fn sound(s: &[u8], k: usize, most: u32) -> bool
+    requires { ⌜ 28 * k + 28 ≤ length (now s) ⌝ }
+    ensures { λ r. ⌜ r ≡ soundAt most (now (s .entry)) k ⌝ }
+{
+    get_u32(s, 28 * k + 24) <= most as u64
+}
+
+fn all_good(s: &[u8], n: usize, most: u32) -> bool
     requires { ⌜ 28 * n ≤ length (now s) ⌝ }
+    ensures { λ r. ⌜ r ≡ goodFrom most (now (s .entry)) 0 n ⌝ }
+{
+    if n == 0 {
+        return true;
+    }
+    let mut i = 0;
+    let mut rest = n;
+    while 1 < rest {
+        if !rises(s, i) {
+            return false;
+        }
+        if !sound(s, i, most) {
+            return false;
+        }
+        i += 1;
+        rest -= 1;
+    }
+    sound(s, i, most)
+}
+
+// Of n records: 0, or 38 to 40.
+pub(crate) fn judge_rows(s: &[u8], most: u32, n: usize) -> u32
+    requires { ⌜ (28 * n ≤ length (now s)) × (most < 256) ⌝ }
     ensures { λ r. ⌜ r ≡ faultInRows (now (s .entry)) most n ⌝ }
 {
+    if all_good(s, n, most) {
+        return 0;
+    }
     if !rising(s, n) {
         return 38;
     }

@@ -2,7 +2,7 @@
 ghost use mathlib.Core.Path.{_≡_};
 ghost use Prim.Native.Nat.{_+_, _*_, _≤_};
 ghost use lib.ListN.{length};
-ghost use Rattle.sheet.specs.Reading.{countOf, faultOf};
+ghost use Rattle.sheet.specs.Reading.{versionOf, countOf, faultOf};
 use crate::records::judge_rows;
 use little_endian::reading::get_u16;
 use little_endian::reading::get_u32;
@@ -39,4 +39,13 @@ pub fn count(s: &[u8]) -> usize
 {
     let at = s.len() - 12;
     get_u32(s, at + 4) as usize
+}
+
+// The version that the trailer says.
+pub fn version(s: &[u8]) -> u32
+    requires { ⌜ 12 ≤ length (now s) ⌝ }
+    ensures { λ r. ⌜ r ≡ versionOf (now (s .entry)) ⌝ }
+{
+    let at = s.len() - 12;
+    get_u16(s, at + 2) as u32
 }

@@ -2,31 +2,19 @@
 use Prim.Native.Nat.{_-_}
 use Rattle.signed.proofs.Parts.{back}
 use Rattle.weeks.specs.Inner.Marks.{up, spanOf, spanAt, raise}
-use Rattle.sheet.specs.Records.{startAt, endAt, rowAt}
+use Rattle.sheet.specs.Records.{rowAt}
 use borrow.Author.Needs.{needs}
 use Rattle.replay.proofs.spans.mark.Statement.{statement}
 use Rattle.replay.proofs.spans.mark.Tie as tie
 
-mul-get-i64 : tie.Need-mul-get-i64
-mul-get-i64 c = search needs
-
-add-get-i64 : tie.Need-add-get-i64
-add-get-i64 c = search needs
-
-get-i64-requires : tie.Need-get-i64-requires
-get-i64-requires c κs = search needs
+start-at-requires : tie.Need-start-at-requires
+start-at-requires c κs = search needs
 
 up-requires : tie.Need-up-requires
 up-requires c κs = search needs
 
-mul-get-i64-2 : tie.Need-mul-get-i64-2
-mul-get-i64-2 c = search needs
-
-add-get-i64-2 : tie.Need-add-get-i64-2
-add-get-i64-2 c = search needs
-
-get-i64-requires-2 : tie.Need-get-i64-requires-2
-get-i64-requires-2 c κs = search needs
+end-at-requires : tie.Need-end-at-requires
+end-at-requires c κs = search needs
 
 up-requires-2 : tie.Need-up-requires-2
 up-requires-2 c κs = search needs
@@ -44,10 +32,10 @@ same-length : tie.Need-same-length
 same-length c = search needs
 
 returns : tie.Need-returns
-unfolding spanAt spanOf rowAt startAt endAt
+unfolding spanAt spanOf rowAt
 returns c =
-    let gx = c .before .before .before .before .before .before .before .before .get-i64 in
-    let gy = c .before .before .before .before .before .before .get-i642 in
+    let gx = c .before .before .before .before .before .before .before .before .start-at in
+    let gy = c .before .before .before .before .before .before .end-at in
     rw (
       c .before .raise .ensures,
       c .before .before .before .first-of .ensures .0,
@@ -64,13 +52,9 @@ pub mark-spec : {M : Type 1} → statement M
 mark-spec =
     tie.close
     (tie.spec
-    mul-get-i64
-    add-get-i64
-    get-i64-requires
+    start-at-requires
     up-requires
-    mul-get-i64-2
-    add-get-i64-2
-    get-i64-requires-2
+    end-at-requires
     up-requires-2
     first-of-requires
     after-of-requires

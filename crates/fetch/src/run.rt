@@ -1,0 +1,73 @@
+// A run of records in four lent slices, in one pass.
+ghost use mathlib.Core.Path.{_≡_};
+ghost use Prim.Native.Nat.{min};
+ghost use lib.ListN.{length};
+ghost use Rattle.sheet.specs.Fetching.{runOf, FetchesRun};
+ghost use Rattle.fetch.specs.Inner.Filling.{Room, Filled};
+use crate::refusals::fetch_fault;
+use sheet_reader::fields::end_at;
+use sheet_reader::fields::id_at;
+use sheet_reader::fields::marks_at;
+use sheet_reader::fields::start_at;
+use sheet_reader::trailer::count;
+
+fn lesser(a: usize, b: usize) -> usize
+    ensures { λ r. ⌜ r ≡ min a b ⌝ }
+{
+    if b < a {
+        return b;
+    }
+    a
+}
+
+// The numbers of n records from record k on.
+fn fill(
+    sheet: &[u8],
+    k: usize,
+    n: usize,
+    ids: &mut [i64],
+    starts: &mut [i64],
+    ends: &mut [i64],
+    marks: &mut [u32],
+)
+    requires { ⌜ Room (length (now sheet)) k n (length (now ids)) (length (now starts)) (length (now ends)) (length (now marks)) ⌝ }
+    ensures { λ _. ⌜ Filled (now (sheet .entry)) k n (now (ids .entry)) (now (starts .entry)) (now (ends .entry)) (now (marks .entry)) (now (ids .exit)) (now (starts .exit)) (now (ends .exit)) (now (marks .exit)) ⌝ }
+{
+    let mut i = 0;
+    let mut number = k;
+    let mut left = n;
+    while 0 < left {
+        ids[i] = id_at(sheet, number);
+        starts[i] = start_at(sheet, number);
+        ends[i] = end_at(sheet, number);
+        marks[i] = marks_at(sheet, number);
+        i += 1;
+        number += 1;
+        left -= 1;
+    }
+}
+
+// The records from number `first` on, as many as each slice has room for, and how many they are.
+pub fn fetch_run(
+    sheet: &[u8],
+    first: u64,
+    ids: &mut [i64],
+    starts: &mut [i64],
+    ends: &mut [i64],
+    marks: &mut [u32],
+    handed: &mut u64,
+) -> u32
+    ensures { λ r. ⌜ FetchesRun (runOf (now (sheet .entry)) first (now (ids .entry)) (now (starts .entry)) (now (ends .entry)) (now (marks .entry))) r (now (handed .exit)) (now (ids .exit)) (now (starts .exit)) (now (ends .exit)) (now (marks .exit)) ⌝ }
+{
+    let fault = fetch_fault(sheet, first);
+    if fault != 0 {
+        *handed = 0;
+        return fault;
+    }
+    let k = first as usize;
+    let left = lesser(marks.len(), count(sheet) - k);
+    let n = lesser(ids.len(), lesser(starts.len(), lesser(ends.len(), left)));
+    fill(sheet, k, n, ids, starts, ends, marks);
+    *handed = n as u64;
+    0
+}
