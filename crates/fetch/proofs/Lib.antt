@@ -1,1 +1,1 @@
-pub mod RunLaws
+pub mod PartLaws

@@ -1,14 +1,11 @@
-// A run of records in four lent slices, in one pass.
+// A run of records in four lent slices: the sheet is judged once, and each of the four numbers is taken from all records in one go.
 ghost use mathlib.Core.Path.{_≡_};
 ghost use Prim.Native.Nat.{min};
 ghost use lib.ListN.{length};
 ghost use Rattle.sheet.specs.Fetching.{runOf, FetchesRun};
 ghost use Rattle.fetch.specs.Inner.Filling.{Room, Filled};
 use crate::refusals::fetch_fault;
-use sheet_reader::fields::end_at;
-use sheet_reader::fields::id_at;
-use sheet_reader::fields::marks_at;
-use sheet_reader::fields::start_at;
+use sheet_reader::columns;
 use sheet_reader::trailer::count;
 
 fn lesser(a: usize, b: usize) -> usize
@@ -33,18 +30,10 @@ fn fill(
     requires { ⌜ Room (length (now sheet)) k n (length (now ids)) (length (now starts)) (length (now ends)) (length (now marks)) ⌝ }
     ensures { λ _. ⌜ Filled (now (sheet .entry)) k n (now (ids .entry)) (now (starts .entry)) (now (ends .entry)) (now (marks .entry)) (now (ids .exit)) (now (starts .exit)) (now (ends .exit)) (now (marks .exit)) ⌝ }
 {
-    let mut i = 0;
-    let mut number = k;
-    let mut left = n;
-    while 0 < left {
-        ids[i] = id_at(sheet, number);
-        starts[i] = start_at(sheet, number);
-        ends[i] = end_at(sheet, number);
-        marks[i] = marks_at(sheet, number);
-        i += 1;
-        number += 1;
-        left -= 1;
-    }
+    columns::ids(sheet, k, &mut ids[..n]);
+    columns::starts(sheet, k, &mut starts[..n]);
+    columns::ends(sheet, k, &mut ends[..n]);
+    columns::marks(sheet, k, &mut marks[..n]);
 }
 
 // The records from number `first` on, as many as each slice has room for, and how many they are.

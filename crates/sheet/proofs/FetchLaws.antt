@@ -8,7 +8,6 @@ use native.Mathlib.Omega.{arith}
 use lib.Dec.{leb, eqb}
 use lib.IntN.{ℤ, pos}
 use lib.ListN.{length, take, drop}
-use lib.Seq.{sets, sets-eq}
 use borrow.Author.Tests.{eqb-true, eqb-false, leb-false, eq-eqb, ne-eqb}
 use Rattle.signed.specs.Choose.{if_then_else_}
 use Rattle.rule.proofs.Bools.{by}
@@ -64,17 +63,12 @@ module _ (s : List ℕ) (number : ℕ) where
 
 -- ---- a run of records
 
-over-sets : {A : Type 0} (values lent : List A) → length values ≤ length lent → sets lent 0 values ≡ over values lent
-over-sets values lent h =
-    let e : 0 + length values ≡ length values = omega arith in
-    sets-eq values lent 0 (omega arith) ∙ ap (λ (n : ℕ). values ++ drop n lent) e
-
--- the values of a field, stored one after the other
-stored : {A : Type 0} (f : Row → A) (g : ℕ → A) (s : List ℕ) → ((k : ℕ) → f (rowAt s k) ≡ g k) → (k n : ℕ) (lent : List A) → n ≤ length lent
-    → sets lent 0 (tabulate g k n) ≡ over (map f (tabulate (rowAt s) k n)) lent
-stored f g s same k n lent h =
-    over-sets (tabulate g k n) lent (omega (arith, tab-length g k n))
-    ∙ ap (λ (l : List _). over l lent) (sym (tab-map f (rowAt s) k n ∙ tab-same (λ i. f (rowAt s i)) g k n (λ j p q. same j)))
+-- the values of a field come first, and what lies past them stays
+stored : {A : Type 0} (f : Row → A) (g : ℕ → A) (s : List ℕ) → ((k : ℕ) → f (rowAt s k) ≡ g k) → (k n : ℕ) (lent : List A)
+    → tabulate g k n ++ drop n lent ≡ over (map f (tabulate (rowAt s) k n)) lent
+stored f g s same k n lent =
+    let values : tabulate g k n ≡ map f (tabulate (rowAt s) k n) = sym (tab-map f (rowAt s) k n ∙ tab-same (λ i. f (rowAt s i)) g k n (λ j p q. same j)) in
+    ap (λ (m : ℕ). tabulate g k n ++ drop m lent) (sym (tab-length g k n)) ∙ ap (λ (l : List _). over l lent) values
 
 module _ (s : List ℕ) (first : ℕ) (ids starts ends : List ℤ) (marks : List ℕ) where
   pub run-refused : (r : ℕ) → r ≡ fetchFault s first → (r ≡ 0 → ⊥) → FetchesRun (runOf s first ids starts ends marks) r 0 ids starts ends marks
@@ -115,8 +109,8 @@ module _ (s : List ℕ) (first : ℕ) (ids starts ends : List ℤ) (marks : List
   marks-at k = refl
 
   pub run-read : fetchFault s first ≡ 0 → (n : ℕ) → n ≡ room → (ids′ starts′ ends′ : List ℤ) (marks′ : List ℕ)
-      → ids′ ≡ sets ids 0 (tabulate (idAt s) first n) → starts′ ≡ sets starts 0 (tabulate (startAt s) first n)
-      → ends′ ≡ sets ends 0 (tabulate (endAt s) first n) → marks′ ≡ sets marks 0 (tabulate (marksAt s) first n)
+      → ids′ ≡ tabulate (idAt s) first n ++ drop n ids → starts′ ≡ tabulate (startAt s) first n ++ drop n starts
+      → ends′ ≡ tabulate (endAt s) first n ++ drop n ends → marks′ ≡ tabulate (marksAt s) first n ++ drop n marks
       → FetchesRun (runOf s first ids starts ends marks) 0 n ids′ starts′ ends′ marks′
   unfolding runOf handedOut
   run-read z n is ids′ starts′ ends′ marks′ a b c d =
@@ -124,8 +118,8 @@ module _ (s : List ℕ) (first : ℕ) (ids starts ends : List ℤ) (marks : List
       (record {
         answer-is = refl;
         count-is = sym (tab-length (rowAt s) first n);
-        ids-are = a ∙ stored (λ (r : Row). r .id) (idAt s) s id-at first n ids (omega (arith, is));
-        starts-are = b ∙ stored (λ (r : Row). r .start) (startAt s) s start-at first n starts (omega (arith, is));
-        ends-are = c ∙ stored (λ (r : Row). r .end) (endAt s) s end-at first n ends (omega (arith, is));
-        marks-are = d ∙ stored (λ (r : Row). r .marks) (marksAt s) s marks-at first n marks (omega (arith, is));
+        ids-are = a ∙ stored (λ (r : Row). r .id) (idAt s) s id-at first n ids;
+        starts-are = b ∙ stored (λ (r : Row). r .start) (startAt s) s start-at first n starts;
+        ends-are = c ∙ stored (λ (r : Row). r .end) (endAt s) s end-at first n ends;
+        marks-are = d ∙ stored (λ (r : Row). r .marks) (marksAt s) s marks-at first n marks;
       })

@@ -2,4 +2,5 @@
 pub mod by_entries;
 pub mod by_numbers;
 pub mod occurrence_texts;
+pub mod sheets;
 pub mod upload_weeks;
