@@ -2,12 +2,11 @@
 -- answers for words; two accepted secret ones too, whatever they hold. For every zone table, window, buffer and date.
 use Prim.Native.Nat.{ℕ}
 use mathlib.Core.Bool.{Bool, true, false, not, _&&_, _||_}
-use mathlib.Core.List.{List, [], _∷_, _++_}
+use mathlib.Core.List.{List, [], _∷_}
 use mathlib.Core.Option.{Option, none, some}
 use mathlib.Core.Path.{_≡_, refl, sym, ap, ap₂, _∙_}
 use lib.Dec.{eqb}
 use lib.IntN.{ℤ}
-use lib.ListN.{length}
 use Rattle.signed.proofs.Parts.{false-true}
 use Rattle.rule.specs.Lists.{any}
 use Rattle.recurrence.specs.Event.{inSet}
@@ -18,10 +17,12 @@ use Rattle.recurrence.proofs.Exactly.{ids-exactly}
 use Rattle.keywords.specs.declared.Privacy.{Privacy}
 use Rattle.keywords.specs.declared.Privacy.the-variants.{Private, Secret}
 use Rattle.event.specs.Types.{Text, Details, Event}
+use Rattle.sheet.specs.Records.{Row}
+use Rattle.sheet.specs.Writing.{sheetOf}
 use Rattle.call_definitions.specs.Window.{since1600}
 use Rattle.call_definitions.specs.Occurrence.{datesOf, isOccurrence, occurrences, detailsAt}
 use Rattle.call_definitions.specs.Utc.{ZoneTable, utcStart, utcEnd}
-use Rattle.call_definitions.specs.Bytes.{marksOf, recordOf, recordsOf, trailerOf, listed, tableOf}
+use Rattle.call_definitions.specs.Bytes.{marksOf, rowOf, rowsFor, listed, rowsIn, writtenVersion, tableOf}
 use Rattle.call_definitions.specs.Answer.{outcomeBy, answerFor, expanded, dateTimeOf, textAnswerFor, textAnswer}
 use Rattle.call_definitions.specs.Call.{expandText, Shown, placeOf, noPlace, shownFor, shownAt, textOf}
 use Rattle.event.specs.Event.{eventOf}
@@ -33,10 +34,9 @@ and-right true t e = e
 and-right false t e = false-true e
 
 -- a record is a function of the times
-same-record : (table : ZoneTable) (zone : Option (List ℕ)) (id : ℕ) (c d : Details) → timesOf c ≡ timesOf d
-    → recordOf table zone id c ≡ recordOf table zone id d
-unfolding timesOf recordOf marksOf utcStart utcEnd
-same-record table zone id c d e =
+same-row : (table : ZoneTable) (zone : Option (List ℕ)) (id : ℕ) (c d : Details) → timesOf c ≡ timesOf d → rowOf table zone id c ≡ rowOf table zone id d
+unfolding timesOf rowOf marksOf utcStart utcEnd
+same-row table zone id c d e =
     rw (ap (λ (t : Times). t .start) e, ap (λ (t : Times). t .length) e, ap (λ (t : Times). t .busy) e, ap (λ (t : Times). t .allDay) e)
 
 or-right : (s t : Bool) → t ≡ true → (s || t) ≡ true
@@ -48,22 +48,20 @@ unfolding among any
 tail-among x y xs e = or-right (eqb x y) (among y xs) e
 
 -- and so are the records of a list of occurrences
-same-records : (table : ZoneTable) (a b : Event) → a .zone ≡ b .zone → (xs : List ℕ)
+same-rows : (table : ZoneTable) (a b : Event) → a .zone ≡ b .zone → (xs : List ℕ)
     → ((x : ℕ) → among x xs ≡ true → timesOf (detailsAt a x) ≡ timesOf (detailsAt b x))
-    → recordsOf table a xs ≡ recordsOf table b xs
-unfolding recordsOf
-same-records table a b z [] h = refl
-same-records table a b z (x ∷ xs) h =
-    let first : recordOf table (a .zone) x (detailsAt a x) ≡ recordOf table (b .zone) x (detailsAt b x) = ap (λ (zone : Option (List ℕ)). recordOf table zone x (detailsAt a x)) z ∙ same-record table (b .zone) x (detailsAt a x) (detailsAt b x) (h x (head-among x xs)) in
-    let others = same-records table a b z xs (λ y e. h y (tail-among x y xs e)) in
-    ap₂ (λ (l m : List ℕ). l ++ m) first others
+    → rowsFor table a xs ≡ rowsFor table b xs
+unfolding rowsFor
+same-rows table a b z [] h = refl
+same-rows table a b z (x ∷ xs) h =
+    let first : rowOf table (a .zone) x (detailsAt a x) ≡ rowOf table (b .zone) x (detailsAt b x) = ap (λ (zone : Option (List ℕ)). rowOf table zone x (detailsAt a x)) z ∙ same-row table (b .zone) x (detailsAt a x) (detailsAt b x) (h x (head-among x xs)) in
+    let others = same-rows table a b z xs (λ y e. h y (tail-among x y xs e)) in
+    ap₂ (λ (r : Row) (rs : List Row). r ∷ rs) first others
 
 private-is : (table : ZoneTable) (e : Event) → e .privacy ≡ Private → (from to : ℤ)
-    → tableOf table e from to ≡ recordsOf table e (occurrences e (since1600 from) (since1600 to)) ++ trailerOf (length (occurrences e (since1600 from) (since1600 to)))
-unfolding tableOf listed
-private-is table e p from to =
-    λ i.
-    recordsOf table e (listed e (p i) (since1600 from) (since1600 to)) ++ trailerOf (length (listed e (p i) (since1600 from) (since1600 to)))
+    → rowsIn table e from to ≡ rowsFor table e (occurrences e (since1600 from) (since1600 to))
+unfolding rowsIn listed
+private-is table e p from to = λ i. rowsFor table e (listed e (p i) (since1600 from) (since1600 to))
 
 -- of a window's occurrences
 module _ (a b : Event) (g : Agree a b) where
@@ -71,19 +69,18 @@ module _ (a b : Event) (g : Agree a b) where
   unfolding occurrences isOccurrence
   listed-times from to x e = same-times a b g x (and-right (inWindow from to x) (inSet (datesOf a) x) (sym (ids-exactly (datesOf a) from to x) ∙ e))
 
-  occurrence-records : (table : ZoneTable) (from to : ℕ) → recordsOf table a (occurrences a from to) ≡ recordsOf table b (occurrences b from to)
-  occurrence-records table from to =
-      same-records table a b (g .zones) (occurrences a from to) (listed-times from to)
-      ∙ ap (recordsOf table b) (same-occurrences a b g from to)
+  occurrence-rows : (table : ZoneTable) (from to : ℕ) → rowsFor table a (occurrences a from to) ≡ rowsFor table b (occurrences b from to)
+  occurrence-rows table from to =
+      same-rows table a b (g .zones) (occurrences a from to) (listed-times from to)
+      ∙ ap (rowsFor table b) (same-occurrences a b g from to)
 
   -- two private events that agree have the same table
   module _ (p : a .privacy ≡ Private) (q : b .privacy ≡ Private) where
     pub same-table : (table : ZoneTable) (from to : ℤ) → tableOf table a from to ≡ tableOf table b from to
+    unfolding tableOf
     same-table table from to =
-        private-is table a p from to
-        ∙ ap₂ (λ (l m : List ℕ). l ++ m) (occurrence-records table (since1600 from) (since1600 to))
-        (ap (λ (xs : List ℕ). trailerOf (length xs)) (same-occurrences a b g (since1600 from) (since1600 to)))
-        ∙ sym (private-is table b q from to)
+        ap (sheetOf writtenVersion)
+        (private-is table a p from to ∙ occurrence-rows table (since1600 from) (since1600 to) ∙ sym (private-is table b q from to))
 
     same-privacy : a .privacy ≡ b .privacy
     same-privacy = p ∙ sym q
@@ -106,8 +103,8 @@ unfolding answerFor
 secret-answer zones from to c d zone zone′ table buffer p q = rw (p, q)
 
 -- "A secret event has no records, only the trailer."
-pub secret-is : (table : ZoneTable) (e : Event) → e .privacy ≡ Secret → (from to : ℤ) → tableOf table e from to ≡ trailerOf 0
-unfolding tableOf listed recordsOf
+pub secret-is : (table : ZoneTable) (e : Event) → e .privacy ≡ Secret → (from to : ℤ) → tableOf table e from to ≡ sheetOf writtenVersion []
+unfolding tableOf rowsIn listed rowsFor
 secret-is table e p from to = rw p
 
 -- two secret events, whatever they hold

@@ -2,27 +2,27 @@
 -- exactly those that RFC 8984 gives in the written profile", and the buffer has their records and the trailer.
 use Prim.Native.Nat.{ℕ, _+_, _*_}
 use mathlib.Core.Bool.{Bool, true, false}
-use mathlib.Core.List.{List, [], _∷_, _++_}
+use mathlib.Core.List.{List}
 use mathlib.Core.Logic.{_↔_}
-use mathlib.Core.Path.{_≡_, refl, sym, ap, ap₂, _∙_}
-use native.Mathlib.Omega.{arith}
+use mathlib.Core.Path.{_≡_, refl, sym, ap, _∙_}
 use lib.Dec.{eqb}
 use lib.IntN.{ℤ}
-use lib.ListN.{length, length-append}
+use lib.ListN.{length, length-map}
 use lib.Seq.{sets}
 use borrow.Author.Tests.{eqb-true}
 use Rattle.signed.proofs.Parts.{true-false}
-use Rattle.little_endian.proofs.ByteLaws.{bytes-length}
 use Rattle.recurrence.specs.Inner.Order.{StrictlyIncreases, among}
 use Rattle.recurrence.specs.Inner.Within.{OccursWithin}
 use Rattle.recurrence.proofs.Exactly as recurrence
 use Rattle.keywords.specs.declared.Privacy.{Privacy}
 use Rattle.keywords.specs.declared.Privacy.the-variants.{Public, Private, Secret}
 use Rattle.event.specs.Types.{Event}
+use Rattle.sheet.specs.Writing.{sheetOf}
+use Rattle.sheet.proofs.WrittenLaws.{sheet-length}
 use Rattle.call_definitions.specs.Window.{since1600}
-use Rattle.call_definitions.specs.Occurrence.{datesOf, occurrences, detailsAt}
+use Rattle.call_definitions.specs.Occurrence.{datesOf, occurrences}
 use Rattle.call_definitions.specs.Utc.{ZoneTable}
-use Rattle.call_definitions.specs.Bytes.{recordOf, recordsOf, trailerOf, listed, tableOf}
+use Rattle.call_definitions.specs.Bytes.{rowsFor, listed, rowsIn, writtenVersion, tableOf}
 use Rattle.call_definitions.specs.Answer.{isSecret, Outcome, answerFor, outcomeBy, expanded}
 
 -- What a call that is answered 0 leaves.
@@ -33,23 +33,15 @@ pub record Listed (zones : ZoneTable) (e : Event) (from to : ℤ) (buffer : List
   -- the start or a rule gives it, and no excluded rule does
   pub exactly : (x : ℕ) → (among x ids ≡ true) ↔ OccursWithin (datesOf e) (since1600 from) (since1600 to) x
   -- the table is their records in order, and the trailer with their number
-  pub bytes : expanded zones e from to buffer .buffer ≡ sets buffer 0 (recordsOf zones e ids ++ trailerOf (length ids))
+  pub bytes : expanded zones e from to buffer .buffer ≡ sets buffer 0 (sheetOf writtenVersion (rowsFor zones e ids))
   pub size : expanded zones e from to buffer .length ≡ 28 * length ids + 12
 
-pub record-length : (zones : ZoneTable) (e : Event) (x : ℕ) → length (recordOf zones (e .zone) x (detailsAt e x)) ≡ 28
-unfolding recordOf
-record-length zones e x = simp (length-append, bytes-length) refl
+pub rows-count : (zones : ZoneTable) (e : Event) (xs : List ℕ) → length (rowsFor zones e xs) ≡ length xs
+unfolding rowsFor
+rows-count zones e xs = length-map xs _
 
-pub records-length : (zones : ZoneTable) (e : Event) (xs : List ℕ) → length (recordsOf zones e xs) ≡ 28 * length xs
-unfolding recordsOf
-records-length zones e [] = refl
-records-length zones e (x ∷ xs) =
-    length-append (recordOf zones (e .zone) x (detailsAt e x)) (recordsOf zones e xs)
-    ∙ omega (arith, record-length zones e x, records-length zones e xs)
-
-pub trailer-length : (n : ℕ) → length (trailerOf n) ≡ 12
-unfolding trailerOf
-trailer-length n = simp (length-append, bytes-length) refl
+pub table-length : (zones : ZoneTable) (e : Event) (xs : List ℕ) → length (sheetOf writtenVersion (rowsFor zones e xs)) ≡ 28 * length xs + 12
+table-length zones e xs = sheet-length writtenVersion (rowsFor zones e xs) ∙ ap (λ (n : ℕ). 28 * n + 12) (rows-count zones e xs)
 
 shown : (e : Event) (privacy : Privacy) → isSecret privacy ≡ false → (from to : ℕ) → listed e privacy from to ≡ occurrences e from to
 unfolding listed
@@ -79,9 +71,9 @@ module _ (zones : ZoneTable) (e : Event) (from to : ℤ) (buffer : List ℕ) whe
   ids : List ℕ
   ids = occurrences e (since1600 from) (since1600 to)
 
-  table-is : isSecret (e .privacy) ≡ false → tableOf zones e from to ≡ recordsOf zones e ids ++ trailerOf (length ids)
-  unfolding tableOf ids
-  table-is h = ap (λ (xs : List ℕ). recordsOf zones e xs ++ trailerOf (length xs)) (shown e (e .privacy) h (since1600 from) (since1600 to))
+  table-is : isSecret (e .privacy) ≡ false → tableOf zones e from to ≡ sheetOf writtenVersion (rowsFor zones e ids)
+  unfolding tableOf rowsIn ids
+  table-is h = ap (λ (xs : List ℕ). sheetOf writtenVersion (rowsFor zones e xs)) (shown e (e .privacy) h (since1600 from) (since1600 to))
 
   -- an answer of 0 is the table written, whatever the event
   pub table-written : expanded zones e from to buffer .answer ≡ 0
@@ -99,9 +91,5 @@ module _ (zones : ZoneTable) (e : Event) (from to : ℤ) (buffer : List ℕ) whe
         increase = said .0;
         exactly = said .1;
         bytes = ap (λ (o : Outcome). o .buffer) done ∙ ap (λ (l : List ℕ). sets buffer 0 l) (table-is shownTo);
-        size =
-            ap (λ (o : Outcome). o .length) done
-            ∙ (ap length (table-is shownTo)
-            ∙ (length-append (recordsOf zones e ids) (trailerOf (length ids))
-            ∙ ap₂ (λ (a b : ℕ). a + b) (records-length zones e ids) (trailer-length (length ids))));
+        size = ap (λ (o : Outcome). o .length) done ∙ (ap length (table-is shownTo) ∙ table-length zones e ids);
       }

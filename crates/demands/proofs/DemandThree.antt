@@ -1,22 +1,24 @@
 -- Demand 3 of every two calls that keep their contracts.
 use Prim.Native.Nat.{ℕ, _+_, _*_, _≤_}
-use mathlib.Core.List.{List, [], _++_}
+use mathlib.Core.List.{List, []}
 use mathlib.Core.Option.{Option}
 use mathlib.Core.Path.{_≡_, sym, ap, _∙_}
 use native.Mathlib.Omega.{arith}
 use lib.IntN.{ℤ}
 use lib.ListN.{length}
 use lib.Seq.{sets}
+use Rattle.sheet.specs.Writing.{sheetOf}
+use Rattle.sheet.proofs.WrittenLaws.{sheet-length}
 use Rattle.keywords.specs.declared.Privacy.the-variants.{Private, Secret}
 use Rattle.event.specs.Types.{Text, Details}
 use Rattle.event.specs.Event.{eventOf}
 use Rattle.call_definitions.specs.Agree.{Agree, Accepted}
 use Rattle.call_definitions.specs.Utc.{ZoneTable}
-use Rattle.call_definitions.specs.Bytes.{recordsOf, trailerOf}
+use Rattle.call_definitions.specs.Bytes.{rowsFor, writtenVersion}
 use Rattle.call_definitions.specs.Answer.{Outcome, isSecret}
 use Rattle.call_definitions.specs.Call.{Shown, expandText, noPlace, textOf}
 use Rattle.call_definitions.specs.Results.{Gives, Shows, Tells}
-use Rattle.call_definitions.proofs.DemandTwo.{table-written, trailer-length}
+use Rattle.call_definitions.proofs.DemandTwo.{table-written}
 use Rattle.call_definitions.proofs.DemandThree.{accepted-table, secret-is, private-text, secret-text, private-tables, private-texts, secret-tables}
 use Rattle.demands.specs.Sheet.{HasSheet}
 use Rattle.demands.specs.Three.{SameTable, PrivateTable, SameText, SamePart}
@@ -49,16 +51,16 @@ module _ (zones : ZoneTable) (from to : ℤ) (buffer : List ℕ) (answer answer�
 
   -- "a sheet answered 0 has no records"
   no-records : (s : List ℕ) → Accepted Secret s → Gives (expandText zones s from to buffer) answer size after → answer ≡ 0 → HasSheet 0 size buffer after
-  unfolding recordsOf
+  unfolding rowsFor
   no-records s h g done =
       let is = accepted-table Secret s h zones from to buffer in
       let o = sym (g .answer-is ∙ ap (λ (u : Outcome). u .answer) is) ∙ done in
       let written = is ∙ table-written zones (eventOf s) from to buffer o in
       let alone = secret-is zones (eventOf s) (h .setting) from to in
-      let bytes : after ≡ sets buffer 0 (recordsOf zones (eventOf s) [] ++ trailerOf 0) = g .buffer-is ∙ ap (λ (u : Outcome). u .buffer) written ∙ ap (sets buffer 0) alone in
-      let sized : size ≡ 12 = g .length-is ∙ ap (λ (u : Outcome). u .length) written ∙ ap length alone ∙ trailer-length 0 in
+      let bytes : after ≡ sets buffer 0 (sheetOf writtenVersion (rowsFor zones (eventOf s) [])) = g .buffer-is ∙ ap (λ (u : Outcome). u .buffer) written ∙ ap (sets buffer 0) alone in
+      let sized : size ≡ 12 = g .length-is ∙ ap (λ (u : Outcome). u .length) written ∙ ap length alone ∙ sheet-length writtenVersion [] in
       let none = table-answered zones s from to buffer answer size after g .one .done done 13 in
-      let fits : 28 * 0 + 12 ≤ length buffer = omega (arith, room zones s from to buffer none, ap length alone, trailer-length 0) in
+      let fits : 28 * 0 + 12 ≤ length buffer = omega (arith, room zones s from to buffer none, ap length alone, sheet-length writtenVersion []) in
       has-sheet zones (eventOf s) [] buffer after bytes fits (omega arith) size sized
 
   pub secret-same : (s t : List ℕ) → Accepted Secret s → Accepted Secret t

@@ -1,7 +1,7 @@
 -- Demand 2 of every call for the sheet that keeps its contract, `Gives (expandText ..)`.
 use Prim.Native.Nat.{ℕ, _+_, _*_, _<_, _≤_}
 use mathlib.Core.Bool.{Bool, true, false, false≢true, not, _||_}
-use mathlib.Core.List.{List, _++_}
+use mathlib.Core.List.{List}
 use mathlib.Core.Logic.{_↔_}
 use mathlib.Core.Path.{_≡_, refl, sym, ap, _∙_, subst}
 use native.Mathlib.Omega.{arith}
@@ -19,19 +19,21 @@ use Rattle.zone.specs.Table.{validTable}
 use Rattle.event.specs.Types.{Event}
 use Rattle.event.specs.Event.{eventOf}
 use Rattle.call_definitions.specs.Window.{since1600, since1970, validWindow}
-use Rattle.call_definitions.specs.Occurrence.{datesOf, occurrences}
+use Rattle.call_definitions.specs.Occurrence.{datesOf, occurrences, detailsAt}
 use Rattle.call_definitions.specs.Utc.{ZoneTable}
-use Rattle.call_definitions.specs.Bytes.{recordsOf, trailerOf, tableOf}
+use Rattle.call_definitions.specs.Bytes.{rowOf, rowsFor, writtenVersion, tableOf}
 use Rattle.call_definitions.specs.Answer.{Outcome, isSecret, expanded}
 use Rattle.call_definitions.specs.Call.{textFault, expandText}
 use Rattle.call_definitions.specs.Results.{Gives}
 use Rattle.call_definitions.proofs.DemandTwo as definitions
 use Rattle.call_definitions.proofs.Few.{window-last, few-accepted}
 use Rattle.demands.specs.Conditions.{applies, textConditions, callConditions, tableConditions}
-use Rattle.sheet.specs.Records.{idAt}
+use Rattle.sheet.specs.Records as sheet
+use Rattle.sheet.specs.Records.{idAt, rowAt}
+use Rattle.sheet.specs.Writing.{sheetOf}
 use Rattle.demands.specs.Two.{OnSheet, OccursIn, Row, Listed}
 use Rattle.demands.proofs.DemandOne.{table-answered}
-use Rattle.demands.proofs.SheetLaws.{has-sheet, id-back, start-back, end-back, marks-back, zeros-back}
+use Rattle.demands.proofs.SheetLaws.{has-sheet, row-back, zeros-back}
 use Rattle.demands.proofs.Lists.{among-stands, at-among, increases-at}
 use Rattle.demands.proofs.WindowLaws.{back-1600, back-1970, earlier, low-enough, after-first, before-last, first-below, last-above}
 use Rattle.demands.proofs.Ranges.{id-fits, end-reach, start-small, end-small, start-fits, end-fits}
@@ -74,12 +76,19 @@ module _ (zones : ZoneTable) (s : List ℕ) (from to : ℤ) (before after : List
   xs = occurrences (eventOf s) (since1600 from) (since1600 to)
 
   module _ (increase : StrictlyIncreases xs) (exactly : (x : ℕ) → (among x xs ≡ true) ↔ OccursWithin (datesOf e) (since1600 from) (since1600 to) x)
-      (is : after ≡ sets before 0 (recordsOf zones e xs ++ trailerOf (length xs))) (fits : 28 * length xs + 12 ≤ length before) where
+      (is : after ≡ sets before 0 (sheetOf writtenVersion (rowsFor zones e xs))) (fits : 28 * length xs + 12 ≤ length before) where
     small : (k : ℕ) → k < length xs → getD xs k 0 < 86400 * endDay
     small k h = omega (arith, exactly (getD xs k 0) .0 (at-among xs k h) .before, window-last from to window)
 
+    row-is : (k : ℕ) → k < length xs → rowAt after k ≡ rowOf zones (e .zone) (getD xs k 0) (detailsAt e (getD xs k 0))
+    row-is k h =
+        let x = getD xs k 0 in
+        row-back zones e xs before after is fits k h (id-fits x (small k h)) (start-fits zones table s accepted (e .zone) x (small k h))
+        (end-fits zones table s accepted (e .zone) x (small k h))
+
     id-is : (k : ℕ) → k < length xs → idAt after k ≡ since1970 (getD xs k 0)
-    id-is k h = id-back zones e xs before after is fits k h (id-fits (getD xs k 0) (small k h))
+    unfolding rowAt rowOf
+    id-is k h = ap (λ (r : sheet.Row). r .id) (row-is k h)
 
     id-of : (k : ℕ) → k < length xs → getD xs k 0 ≡ since1600 (idAt after k)
     id-of k h = sym (ap since1600 (id-is k h) ∙ back-1600 (getD xs k 0))
@@ -112,11 +121,12 @@ module _ (zones : ZoneTable) (s : List ℕ) (from to : ℤ) (before after : List
         }
 
     row-at : (k : ℕ) → k < length xs → Row zones e after k
+    unfolding rowAt rowOf
     row-at k h =
         let x = getD xs k 0 in
         let is-x = id-of k h in
-        let start = start-back zones e xs before after is fits k h (start-fits zones table s accepted (e .zone) x (small k h)) in
-        let end = end-back zones e xs before after is fits k h (end-fits zones table s accepted (e .zone) x (small k h)) in
+        let start = ap (λ (r : sheet.Row). r .start) (row-is k h) in
+        let end = ap (λ (r : sheet.Row). r .end) (row-is k h) in
         record {
           startIs = rw (← is-x) start;
           endIs = rw (← is-x) end;
@@ -125,7 +135,7 @@ module _ (zones : ZoneTable) (s : List ℕ) (from to : ℤ) (before after : List
             rw start (omega (arith, start-small zones table s accepted (e .zone) x (small k h))),
             rw end (omega (arith, end-small zones table s accepted (e .zone) x (small k h))),
           );
-          marksIs = rw (← is-x) (marks-back zones e xs before after is fits k h);
+          marksIs = rw (← is-x) (ap (λ (r : sheet.Row). r .marks) (row-is k h));
           zeros = zeros-back zones e xs before after is fits k h;
         }
 

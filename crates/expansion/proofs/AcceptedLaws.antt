@@ -1,7 +1,7 @@
 -- What the calls of `expand_in` say of an accepted event: hd is its head, r what `call_fault` answered. Signed numbers are passed by their bits.
 use Prim.Native.Nat.{ℕ}
 use mathlib.Core.Bool.{Bool, true, false}
-use mathlib.Core.List.{List}
+use mathlib.Core.List.{List, []}
 use mathlib.Core.Path.{_≡_, sym, ap, _∙_}
 use lib.IntN.{ℤ}
 use mir.Syntax.{w64}
@@ -16,7 +16,8 @@ use Rattle.event_text.specs.Inner.Taken.{Taken}
 use Rattle.event_text.specs.declared.Head.{Head}
 use Rattle.event_text.proofs.FromHead.{head-privacy, head-zone}
 use Rattle.call_definitions.specs.Window.{since1600}
-use Rattle.call_definitions.specs.Bytes.{trailerOf}
+use Rattle.sheet.specs.Writing.{sheetOf}
+use Rattle.call_definitions.specs.Bytes.{writtenVersion}
 use Rattle.call_definitions.specs.Answer.{isSecret, expanded}
 use Rattle.call_definitions.specs.Call.{textFault, expandText}
 use Rattle.call_definitions.specs.Results.{zonesOf, Gives}
@@ -55,7 +56,7 @@ module _ (s t : List ℕ) (hd : Head) (fine : (textFault s ≡ 0) × Taken s t h
       refused-gives h = goes-on r 0 buffer (call-refused (zonesOf name b ts ns) (eventOf s) from to buffer r refusal-is h)
 
       module _ (z : r ≡ 0) (q : Bool) (e : q ≡ isSecret (hd .privacy)) (n k : ℕ) (after : List ℕ) where
-        pub secret-gives : q ≡ true → Gives (fitted (trailerOf 0) buffer) n k after → Gives (expandText (zonesOf name b ts ns) s from to buffer) n k after
+        pub secret-gives : q ≡ true → Gives (fitted (sheetOf writtenVersion []) buffer) n k after → Gives (expandText (zonesOf name b ts ns) s from to buffer) n k after
         secret-gives p g = goes-on n k after (call-secret (zonesOf name b ts ns) (eventOf s) from to buffer r refusal-is z (secrecy q true e p) n k after g)
 
         pub visible-gives : q ≡ false → (a : ℕ) → a ≡ since1600 (again from) → (d : ℕ) → d ≡ since1600 (again to)

@@ -1,19 +1,19 @@
 -- The answers of a call, one after the other: a refusal is the whole outcome, and what is not refused is the table, as far as it fits.
 use Prim.Native.Nat.{ℕ}
 use mathlib.Core.Bool.{true, false}
-use mathlib.Core.List.{List, _++_}
+use mathlib.Core.List.{List, []}
 use mathlib.Core.Path.{_≡_, refl, sym, ap, subst, _∙_}
 use lib.IntN.{ℤ}
-use lib.ListN.{length}
 use borrow.Author.Tests.{ne-eqb}
 use Rattle.signed.proofs.Parts.{false-true, true-false}
+use Rattle.sheet.specs.Writing.{sheetOf}
 use Rattle.keywords.specs.declared.Privacy.{Privacy}
 use Rattle.keywords.specs.declared.Privacy.the-variants.{Public, Private, Secret}
 use Rattle.event.specs.Types.{Event}
 use Rattle.event.specs.Event.{eventOf}
 use Rattle.call_definitions.specs.Window.{since1600}
 use Rattle.call_definitions.specs.Utc.{ZoneTable}
-use Rattle.call_definitions.specs.Bytes.{recordsOf, trailerOf, listed, tableOf}
+use Rattle.call_definitions.specs.Bytes.{rowsFor, listed, rowsIn, writtenVersion, tableOf}
 use Rattle.call_definitions.specs.Answer.{isSecret, Outcome, outcomeBy, expanded}
 use Rattle.call_definitions.specs.Call.{textFault, expandText}
 use Rattle.call_definitions.specs.Results.{Gives}
@@ -55,10 +55,10 @@ module _ (zones : ZoneTable) (e : Event) (from to : ℤ) (buffer : List ℕ) (r 
       subst (λ (o : Outcome). Gives o n k after) (sym (call-fits z ∙ ap (λ (t : List ℕ). fitted t buffer) same)) g
 
   tableWith : Privacy → List ℕ
-  tableWith p = let xs = listed e p (since1600 from) (since1600 to) in recordsOf zones e xs ++ trailerOf (length xs)
+  tableWith p = sheetOf writtenVersion (rowsFor zones e (listed e p (since1600 from) (since1600 to)))
 
-  secret-table : (p : Privacy) → isSecret p ≡ true → tableWith p ≡ trailerOf 0
-  unfolding tableWith listed recordsOf
+  secret-table : (p : Privacy) → isSecret p ≡ true → tableWith p ≡ sheetOf writtenVersion []
+  unfolding tableWith listed rowsFor
   secret-table Public h = false-true h
   secret-table Private h = false-true h
   secret-table Secret h = refl
@@ -69,12 +69,12 @@ module _ (zones : ZoneTable) (e : Event) (from to : ℤ) (buffer : List ℕ) (r 
   visible-table Private h = refl
   visible-table Secret h = true-false h
 
-  pub call-secret : r ≡ 0 → isSecret (e .privacy) ≡ true → (n k : ℕ) (after : List ℕ) → Gives (fitted (trailerOf 0) buffer) n k after
+  pub call-secret : r ≡ 0 → isSecret (e .privacy) ≡ true → (n k : ℕ) (after : List ℕ) → Gives (fitted (sheetOf writtenVersion []) buffer) n k after
       → Gives (expanded zones e from to buffer) n k after
-  unfolding tableOf tableWith
-  call-secret z h n k after g = gives-table z (trailerOf 0) (secret-table (e .privacy) h) n k after g
+  unfolding tableOf rowsIn tableWith
+  call-secret z h n k after g = gives-table z (sheetOf writtenVersion []) (secret-table (e .privacy) h) n k after g
 
   pub call-visible : r ≡ 0 → isSecret (e .privacy) ≡ false → (n k : ℕ) (after : List ℕ)
       → Gives (fitted (tableFor zones e (since1600 from) (since1600 to)) buffer) n k after → Gives (expanded zones e from to buffer) n k after
-  unfolding tableOf tableWith
+  unfolding tableOf rowsIn tableWith
   call-visible z h n k after g = gives-table z (tableFor zones e (since1600 from) (since1600 to)) (visible-table (e .privacy) h) n k after g

@@ -7,13 +7,14 @@ use native.Mathlib.Omega.{arith}
 use lib.Dec.{leb}
 use lib.ListN.{length}
 use borrow.Author.Tests.{leb-true, leb-false}
+use Rattle.sheet.specs.Records.{Row}
 use Rattle.window.specs.Inner.Handed.{Span, Handed}
 use Rattle.window.specs.Inner.Lists.{listIn}
 use Rattle.window.proofs.HandLaws.{handed-count}
 use Rattle.source.specs.Inner.Room.{HasRoom}
 use Rattle.writer.proofs.WroteLaws.{WroteTo}
 
-pub record PutAt (row : ℕ → List ℕ) (p : ℕ → Bool) (from to : ℕ) (before : List ℕ) (second place : ℕ) (buffer room : List ℕ) (count next : ℕ) : Type 0 where
+pub record PutAt (row : ℕ → Row) (p : ℕ → Bool) (from to : ℕ) (before : List ℕ) (second place : ℕ) (buffer room : List ℕ) (count next : ℕ) : Type 0 where
   pub size : length room ≡ 1280
   pub wrote : WroteTo row p from to 0 before second place buffer
   pub handed : Handed p second to room room count next

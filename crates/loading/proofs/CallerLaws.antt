@@ -1,17 +1,18 @@
 -- What the callers of `load` use: what it keeps meets the writer's demands, and gives the event's table and occurrences.
 use Prim.Native.Nat.{ℕ, _*_, _/_, _<_, _≤_}
 use mathlib.Core.Bool.{Bool, true}
-use mathlib.Core.List.{List, _++_}
+use mathlib.Core.List.{List}
 use mathlib.Core.Path.{_≡_, sym, _∙_}
 use lib.IntN.{ℤ}
-use lib.ListN.{length, take}
+use lib.ListN.{take}
 use lib.Seq.{length-take-le}
 use Rattle.zone.specs.Table.{validTable}
+use Rattle.sheet.specs.Writing.{sheetOf}
 use Rattle.event.specs.Event.{eventOf}
 use Rattle.override_text.specs.Inner.Meaning.{detailsIn}
 use Rattle.event_text.specs.declared.Head.{Head}
 use Rattle.event_text.specs.Inner.Taken.{Taken}
-use Rattle.call_definitions.specs.Bytes.{recordsOf, trailerOf}
+use Rattle.call_definitions.specs.Bytes.{rowsFor, writtenVersion}
 use Rattle.call_definitions.specs.Occurrence.{datesOf, isOccurrence, occurrences}
 use Rattle.call_definitions.specs.Results.{zonesOf}
 use Rattle.dates.specs.Inner.Dates.{keptDates, datesIn}
@@ -40,7 +41,7 @@ module _ (s : List ℕ) (limit : ℕ) (rows : List Bool) (ids : List ℕ) (gone 
     pub loads-table : (name : List ℕ) (from to : ℕ) → from ≤ to → to ≤ 86400 * limit
         → tableBy (rowBy (r .form .floating) b ts ns (detailsBy s (detailsIn s (r .form .own)) (take (r .count) ids) (take (r .count) places)))
         (datesIn (r .dates) rows (take (r .count) ids) (take (r .count) gone)) from to
-        ≡ recordsOf (zonesOf name b ts ns) (eventOf s) (occurrences (eventOf s) from to) ++ trailerOf (length (occurrences (eventOf s) from to))
+        ≡ sheetOf writtenVersion (rowsFor (zonesOf name b ts ns) (eventOf s) (occurrences (eventOf s) from to))
     loads-table name from to order within =
         table-is (zonesOf name b ts ns) (eventOf s) (detailsBy s (detailsIn s (r .form .own)) (take (r .count) ids) (take (r .count) places)) (l .details)
         (r .form .floating) (l .floating) from to order limit (keptDates (r .dates) rows (take (r .count) ids) (take (r .count) gone)) (l .stands) within

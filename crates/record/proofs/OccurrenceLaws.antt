@@ -14,20 +14,21 @@ use mir.Facts.{toZ-ofZ}
 use Rattle.signed.proofs.Parts.{back}
 use Rattle.zone.specs.Table.{validTable}
 use Rattle.event.specs.Types.{Details}
+use Rattle.sheet.specs.Writing.{rowBytes}
 use Rattle.call_definitions.specs.Window.{since1970}
 use Rattle.call_definitions.specs.Utc.{ZoneTable, isFloating}
-use Rattle.call_definitions.specs.Bytes.{recordOf}
+use Rattle.call_definitions.specs.Bytes.{rowOf}
 use Rattle.record.specs.declared.Times.{Times}
-use Rattle.record.specs.Inner.Rows.{marksFor, rowOf}
+use Rattle.record.specs.Inner.Rows.{marksFor}
 use Rattle.record.specs.Inner.Utc.{timesOf, offsetBy, localStart, startOffset, startBy, endBy, Started}
 use Rattle.record.specs.Inner.Occurrences.{occurrenceRow, Small}
-use Rattle.record.proofs.RowLaws.{marks-of, record-of}
+use Rattle.record.proofs.RowLaws.{marks-of}
 use Rattle.record.proofs.UtcLaws.{again, start-by, end-by, local-abs, by-abs}
 
-pub occurrence-record : (table : ZoneTable) (zone : Option (List ℕ)) (id : ℕ) (d : Details)
-    → recordOf table zone id d ≡ occurrenceRow (table .initial) (table .instants) (table .offsets) id (timesOf (isFloating zone) d)
-unfolding occurrenceRow timesOf
-occurrence-record table zone id d = rw (record-of table zone id d, marks-of zone d, start-by table zone d, end-by table zone d)
+pub occurrence-row : (table : ZoneTable) (zone : Option (List ℕ)) (id : ℕ) (d : Details)
+    → rowOf table zone id d ≡ occurrenceRow (table .initial) (table .instants) (table .offsets) id (timesOf (isFloating zone) d)
+unfolding rowOf occurrenceRow timesOf
+occurrence-row table zone id d = rw (marks-of zone d, start-by table zone d, end-by table zone d)
 
 -- ---- the calls of `put_occurrence`, one after the other: L the local start, O the offset there, U the start in UTC, E the end, I the id
 
@@ -58,6 +59,7 @@ module _ (b : ℤ) (ts ns : List ℤ) (f : SFits w64 b) (v : validTable b ts ns 
     end-is : again E ≡ endBy b ts ns t
     end-is = back E e ∙ (rw (toZ-ofZ f) at ee)
 
-    pub row-is : after ≡ sets before at (rowOf (again I) (again U) (again E) m) → after ≡ sets before at (occurrenceRow b ts ns id t)
+    pub row-is : after ≡ sets before at (rowBytes (record { id = again I; start = again U; end = again E; marks = m }))
+        → after ≡ sets before at (rowBytes (occurrenceRow b ts ns id t))
     unfolding occurrenceRow
     row-is p = rw (back I i, ie, start-is, end-is, me) at p

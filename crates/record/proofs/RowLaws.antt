@@ -1,4 +1,4 @@
--- A record and a trailer as bytes stored one part after the other, and the records of `table` by their numbers.
+-- A record and a trailer as bytes stored one part after the other, and the marks of an occurrence.
 use Prim.Native.Nat.{ℕ, suc, _+_, _*_, _/_, _%_, _<_}
 use mathlib.Core.List.{List, [], _∷_, _++_}
 use mathlib.Core.Option.{Option}
@@ -13,21 +13,14 @@ use mir.Facts.{toZ-ofZ}
 use Rattle.little_endian.specs.Bytes.{bytesOf, twos}
 use Rattle.little_endian.proofs.ByteLaws.{bytes-length}
 use Rattle.event.specs.Types.{Details}
-use Rattle.call_definitions.specs.Window.{since1970}
-use Rattle.call_definitions.specs.Utc.{ZoneTable, isFloating, utcStart, utcEnd}
-use Rattle.call_definitions.specs.Bytes.{marksOf, recordOf, trailerOf}
-use Rattle.record.specs.Inner.Rows.{marksFor, rowOf}
-
--- ---- the definitions of `table` by the numbers
+use Rattle.sheet.specs.Writing.{rowBytes, trailerBytes}
+use Rattle.call_definitions.specs.Utc.{isFloating}
+use Rattle.call_definitions.specs.Bytes.{marksOf, writtenVersion}
+use Rattle.record.specs.Inner.Rows.{marksFor}
 
 pub marks-of : (zone : Option (List ℕ)) (d : Details) → marksOf zone d ≡ marksFor (d .busy) (d .allDay) (isFloating zone)
 unfolding marksOf marksFor
 marks-of zone d = refl
-
-pub record-of : (table : ZoneTable) (zone : Option (List ℕ)) (id : ℕ) (d : Details)
-    → recordOf table zone id d ≡ rowOf (since1970 id) (utcStart table zone d) (utcEnd table zone d) (marksOf zone d)
-unfolding recordOf rowOf
-record-of table zone id d = refl
 
 -- ---- stores one after the other
 
@@ -67,8 +60,8 @@ lowest-four v =
 
 pub row-stored : (l : List ℕ) (i : ℕ) (id start end : ℤ) (marks : ℕ) → marks < 256
     → sets (sets (sets (sets l i (bytesOf 8 (twos id))) (i + 8) (bytesOf 8 (twos start))) (i + 16) (bytesOf 8 (twos end))) (i + 24) (bytesOf 4 marks)
-    ≡ sets l i (rowOf id start end marks)
-unfolding rowOf
+    ≡ sets l i (rowBytes (record { id = id; start = start; end = end; marks = marks }))
+unfolding rowBytes
 row-stored l i id start end marks h =
     let a : i + 8 + 8 ≡ i + 16 = omega arith in
     let b : i + 16 + 8 ≡ i + 24 = omega arith in
@@ -77,19 +70,20 @@ row-stored l i id start end marks h =
 -- the four stores as the calls give them: a signed number is passed by its bits
 module _ (id start end : ℤ) (f : SFits w64 id) (g : SFits w64 start) (k : SFits w64 end) (marks : ℕ) (h : marks < 256) (i : ℕ) (l₀ l₁ l₂ l₃ l₄ : List ℕ) where
   pub row-steps : l₁ ≡ sets l₀ i (bytesOf 8 (twos (toZ w64 (ofZ w64 id)))) → l₂ ≡ sets l₁ (i + 8) (bytesOf 8 (twos (toZ w64 (ofZ w64 start))))
-      → l₃ ≡ sets l₂ (i + 16) (bytesOf 8 (twos (toZ w64 (ofZ w64 end)))) → l₄ ≡ sets l₃ (i + 24) (bytesOf 4 marks) → l₄ ≡ sets l₀ i (rowOf id start end marks)
+      → l₃ ≡ sets l₂ (i + 16) (bytesOf 8 (twos (toZ w64 (ofZ w64 end)))) → l₄ ≡ sets l₃ (i + 24) (bytesOf 4 marks)
+      → l₄ ≡ sets l₀ i (rowBytes (record { id = id; start = start; end = end; marks = marks }))
   row-steps a b c d = rw (d, c, b, a, toZ-ofZ f, toZ-ofZ g, toZ-ofZ k) (row-stored l₀ i id start end marks h)
 
 pub trailer-stored : (l : List ℕ) (i count : ℕ)
-    → sets (sets (sets (sets l i (bytesOf 2 28)) (i + 2) (bytesOf 2 1)) (i + 4) (bytesOf 4 (count % 4294967296))) (i + 8) (bytesOf 4 (28 * count % 4294967296))
-    ≡ sets l i (trailerOf count)
-unfolding trailerOf
+    → sets (sets (sets (sets l i (bytesOf 2 28)) (i + 2) (bytesOf 2 writtenVersion)) (i + 4) (bytesOf 4 (count % 4294967296))) (i + 8) (bytesOf 4 (28 * count % 4294967296))
+    ≡ sets l i (trailerBytes writtenVersion count)
+unfolding trailerBytes
 trailer-stored l i count =
     let a : i + 2 + 2 ≡ i + 4 = omega arith in
     let b : i + 4 + 4 ≡ i + 8 = omega arith in
     rw (
       bytes-append 2 28 _ l i,
-      bytes-append 2 1 _ _ (i + 2),
+      bytes-append 2 writtenVersion _ _ (i + 2),
       a,
       bytes-append 4 count _ _ (i + 4),
       b,
@@ -98,6 +92,6 @@ trailer-stored l i count =
     )
 
 module _ (count i : ℕ) (l₀ l₁ l₂ l₃ l₄ : List ℕ) where
-  pub trailer-steps : l₁ ≡ sets l₀ i (bytesOf 2 28) → l₂ ≡ sets l₁ (i + 2) (bytesOf 2 1) → l₃ ≡ sets l₂ (i + 4) (bytesOf 4 (count % 4294967296))
-      → l₄ ≡ sets l₃ (i + 8) (bytesOf 4 (28 * count % 4294967296)) → l₄ ≡ sets l₀ i (trailerOf count)
+  pub trailer-steps : l₁ ≡ sets l₀ i (bytesOf 2 28) → l₂ ≡ sets l₁ (i + 2) (bytesOf 2 writtenVersion) → l₃ ≡ sets l₂ (i + 4) (bytesOf 4 (count % 4294967296))
+      → l₄ ≡ sets l₃ (i + 8) (bytesOf 4 (28 * count % 4294967296)) → l₄ ≡ sets l₀ i (trailerBytes writtenVersion count)
   trailer-steps a b c d = rw (d, c, b, a) (trailer-stored l₀ i count)

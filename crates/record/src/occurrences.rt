@@ -2,6 +2,7 @@
 ghost use mathlib.Core.Path.{_≡_};
 ghost use lib.ListN.{length};
 ghost use lib.Seq.{sets};
+ghost use Rattle.sheet.specs.Writing.{rowBytes};
 ghost use Rattle.record.specs.Inner.Occurrences.{occurrenceRow, PutsRecord};
 use crate::Times;
 use crate::rows::marks;
@@ -25,7 +26,7 @@ pub fn put_occurrence(
     hints: &mut [usize],
 )
     requires { ⌜ PutsRecord (length (now buf)) at id times initial (now instants) (now offsets) (length (now hints)) ⌝ }
-    ensures { λ _. ⌜ now (buf .exit) ≡ sets (now (buf .entry)) at (occurrenceRow initial (now (instants .entry)) (now (offsets .entry)) id times) ⌝ }
+    ensures { λ _. ⌜ now (buf .exit) ≡ sets (now (buf .entry)) at (rowBytes (occurrenceRow initial (now (instants .entry)) (now (offsets .entry)) id times)) ⌝ }
 {
     let local = since_1970(times.start);
     let offset = offset_of(

@@ -4,8 +4,9 @@ ghost use Prim.Native.Nat.{_+_, _*_, _≤_, _<_, _^_};
 ghost use lib.ListN.{length};
 ghost use lib.Seq.{sets};
 ghost use Rattle.signed.specs.Choose.{if_then_else_};
-ghost use Rattle.call_definitions.specs.Bytes.{trailerOf};
-ghost use Rattle.record.specs.Inner.Rows.{marksFor, rowOf};
+ghost use Rattle.sheet.specs.Writing.{rowBytes, trailerBytes};
+ghost use Rattle.call_definitions.specs.Bytes.{writtenVersion};
+ghost use Rattle.record.specs.Inner.Rows.{marksFor};
 use little_endian::put_i64;
 use little_endian::put_u16;
 use little_endian::put_u32;
@@ -29,7 +30,7 @@ pub(crate) fn marks(busy: bool, allday: bool, floating: bool) -> u8
 // The marks and the three zeros after them are one number of four bytes.
 pub(crate) fn put_record(buf: &mut [u8], at: usize, id: i64, start: i64, end: i64, marks: u8)
     requires { ⌜ at + 28 ≤ length (now buf) ⌝ }
-    ensures { λ _. ⌜ now (buf .exit) ≡ sets (now (buf .entry)) at (rowOf id start end marks) ⌝ }
+    ensures { λ _. ⌜ now (buf .exit) ≡ sets (now (buf .entry)) at (rowBytes (record { id = id; start = start; end = end; marks = marks })) ⌝ }
 {
     put_i64(buf, at, id);
     put_i64(buf, at + 8, start);
@@ -40,7 +41,7 @@ pub(crate) fn put_record(buf: &mut [u8], at: usize, id: i64, start: i64, end: i6
 // Both numbers are written by their lowest four bytes: all of them, in a table of less than 2^32 bytes.
 pub fn put_trailer(buf: &mut [u8], at: usize, count: u64)
     requires { ⌜ (at + 12 ≤ length (now buf)) × (28 * count < 2 ^ 64) ⌝ }
-    ensures { λ _. ⌜ now (buf .exit) ≡ sets (now (buf .entry)) at (trailerOf count) ⌝ }
+    ensures { λ _. ⌜ now (buf .exit) ≡ sets (now (buf .entry)) at (trailerBytes writtenVersion count) ⌝ }
 {
     put_u16(buf, at, 28);
     put_u16(buf, at + 2, 1);

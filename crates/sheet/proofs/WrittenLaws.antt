@@ -11,7 +11,7 @@ use mir.Val.{SFits}
 use Rattle.little_endian.specs.Bytes.{bytesOf, twos, valueOf, signedOf, numberAt}
 use Rattle.little_endian.proofs.ByteLaws.{bytes-length, signed-twos, twos-small, field-at}
 use Rattle.sheet.specs.Records.{Row, idAt, startAt, endAt, marksAt, zerosAt}
-use Rattle.sheet.specs.Writing.{rowBytes, rowsBytes, trailerBytes}
+use Rattle.sheet.specs.Writing.{rowBytes, rowsBytes, trailerBytes, sheetOf}
 
 pub row-length : (r : Row) → length (rowBytes r) ≡ 28
 unfolding rowBytes
@@ -25,6 +25,17 @@ rows-length (r ∷ rs) = length-append (rowBytes r) (rowsBytes rs) ∙ omega (ar
 pub trailer-length : (version count : ℕ) → length (trailerBytes version count) ≡ 12
 unfolding trailerBytes
 trailer-length version count = simp (length-append, bytes-length)
+
+pub sheet-length : (version : ℕ) (rows : List Row) → length (sheetOf version rows) ≡ 28 * length rows + 12
+unfolding sheetOf
+sheet-length version rows =
+    length-append (rowsBytes rows) (trailerBytes version (length rows)) ∙ omega (arith, rows-length rows, trailer-length version (length rows))
+
+-- some records, and more
+pub rows-append : (a b : List Row) → rowsBytes (a ++ b) ≡ rowsBytes a ++ rowsBytes b
+unfolding rowsBytes
+rows-append [] b = refl
+rows-append (r ∷ a) b = rw (rows-append a b) (sym (append-assoc (rowBytes r) (rowsBytes a) (rowsBytes b)))
 
 -- record k among all of them, with q after them
 pub rows-split : (rows : List Row) (k : ℕ) (q : List ℕ) (d : Row) → k < length rows

@@ -4,7 +4,7 @@ use mathlib.Core.Bool.{true}
 use mathlib.Core.List.{List, [], _++_, append-nil}
 use mathlib.Core.Path.{_≡_, refl, sym, ap, ap₂, _∙_}
 use native.Mathlib.Omega.{arith}
-use lib.ListN.{length, take, drop, getD, length-append}
+use lib.ListN.{length, take, drop, getD}
 use lib.Seq.{length-take-le}
 use lib.Signed.{ltZ}
 use mir.Syntax.{w64}
@@ -17,7 +17,7 @@ use Rattle.sheet.specs.Writing.{rowBytes, rowsBytes, trailerBytes, sheet
 use Rattle.sheet.specs.Reading.{before, sizeOf, versionOf, countOf, distanceOf, rowsOf, known, mostMarks, risesAt, markedAt, clearAt, faultOf}
 use Rattle.sheet.proofs.RunLaws.{every-all, tab-drop}
 use Rattle.sheet.proofs.Accepted.{is-accepted}
-use Rattle.sheet.proofs.WrittenLaws.{rows-length, trailer-length, rows-split, id-read, start-read, end-read, marks-read, zeros-read, size-read, version-read, count-read, distance-read}
+use Rattle.sheet.proofs.WrittenLaws.{rows-length, sheet-length, rows-split, id-read, start-read, end-read, marks-read, zeros-read, size-read, version-read, count-read, distance-read}
 
 -- The numbers of a record fit into its bytes.
 pub record Fits (most : ℕ) (r : Row) : Type 0 where
@@ -89,12 +89,8 @@ module _ (version : ℕ) (d : Row) (rows : List Row) (w : Writable version d row
 
   -- ---- its trailer
 
-  long-is : length sheet ≡ 28 * n + 12
-  unfolding sheetOf
-  long-is = length-append (rowsBytes rows) (trailerBytes version n) ∙ omega (arith, rows-length rows, trailer-length version n)
-
   before-is : before sheet ≡ 28 * n
-  before-is = omega (arith, long-is)
+  before-is = omega (arith, sheet-length version rows)
 
   parted : sheet ≡ rowsBytes rows ++ (trailerBytes version n ++ [])
   unfolding sheetOf
@@ -129,7 +125,7 @@ module _ (version : ℕ) (d : Row) (rows : List Row) (w : Writable version d row
   written-accepted =
       is-accepted sheet
       (record {
-        long = omega (arith, long-is);
+        long = omega (arith, sheet-length version rows);
         version = rw version-back (w .version-known);
         size = size-is;
         distance = rw count-back distance-is;

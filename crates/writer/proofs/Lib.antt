@@ -1,4 +1,3 @@
-pub mod RowsLaws
 pub mod DetailsLaws
 pub mod TableLaws
 pub mod EventLaws

@@ -1,4 +1,3 @@
 pub mod Details
-pub mod Rows
 pub mod Table
 pub mod Writes

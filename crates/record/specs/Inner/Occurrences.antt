@@ -5,14 +5,20 @@ use mathlib.Core.List.{List}
 use mathlib.Core.Path.{_≡_}
 use lib.IntN.{ℤ}
 use Rattle.zone.specs.Table.{validTable}
+use Rattle.sheet.specs.Records.{Row}
 use Rattle.call_definitions.specs.Window.{since1970}
 use Rattle.record.specs.declared.Times.{Times}
-use Rattle.record.specs.Inner.Rows.{marksFor, rowOf}
+use Rattle.record.specs.Inner.Rows.{marksFor}
 use Rattle.record.specs.Inner.Utc.{startBy, endBy, Brief}
 
-unfoldable pub occurrenceRow : ℤ → List ℤ → List ℤ → ℕ → Times → List ℕ
+unfoldable pub occurrenceRow : ℤ → List ℤ → List ℤ → ℕ → Times → Row
 occurrenceRow initial instants offsets id t =
-    rowOf (since1970 id) (startBy initial instants offsets t) (endBy initial instants offsets t) (marksFor (t .busy) (t .allday) (t .floating))
+    record {
+      id = since1970 id;
+      start = startBy initial instants offsets t;
+      end = endBy initial instants offsets t;
+      marks = marksFor (t .busy) (t .allday) (t .floating);
+    }
 
 pub record Small (id : ℕ) (t : Times) : Type 0 where
   pub id-small : id < 2 ^ 60

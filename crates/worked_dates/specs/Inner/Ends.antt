@@ -1,13 +1,14 @@
 -- Worked ends: request 2, "A day is not 86,400 seconds", by the steps of source document 004, "Duration".
 use Prim.Native.Nat.{_+_, _*_}
 use mathlib.Core.Bool.{false}
-use mathlib.Core.List.{List, [], _∷_, _++_}
+use mathlib.Core.List.{List, [], _∷_}
 use mathlib.Core.Option.{none, some}
 use lib.IntN.{pos, negℤ}
 use Rattle.rule.specs.declared.Frequency.the-variants.{Daily}
 use Rattle.json_text.specs.Ascii.{ascii}
+use Rattle.sheet.specs.Writing.{sheetOf}
 use Rattle.call_definitions.specs.Utc.{ZoneTable}
-use Rattle.call_definitions.specs.Bytes.{trailerOf}
+use Rattle.call_definitions.specs.Bytes.{writtenVersion}
 use Rattle.call_definitions.specs.Results.{zonesOf}
 use Rattle.worked_dates.specs.Inner.Written.{Case, on, lengthOf, lasting, eventOf, rule, row, ending}
 
@@ -49,7 +50,7 @@ floating =
     record {
       zones = london;
       event = eventOf none (on 2026 3 28 + 43200) (lengthOf 1 0) [] [] [];
-      table = row (pos 1774699200) (pos 1774699200) (pos 1774785600) 5 ++ trailerOf 1;
+      table = sheetOf writtenVersion (row (pos 1774699200) (pos 1774699200) (pos 1774785600) 5 ∷ []);
     }
 
 -- London, daily from 2026-03-27T12:00:00, count 3, PT24H; an override makes it P1D on the 28th. That occurrence lasts 23 hours, from 2026-03-28T12:00:00Z
@@ -62,9 +63,11 @@ patched =
           eventOf (some (london .name)) (on 2026 3 27 + 43200) (lengthOf 0 86400) (rule Daily 1 0 [] [] [] (some 3) ∷ []) []
           (record { id = on 2026 3 28 + 43200; excluded = false; details = lasting (on 2026 3 28 + 43200) (lengthOf 1 0) } ∷ []);
       table =
-          row (pos 1774612800) (pos 1774612800) (pos 1774699200) 1
-          ++ (row (pos 1774699200) (pos 1774699200) (pos 1774782000) 1
-          ++ (row (pos 1774785600) (pos 1774782000) (pos 1774868400) 1 ++ trailerOf 3));
+          sheetOf writtenVersion
+          (row (pos 1774612800) (pos 1774612800) (pos 1774699200) 1
+          ∷ row (pos 1774699200) (pos 1774699200) (pos 1774782000) 1
+          ∷ row (pos 1774785600) (pos 1774782000) (pos 1774868400) 1
+          ∷ []);
     }
 
 -- ---- all cases: zone, local start, length; the local start from 1970, the start and the end in UTC

@@ -1,19 +1,19 @@
 -- How the cases are written.
 use Prim.Native.Nat.{ℕ, _+_, _*_}
 use mathlib.Core.Bool.{true, false}
-use mathlib.Core.List.{List, [], _∷_, _++_, map}
+use mathlib.Core.List.{List, [], _∷_, map}
 use mathlib.Core.Option.{Option, none, some}
 use lib.IntN.{ℤ}
-use lib.ListN.{length}
 use Rattle.gregorian.specs.Days.{dayOf}
 use Rattle.rule.specs.declared.Frequency.{Frequency}
 use Rattle.rule.specs.Written.{RecurrenceRule}
-use Rattle.little_endian.specs.Bytes.{bytesOf, twos}
+use Rattle.sheet.specs.Records.{Row}
+use Rattle.sheet.specs.Writing.{sheetOf}
 use Rattle.keywords.specs.declared.Privacy.the-variants.{Public}
 use Rattle.event.specs.Types.{Length, Details, Override, Event}
 use Rattle.call_definitions.specs.Window.{since1970}
 use Rattle.call_definitions.specs.Utc.{ZoneTable}
-use Rattle.call_definitions.specs.Bytes.{trailerOf}
+use Rattle.call_definitions.specs.Bytes.{writtenVersion}
 
 -- A zone table, an event, and the bytes of the table of its occurrences in the widest window.
 pub record Case : Type 0 where
@@ -53,15 +53,14 @@ rule f n week days monthDays positions count =
       count = count;
     }
 
--- ---- tables
+-- ---- records
 
-unfoldable pub row : ℤ → ℤ → ℤ → ℕ → List ℕ
-row id start end marks = bytesOf 8 (twos id) ++ (bytesOf 8 (twos start) ++ (bytesOf 8 (twos end) ++ (marks ∷ 0 ∷ 0 ∷ 0 ∷ [])))
+unfoldable pub row : ℤ → ℤ → ℤ → ℕ → Row
+row id start end marks = record { id = id; start = start; end = end; marks = marks }
 
--- The rows of a floating event of no length at these date-times: busy and floating.
-unfoldable pub floatingRows : List ℕ → List ℕ
-floatingRows [] = []
-floatingRows (x ∷ xs) = row (since1970 x) (since1970 x) (since1970 x) 5 ++ floatingRows xs
+-- The record of a floating event of no length at this date-time: busy and floating.
+unfoldable pub floatingRow : ℕ → Row
+floatingRow x = row (since1970 x) (since1970 x) (since1970 x) 5
 
 -- ---- cases
 
@@ -70,7 +69,7 @@ noZone = record { name = []; initial = lib.IntN.pos 0; instants = []; offsets = 
 
 -- A floating event of no length that occurs at these date-times.
 unfoldable pub dated : Event → List ℕ → Case
-dated e xs = record { zones = noZone; event = e; table = floatingRows xs ++ trailerOf (length xs) }
+dated e xs = record { zones = noZone; event = e; table = sheetOf writtenVersion (map floatingRow xs) }
 
 unfoldable pub ruled : ℕ → RecurrenceRule → List ℕ → Case
 ruled start r xs = dated (eventOf none start (lengthOf 0 0) (r ∷ []) [] []) xs
@@ -78,7 +77,7 @@ ruled start r xs = dated (eventOf none start (lengthOf 0 0) (r ∷ []) [] []) xs
 -- A single event in a zone: its local start, from 1600, and its length; the local start, from 1970, and the start and the end in UTC.
 unfoldable pub ending : ZoneTable → ℕ → Length → ℤ → ℤ → ℤ → Case
 ending zones start size local utc end =
-    record { zones = zones; event = eventOf (some (zones .name)) start size [] [] []; table = row local utc end 1 ++ trailerOf 1 }
+    record { zones = zones; event = eventOf (some (zones .name)) start size [] [] []; table = sheetOf writtenVersion (row local utc end 1 ∷ []) }
 
 -- One of no length.
 unfoldable pub timed : ZoneTable → ℕ → ℤ → ℤ → Case

@@ -7,6 +7,7 @@ use lib.Dec.{eqb}
 use lib.IntN.{ℤ}
 use lib.ListN.{length, getD}
 use Rattle.signed.specs.Choose.{if_then_else_}
+use Rattle.sheet.specs.Records.{Row}
 use Rattle.event.specs.Types.{Details}
 use Rattle.call_definitions.specs.Occurrence.{withStart}
 use Rattle.override_text.specs.declared.Own.{Own}
@@ -40,5 +41,5 @@ timesFrom own floating x =
 unfoldable pub patchTimes : Bool → Details → List ℕ → ℕ → ℕ → Times
 patchTimes floating own s at id = timesOf floating (patchDetails own s at id)
 
-unfoldable pub rowBy : Bool → ℤ → List ℤ → List ℤ → (ℕ → Details) → ℕ → List ℕ
+unfoldable pub rowBy : Bool → ℤ → List ℤ → List ℤ → (ℕ → Details) → ℕ → Row
 rowBy floating initial instants offsets details x = occurrenceRow initial instants offsets x (timesOf floating (details x))

@@ -1,20 +1,21 @@
 -- What the writer asks for, and what it leaves in the buffer.
 use Prim.Native.Nat.{ℕ, _+_, _*_, _<_, _≤_, _^_}
 use mathlib.Core.Bool.{true}
-use mathlib.Core.List.{List}
+use mathlib.Core.List.{List, map}
 use mathlib.Core.Path.{_≡_}
 use lib.IntN.{ℤ}
 use lib.ListN.{length, getD}
 use lib.Seq.{sets}
 use Rattle.json_ends.specs.Inner.Ends.{Ends}
 use Rattle.zone.specs.Table.{validTable}
+use Rattle.sheet.specs.Records.{Row}
+use Rattle.sheet.specs.Writing.{rowsBytes}
 use Rattle.override_text.specs.Inner.Meaning.{detailsIn}
 use Rattle.record.specs.Inner.Utc.{timesOf}
 use Rattle.record.specs.Inner.Occurrences.{Small}
 use Rattle.window.specs.Inner.Sorted.{Ordered}
 use Rattle.writer.specs.declared.Form.{Form}
 use Rattle.writer.specs.Inner.Details.{detailsBy, rowBy}
-use Rattle.writer.specs.Inner.Rows.{rowsOf}
 
 -- What a record is made from: the text and its ends, what is kept of the event, its overrides with the places of their patches, and the zone
 -- table.
@@ -42,10 +43,10 @@ pub record WritesAt (size at : ℕ) (chunk s t : List ℕ) (f : Form) (ids place
   pub room : at + 28 * length chunk ≤ size
 
 -- The record of each id.
-abbrev pub rowFor : List ℕ → Form → List ℕ → List ℕ → ℤ → List ℤ → List ℤ → ℕ → List ℕ
+abbrev pub rowFor : List ℕ → Form → List ℕ → List ℕ → ℤ → List ℤ → List ℤ → ℕ → Row
 rowFor s f ids places initial instants offsets = rowBy (f .floating) initial instants offsets (detailsBy s (detailsIn s (f .own)) ids places)
 
 -- The rows of a chunk, one after the other, and the place after them.
-pub record WroteChunk (row : ℕ → List ℕ) (chunk : List ℕ) (at : ℕ) (before after : List ℕ) (end : ℕ) : Type 0 where
-  pub bytes : after ≡ sets before at (rowsOf row chunk)
+pub record WroteChunk (row : ℕ → Row) (chunk : List ℕ) (at : ℕ) (before after : List ℕ) (end : ℕ) : Type 0 where
+  pub bytes : after ≡ sets before at (rowsBytes (map row chunk))
   pub place : end ≡ at + 28 * length chunk

@@ -13,7 +13,6 @@ use Rattle.dates.specs.Inner.Dates.{datesIn}
 use Rattle.window.specs.Inner.Lists.{listIn}
 use Rattle.window.proofs.HandLaws.{chunk-early, handed-few}
 use Rattle.writer.specs.Inner.Writes.{rowFor}
-use Rattle.writer.proofs.RowsLaws.{by-length}
 use Rattle.writer.proofs.TableLaws.{ids-few, table-refused, trailer-fits, table-given}
 use Rattle.writer.proofs.WritesLaws.{writes-again}
 use Rattle.writer.proofs.WroteLaws.{wrote-start, wrote-next, wrote-asks, wrote-end}
@@ -44,7 +43,7 @@ returns : tie.Need-returns Inv-loop μ-loop
 returns c =
     let q = c .before .before .before .before .before .before .before .before .before .before .before .before .before .before in
     let h = c .before .before .before .ids-from .ensures in
-    table-refused (rowFor (q .args .text .now) (q .args .kept .form) (q .args .ids .now) (q .args .places .now) (q .args .initial) (q .args .instants .now) (q .args .offsets .now)) (by-length _ _ _ _ _)
+    table-refused (rowFor (q .args .text .now) (q .args .kept .form) (q .args .ids .now) (q .args .places .now) (q .args .initial) (q .args .instants .now) (q .args .offsets .now))
     (datesIn (q .args .kept .dates) (q .args .rows .now) (q .args .ids .now) (q .args .gone .now)) (q .args .window .from) (q .args .window .to) (q .args .buffer .now)
     (no-room (datesIn (q .args .kept .dates) (q .args .rows .now) (q .args .ids .now) (q .args .gone .now)) (q .args .window .from) (q .args .window .to) _ _ _ _ h (length (q .args .buffer .now))
     (c .before .has-room .result) (c .before .has-room .ensures) (not-true (c .before .has-room .result) (c .if1 .taken)))
@@ -95,14 +94,14 @@ loop-again c =
     let h = c .before .ids-from2 .ensures in
     record {
       size = h .size ∙ i .size;
-      wrote = wrote-next _ _ _ _ _ _ _ _ _ (i .wrote) _ _ _ _ (i .handed) (by-length _ _ _ _ _) _ _ (c .before .before .before .before .before .write-records .ensures);
+      wrote = wrote-next _ _ _ _ _ _ _ _ _ (i .wrote) _ _ _ _ (i .handed) _ _ (c .before .before .before .before .before .write-records .ensures);
       handed = handed-here _ _ _ _ _ _ _ h;
     }
 
 put-trailer-requires : tie.Need-put-trailer-requires Inv-loop μ-loop
 put-trailer-requires c κs =
     let q = c .before .before .before .before .before .before .before .before .before .before .before .before .before .before .before .before .before in
-    trailer-fits (rowFor (q .args .text .now) (q .args .kept .form) (q .args .ids .now) (q .args .places .now) (toZ w64 (ofZ w64 (q .args .initial))) (q .args .instants .now) (q .args .offsets .now)) (by-length _ _ _ _ _)
+    trailer-fits (rowFor (q .args .text .now) (q .args .kept .form) (q .args .ids .now) (q .args .places .now) (toZ w64 (ofZ w64 (q .args .initial))) (q .args .instants .now) (q .args .offsets .now))
     (datesIn (q .args .kept .dates) (q .args .rows .now) (q .args .ids .now) (q .args .gone .now)) (q .args .window .from) (q .args .window .to) _ _ _
     (wrote-end _ _ _ _ _ _ _ _ _ (c .before .before .loop .inv .wrote) (c .before .loop-test .left)) (q .pre .span) (enough (c .before .before .before))
 
@@ -119,7 +118,7 @@ returns-2 : tie.Need-returns-2 Inv-loop μ-loop
 returns-2 c =
     let q = c .before .before .before .before .before .before .before .before .before .before .before .before .before .before .before .before .before .before .before .before in
     let w = wrote-end _ _ _ _ _ _ _ _ _ (c .before .before .before .before .before .loop .inv .wrote) (c .before .before .before .before .loop-test .left) in
-    rw (toZ-ofZ (q .fits .initial)) at (table-given (rowFor (q .args .text .now) (q .args .kept .form) (q .args .ids .now) (q .args .places .now) (toZ w64 (ofZ w64 (q .args .initial))) (q .args .instants .now) (q .args .offsets .now)) (by-length _ _ _ _ _)
+    rw (toZ-ofZ (q .fits .initial)) at (table-given (rowFor (q .args .text .now) (q .args .kept .form) (q .args .ids .now) (q .args .places .now) (toZ w64 (ofZ w64 (q .args .initial))) (q .args .instants .now) (q .args .offsets .now))
     (datesIn (q .args .kept .dates) (q .args .rows .now) (q .args .ids .now) (q .args .gone .now)) (q .args .window .from) (q .args .window .to) (q .args .buffer .now) _ _ w (enough (c .before .before .before .before .before .before)) _ (c .before .before .put-trailer .ensures))
 
 pub put-table-spec : {M : Type 1} → statement M

@@ -11,9 +11,8 @@ use Rattle.override_text.specs.Inner.Meaning.{detailsIn}
 use Rattle.record.specs.Inner.Occurrences.{Small}
 use Rattle.writer.specs.Inner.Details.{detailsBy}
 use Rattle.writer.specs.Inner.Writes.{rowFor}
-use Rattle.writer.proofs.RowsLaws.{by-length, row-found}
 use Rattle.writer.proofs.WritesLaws.{writes-again, writes-look}
-use Rattle.writer.proofs.RecordsLaws.{ChunkAt, chunk-starts, chunk-room, chunk-one, chunk-ends}
+use Rattle.writer.proofs.RecordsLaws.{row-found, ChunkAt, chunk-starts, chunk-room, chunk-one, chunk-ends}
 use borrow.Author.Needs.{needs}
 use Rattle.writer.proofs.records.write_records.Statement.{statement}
 use Rattle.writer.proofs.records.write_records.Tie as tie
@@ -76,7 +75,7 @@ loop-again c =
     let q = c .before .before .before .before .before .before .before .before .before .before .before .before .before .before .before .before in
     let details = detailsBy (q .args .text .now) (detailsIn (q .args .text .now) (q .args .form .own)) (q .args .ids .now) (q .args .places .now) in (
       search needs,
-      chunk-one _ _ _ _ _ _ _ (i .inv .1) (by-length _ _ (q .args .instants .now) (q .args .offsets .now) details) (c .before .before .before .before .before .before .before .before .loop-test .taken) _
+      chunk-one _ _ _ _ _ _ _ (i .inv .1) (c .before .before .before .before .before .before .before .before .loop-test .taken) _
           (c .before .before .before .put-occurrence .ensures ∙ ap (sets _ _) (row-found _ _ (q .args .instants .now) (q .args .offsets .now) details _ _ (t .ensures))),
     )
 
