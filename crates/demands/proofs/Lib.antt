@@ -12,4 +12,5 @@ pub mod DemandTwoTexts
 pub mod DemandThree
 pub mod Written
 pub mod Weeks
+pub mod Reading
 pub mod Promises

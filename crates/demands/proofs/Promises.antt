@@ -8,7 +8,7 @@ use Rattle.event.specs.Types.{Text, Details}
 use Rattle.event.specs.Event.{eventOf}
 use Rattle.call_definitions.specs.Occurrence.{detailsAt}
 use Rattle.call_definitions.specs.Call.{textOf, titleOf, descriptionOf}
-use Rattle.demands.specs.Promises.{TablePromises, TextPromises, WeeksPromises, Promises}
+use Rattle.demands.specs.Promises.{TablePromises, TextPromises, WeeksPromises, ReadingPromises, Promises}
 use Rattle.demands.proofs.Lowest.{lowest-one}
 use Rattle.demands.proofs.TextAnswers.{accepted-none}
 use Rattle.demands.proofs.DemandOne.{table-answered, text-answered, part-answered}
@@ -18,8 +18,9 @@ use Rattle.demands.proofs.DemandTwoTexts.{text-told, part-told}
 use Rattle.weeks.proofs.FloorWeeks.{in-week-floor}
 use Rattle.weeks.proofs.Touching.{touches-shares}
 use Rattle.demands.specs.Weeks.{SameReplays}
-use Rattle.demands.proofs.Written.{count-is, written-accepted}
+use Rattle.demands.proofs.Written.{written-read, secret-count}
 use Rattle.demands.proofs.Weeks.{weeks-answered, weeks-sorted, same-replays, shuts-nothing}
+use Rattle.demands.proofs.Reading.{read-answered, record-answered, run-answered, read-exact, same-bytes, same-readings, no-records}
 use Rattle.demands.proofs.DemandThree.{private-same, secret-same, silent, silent-part, private-words, private-parts, fourteen}
 
 -- two sheets of the same bytes
@@ -70,7 +71,7 @@ weeks-promises =
       sorted = weeks-sorted;
       floor = in-week-floor;
       touching = touches-shares;
-      written = written-accepted;
+      written = λ zones s from to buffer answer size after g done. written-read zones s from to buffer answer size after g done .accepted;
       private =
           λ s t h k agree zones from to buffer answer answer′ size size′ after after′ g g′.
           let same = private-same zones from to buffer answer answer′ size size′ after after′ s t h k agree g g′ .0 in
@@ -79,7 +80,30 @@ weeks-promises =
           λ s t h k zones from to buffer answer answer′ size size′ after after′ g g′.
           let same = secret-same zones from to buffer answer answer′ size size′ after after′ s t h k g g′ in (
             same-sheets size size′ after after′ (same .0 .sizes) (same .0 .bytes),
-            λ done. shuts-nothing (take size after) (count-is 0 size buffer after (same .1 done)),
+            λ done. shuts-nothing (take size after) (secret-count zones s from to buffer answer size after g done (h .setting)),
+          );
+    }
+
+reading-promises : ReadingPromises
+reading-promises =
+    record {
+      read = read-answered;
+      fetched = record-answered;
+      run = run-answered;
+      written = written-read;
+      exact = read-exact;
+      same = same-bytes;
+      private =
+          λ s t h k agree zones from to buffer answer answer′ size size′ after after′ g g′.
+          let same = private-same zones from to buffer answer answer′ size size′ after after′ s t h k agree g g′ .0 in
+          same-readings (take size after) (take size′ after′) (ap₂ take (same .sizes) (same .bytes));
+      secret =
+          λ s t h k zones from to buffer answer answer′ size size′ after after′ g g′.
+          let same = secret-same zones from to buffer answer answer′ size size′ after after′ s t h k g g′ .0 in (
+            same-readings (take size after) (take size′ after′) (ap₂ take (same .sizes) (same .bytes)),
+            λ done.
+                no-records (take size after) (written-read zones s from to buffer answer size after g done .accepted)
+                (secret-count zones s from to buffer answer size after g done (h .setting)),
           );
     }
 
@@ -92,4 +116,5 @@ promises =
       title = title-promises;
       description = description-promises;
       weeks = weeks-promises;
+      reading = reading-promises;
     }

@@ -4,4 +4,5 @@ pub mod One
 pub mod Two
 pub mod Three
 pub mod Weeks
+pub mod Reading
 pub mod Promises

@@ -5,6 +5,8 @@
 --     Shows (titleOf ..)        smocurant_title                    Shows (descriptionOf ..)   smocurant_description
 --     Tells (titleOf ..)        texts::calls::title                Tells (descriptionOf ..)   texts::calls::description
 --     Replays (replayOf ..)     smocurant_weeks
+--     Summarises (summaryOf ..) smocurant_read                     Fetches (fetchOf ..)       smocurant_record
+--     FetchesRun (runOf ..)     smocurant_records
 -- One value has this type: proofs/Promises `promises`.
 use Prim.Native.Nat.{ℕ}
 use mathlib.Core.Bool.{true, false}
@@ -15,8 +17,11 @@ use mathlib.Core.Path.{_≡_}
 use lib.IntN.{ℤ, pos, _+ℤ_}
 use lib.ListN.{take}
 use lib.Signed.{ltZ}
+use Rattle.little_endian.specs.Bytes.{AllBytes}
 use Rattle.sheet.specs.Records.{Row}
+use Rattle.sheet.specs.Writing.{sheetOf}
 use Rattle.sheet.specs.Reading.{rowsOf, faultOf}
+use Rattle.sheet.specs.Fetching.{summaryOf, fetchOf, runOf, Summarises, Fetches, FetchesRun}
 use Rattle.weeks.specs.Weeks.{isMonday, inWeek, touches}
 use Rattle.weeks.specs.Touching.{Shares}
 use Rattle.weeks.specs.Calendar.{weekOf}
@@ -35,6 +40,7 @@ use Rattle.demands.specs.One.{TableAnswered, TextAnswered, PartAnswered}
 use Rattle.demands.specs.Two.{Listed, Told, PartTold}
 use Rattle.demands.specs.Three.{SameTable, PrivateTable, SameText, SamePart}
 use Rattle.demands.specs.Weeks.{WeeksAnswered, WeeksSorted, SameReplays, ShutsNothing}
+use Rattle.demands.specs.Reading.{ReadAnswered, RecordAnswered, Slices, RunAnswered, ReadBack, SameReadings, NoRecords}
 
 -- The calls for the sheet.
 pub record TablePromises : Type 0 where
@@ -116,6 +122,36 @@ pub record WeeksPromises : Type 0 where
       → Gives (expandText zones s from to buffer) answer size after → Gives (expandText zones t from to buffer) answer′ size′ after′
       → SameReplays (take size after) (take size′ after′) × (answer ≡ 0 → ShutsNothing (take size after))
 
+-- The calls that read a sheet back, given its bytes: those of an event are `take size after`, as above.
+pub record ReadingPromises : Type 0 where
+  -- 1. ".. a call ends with one answer: the lowest number of the table whose condition holds." Request 1: "Here and later a refusal changes nothing".
+  -- Request 3: "We want a reader that starts from the trailer and hands out record by number."
+  pub read : (sheet : List ℕ) (answer version count : ℕ) → Summarises (summaryOf sheet) answer version count → ReadAnswered sheet answer version count
+  pub fetched : (sheet : List ℕ) (number answer : ℕ) (id start end : ℤ) (marks : ℕ) → Fetches (fetchOf sheet number) answer id start end marks
+      → RecordAnswered sheet number answer id start end marks
+  pub run : (sheet : List ℕ) (first : ℕ) (l : Slices) (answer count : ℕ) (after : Slices)
+      → FetchesRun (runOf sheet first (l .ids) (l .starts) (l .ends) (l .marks)) answer count (after .ids) (after .starts) (after .ends) (after .marks)
+      → RunAnswered sheet first l answer count after
+  -- 2. "UTC times, marks .. are those of the same document." Request 3: "Every sheet the library writes is read back to the records that made it".
+  pub written : (zones : ZoneTable) (s : List ℕ) (from to : ℤ) (buffer : List ℕ) (answer size : ℕ) (after : List ℕ)
+      → Gives (expandText zones s from to buffer) answer size after → answer ≡ 0 → ReadBack zones (eventOf s) from to (take size after)
+  -- "any bytes that it accepts as a whole are what the writer of that version would give for those records"
+  pub exact : (sheet : List ℕ) → AllBytes sheet → (answer version count : ℕ) → Summarises (summaryOf sheet) answer version count → answer ≡ 0
+      → sheetOf version (rowsOf sheet) ≡ sheet
+  -- Two accepted sheets with the same records are the same bytes. (There is one version.)
+  pub same : (sheet sheet′ : List ℕ) → AllBytes sheet → AllBytes sheet′ → faultOf sheet ≡ 0 → faultOf sheet′ ≡ 0 → rowsOf sheet ≡ rowsOf sheet′
+      → sheet ≡ sheet′
+  -- 3. ".. the planner gets the same answer": two accepted private events that agree are read back alike, whatever number and slices.
+  pub private : (s t : List ℕ) → Accepted Private s → Accepted Private t → Agree (eventOf s) (eventOf t)
+      → (zones : ZoneTable) (from to : ℤ) (buffer : List ℕ) (answer answer′ size size′ : ℕ) (after after′ : List ℕ)
+      → Gives (expandText zones s from to buffer) answer size after → Gives (expandText zones t from to buffer) answer′ size′ after′
+      → SameReadings (take size after) (take size′ after′)
+  -- 3. ".. Whatever else they hold": the same for two accepted secret events, "and a sheet answered 0 has no records".
+  pub secret : (s t : List ℕ) → Accepted Secret s → Accepted Secret t
+      → (zones : ZoneTable) (from to : ℤ) (buffer : List ℕ) (answer answer′ size size′ : ℕ) (after after′ : List ℕ)
+      → Gives (expandText zones s from to buffer) answer size after → Gives (expandText zones t from to buffer) answer′ size′ after′
+      → SameReadings (take size after) (take size′ after′) × (answer ≡ 0 → NoRecords (take size after))
+
 -- All that is promised.
 pub record Promises : Type 0 where
   -- 1. "one answer": two numbers that both are the lowest are equal.
@@ -126,3 +162,4 @@ pub record Promises : Type 0 where
   pub title : TextPromises titleOf (λ d. d .title)
   pub description : TextPromises descriptionOf (λ d. d .description)
   pub weeks : WeeksPromises
+  pub reading : ReadingPromises

@@ -64,16 +64,13 @@ rowIn l k = record { id = getD (l .ids) k (pos 0); start = getD (l .starts) k (p
 abbrev pub past : ℕ → Slices → Slices
 past n l = record { ids = drop n (l .ids); starts = drop n (l .starts); ends = drop n (l .ends); marks = drop n (l .marks) }
 
--- How many records every slice has room for.
-abbrev pub roomIn : Slices → ℕ
-roomIn l = min (length (l .ids)) (min (length (l .starts)) (min (length (l .ends)) (length (l .marks))))
-
 pub record RunAnswered (sheet : List ℕ) (first : ℕ) (before : Slices) (answer count : ℕ) (after : Slices) : Type 0 where
   pub one : Lowest (recordConditions sheet first) answer
   pub refusedCount : (answer ≡ 0 → ⊥) → count ≡ 0
   pub refusedSlices : (answer ≡ 0 → ⊥) → after ≡ before
-  -- as many as there are from that number on, and as there is room for
-  pub countIs : answer ≡ 0 → count ≡ min (roomIn before) (length (rowsOf sheet) - first)
+  -- as many as each slice has room for, and as there are from that number on
+  pub countIs : answer ≡ 0
+      → count ≡ min (length (before .ids)) (min (length (before .starts)) (min (length (before .ends)) (min (length (before .marks)) (length (rowsOf sheet) - first))))
   -- in order, each at its place
   pub recordsAre : (d : Row) → answer ≡ 0 → (k : ℕ) → k < count → rowIn after k ≡ getD (rowsOf sheet) (first + k) d
   -- "a buffer keeps what lies past the result"

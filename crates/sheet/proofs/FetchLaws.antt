@@ -108,13 +108,18 @@ module _ (s : List ℕ) (first : ℕ) (ids starts ends : List ℤ) (marks : List
   unfolding rowAt
   marks-at k = refl
 
+  -- what it hands out, as a run of records
+  pub run-done : fetchFault s first ≡ 0 → runOf s first ids starts ends marks ≡ handedOut (tabulate (rowAt s) first room) ids starts ends marks
+  unfolding runOf
+  run-done z = rw (eq-eqb (fetchFault s first) 0 z, rows-are)
+
   pub run-read : fetchFault s first ≡ 0 → (n : ℕ) → n ≡ room → (ids′ starts′ ends′ : List ℤ) (marks′ : List ℕ)
       → ids′ ≡ tabulate (idAt s) first n ++ drop n ids → starts′ ≡ tabulate (startAt s) first n ++ drop n starts
       → ends′ ≡ tabulate (endAt s) first n ++ drop n ends → marks′ ≡ tabulate (marksAt s) first n ++ drop n marks
       → FetchesRun (runOf s first ids starts ends marks) 0 n ids′ starts′ ends′ marks′
-  unfolding runOf handedOut
+  unfolding handedOut
   run-read z n is ids′ starts′ ends′ marks′ a b c d =
-      rw (eq-eqb (fetchFault s first) 0 z, rows-are, ← is)
+      rw (run-done z, ← is)
       (record {
         answer-is = refl;
         count-is = sym (tab-length (rowAt s) first n);
