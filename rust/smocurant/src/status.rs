@@ -120,7 +120,7 @@ impl Status {
             Status::Unsupported => "The event uses a form that is not supported.",
             Status::TooMany => "The event has more than 8 rules in a list, 64 entries in a by-list, or 256 overrides.",
             Status::ZoneTable => "The zone table is invalid.",
-            Status::Window => "The window is invalid: its start lies behind its end, or it leaves the years 1601 to 9998.",
+            Status::Window => "The window is invalid: its start lies after its end, or it leaves the years 1601 to 9998.",
             Status::OtherZone => "The event is in another time zone than the zone table.",
             Status::Buffer => "The table is longer than the buffer.",
             Status::NoOccurrence => "The date is no occurrence, or the event is secret.",
