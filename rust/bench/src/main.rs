@@ -2,29 +2,37 @@
 //!
 //!     cargo run --release -p bench
 //!     cargo run --release -p bench -- weeks
+//!     cargo run --release -p bench -- sheets
 //!
-//! The second line runs the section on weeks alone.
+//! The second line runs the section on weeks alone, the third that on reading sheets.
 //!
 //! A time is processor time, and the best of some batches, as everything else that a machine does only makes it longer. Times are of this
 //! machine alone; the ratios say more.
 
 mod libical;
 mod measure;
+mod sheets;
 mod texts;
 mod weeks;
 mod workloads;
 
 use measure::{in_turns, nanoseconds};
+use smocurant::Table;
 use std::hint::black_box;
 use workloads::Workload;
 
+/// The sections by their names, in the order in which they are printed.
+const SECTIONS: [(&str, fn()); 3] = [("expansions", print_expansions), ("weeks", weeks::print), ("sheets", sheets::print)];
+
 fn main() {
-    println!("Machine: {}.\n", measure::machine());
     let only = std::env::args().nth(1);
-    if only.is_none_or(|section| section != "weeks") {
-        print_expansions();
+    let is_asked_for = |name: &str| only.as_ref().is_none_or(|only| only == name);
+    if !SECTIONS.iter().any(|(name, _)| is_asked_for(name)) {
+        eprintln!("bench: the sections are {}", SECTIONS.map(|(name, _)| name).join(", "));
+        std::process::exit(2);
     }
-    weeks::print();
+    println!("Machine: {}.\n", measure::machine());
+    SECTIONS.iter().filter(|(name, _)| is_asked_for(name)).for_each(|(_, print)| print());
 }
 
 /// Events in windows.
@@ -55,7 +63,7 @@ fn print_line(workload: &Workload, libical: Option<&libical::Libical>) {
     let mut buffer = vec![0; workload.room()];
     let (answer, length) = workload.library(&mut buffer);
     assert_eq!((answer, length), workload.expander(&mut buffer), "{}", workload.name);
-    let records = (length as usize).saturating_sub(12) / 28;
+    let records = spans(&buffer[..length as usize]).len();
     let mut other_buffer = buffer.clone();
     let rule = libical.zip(workload.rule.as_ref());
     let [library, expander, other] = in_turns([
@@ -84,10 +92,9 @@ fn print_line(workload: &Workload, libical: Option<&libical::Libical>) {
     );
 }
 
-/// The start and the end of each record.
-fn spans(records: &[u8]) -> Vec<(i64, i64)> {
-    let number = |bytes: &[u8]| i64::from_le_bytes(bytes.try_into().expect("eight bytes"));
-    records.chunks(28).map(|record| (number(&record[8..16]), number(&record[16..24]))).collect()
+/// The start and the end of each record; none where the call was refused.
+fn spans(sheet: &[u8]) -> Vec<(i64, i64)> {
+    Table::read(sheet).map_or(Vec::new(), |table| table.records().map(|record| (record.start, record.end)).collect())
 }
 
 /// Events in London, with libical doing the same work: from a text and a zone at hand to the start and the end of each occurrence in UTC.
@@ -98,8 +105,9 @@ fn print_beside(libical: &libical::Libical) {
     for (workload, text) in workloads::in_london() {
         let mut buffer = vec![0; workload.room()];
         let (_, length) = workload.library(&mut buffer);
-        let records = (length as usize - 12) / 28;
-        assert_eq!(libical.occurrences(&text, workload.window), spans(&buffer[..28 * records]), "{}", workload.name);
+        let spans = spans(&buffer[..length as usize]);
+        let records = spans.len();
+        assert_eq!(libical.occurrences(&text, workload.window), spans, "{}", workload.name);
         let empty = workload.without_window();
         let mut empty_buffer = vec![0; workload.room()];
         let [library, without, other, other_rule] = in_turns([
@@ -152,7 +160,7 @@ fn print_growth(workloads: &[Workload]) {
         let (_, length) = workload.library(&mut buffer);
         let time = nanoseconds(|| workload.library(&mut buffer));
         let ratio = before.map_or(String::new(), |before: f64| format!("{:.2}", time / before));
-        let records = length.saturating_sub(12) / 28;
+        let records = spans(&buffer[..length as usize]).len();
         println!("| {} | {} | {records} | {:.3} | {ratio} |", workload.name, workload.text.len(), time / 1e6);
         before = Some(time);
     }

@@ -3,7 +3,7 @@
 use crate::texts;
 use generator::dates;
 use generator::examples::{by_day, event, recurring};
-use smocurant::{tzif, Window, ZoneTable};
+use smocurant::{expand_to_vec, tzif, Window, ZoneTable};
 use std::ffi::CString;
 use std::rc::Rc;
 
@@ -33,10 +33,11 @@ impl Workload {
         Workload { name: self.name.clone(), text: self.text.clone(), window, rule: None, zone: zone() }
     }
 
-    /// Room for an occurrence a day, and the overrides.
+    /// As many bytes as the table takes; none where the call is refused.
     pub fn room(&self) -> usize {
-        let days = (self.window.1 - self.window.0) / dates::DAY + 1;
-        (days as usize + 256) * 28 + 12
+        let (start, end) = self.window;
+        let table = Window::new(start, end).and_then(|window| expand_to_vec(&self.text, &self.zone, window));
+        table.map_or(0, |table| table.as_bytes().len())
     }
 
     /// The library's call.

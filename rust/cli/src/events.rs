@@ -33,7 +33,7 @@ impl Events {
 
     /// The text and the table of an event. A zone that is not the event's gives way to the next.
     pub fn occurrences(&self, source: &Source) -> Result<(Vec<u8>, Table<'static>), String> {
-        let text = source.read().map_err(|error| format!("cannot be read: {error}"))?;
+        let text = source.text().map_err(|error| format!("cannot be read: {error}"))?;
         let mut answer = Err(Status::OtherZone);
         for zone in &self.zones {
             answer = smocurant::expand_to_vec(&text, zone, self.window);

@@ -7,7 +7,7 @@ use std::path::{Path, PathBuf};
 /// A text is read up to one byte over what the library takes, so that it can say so.
 const MOST_BYTES: u64 = 65_537;
 
-/// Where an event comes from.
+/// Where an event or a sheet comes from.
 pub enum Source {
     /// A file.
     File(PathBuf),
@@ -16,6 +16,15 @@ pub enum Source {
 }
 
 impl Source {
+    /// The one that a word of the command line names.
+    pub fn named(word: &str) -> Source {
+        if word == "-" {
+            Source::Input
+        } else {
+            Source::File(word.into())
+        }
+    }
+
     /// What it is called in the output.
     pub fn name(&self) -> String {
         match self {
@@ -30,24 +39,30 @@ impl Source {
     }
 
     /// The event's text.
-    pub fn read(&self) -> io::Result<Vec<u8>> {
-        let mut text = Vec::new();
+    pub fn text(&self) -> io::Result<Vec<u8>> {
+        self.read(MOST_BYTES)
+    }
+
+    /// The bytes of a sheet, however long it is.
+    pub fn sheet(&self) -> io::Result<Vec<u8>> {
+        self.read(u64::MAX)
+    }
+
+    fn read(&self, most: u64) -> io::Result<Vec<u8>> {
+        let mut bytes = Vec::new();
         match self {
-            Source::File(path) => fs::File::open(path)?.take(MOST_BYTES).read_to_end(&mut text)?,
-            Source::Input => io::stdin().lock().take(MOST_BYTES).read_to_end(&mut text)?,
+            Source::File(path) => fs::File::open(path)?.take(most).read_to_end(&mut bytes)?,
+            Source::Input => io::stdin().lock().take(most).read_to_end(&mut bytes)?,
         };
-        Ok(text)
+        Ok(bytes)
     }
 }
 
-/// The files that a word of the command line means; a folder means its `*.json` files by name.
+/// The events that a word of the command line means; a folder means its `*.json` files by name.
 pub fn sources(word: &str) -> Result<Vec<Source>, String> {
-    if word == "-" {
-        return Ok(vec![Source::Input]);
-    }
     let path = Path::new(word);
-    if !path.is_dir() {
-        return Ok(vec![Source::File(path.to_path_buf())]);
+    if word == "-" || !path.is_dir() {
+        return Ok(vec![Source::named(word)]);
     }
     let entries = fs::read_dir(path).map_err(|error| format!("{word}: the folder cannot be read: {error}"))?;
     let is_event = |path: &PathBuf| path.extension().is_some_and(|extension| extension == "json") && path.is_file();

@@ -1,4 +1,5 @@
-//! What JSCalendar events say to a planner: every occurrence in a window, or the weeks of an upload log that were shut and that went missing.
+//! What JSCalendar events say to a planner: every occurrence in a window, the weeks of an upload log that were shut and that went missing, and
+//! the records of sheets that were stored.
 
 mod destination;
 mod events;
@@ -6,7 +7,9 @@ mod failure;
 mod inputs;
 mod list;
 mod options;
+mod output;
 mod progress;
+mod sheet;
 mod weeks;
 
 use failure::Failure;
@@ -14,7 +17,7 @@ use options::Command;
 use std::io::Write;
 use std::process::ExitCode;
 
-/// Some event was refused or could not be read.
+/// Some event or sheet was refused or could not be read.
 const SOME_REFUSED: u8 = 1;
 /// The options or the log are wrong, or a time zone is not there.
 const WRONG_OPTIONS: u8 = 2;
@@ -28,6 +31,7 @@ fn main() -> ExitCode {
         Ok(Command::Help(text)) => return say(text),
         Ok(Command::Version) => return say(concat!("smocurant ", env!("CARGO_PKG_VERSION"), "\n")),
         Ok(Command::List(options)) => list::run(&options),
+        Ok(Command::Sheet(options)) => sheet::run(&options),
         Ok(Command::Weeks(options)) => weeks::run(&options),
         Err(reason) => return fail(WRONG_OPTIONS, &reason),
     };

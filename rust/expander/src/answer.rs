@@ -54,6 +54,8 @@ pub enum Refusal {
     SheetMarks = 39,
     /// Zeros that are not zero.
     SheetZeros = 40,
+    /// The record's number is at or over the count.
+    RecordNumber = 41,
 }
 
 impl Refusal {

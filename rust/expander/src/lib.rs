@@ -3,8 +3,9 @@
 //! It is written from the papers alone and shares no line with the proved library, so that a comparison of the two finds what one of them
 //! read otherwise. It favours the plain form over the fast one: a text becomes a tree, the tree an event, the event a sorted list of dates.
 //!
-//! [`expand`], [`title`], [`description`] and [`weeks`] mirror the exported functions of the library, and answer with its numbers.
-//! [`Event::read`], [`Event::ids`] and [`Event::occurrence`] are the steps of the first three, [`Sheet::read`] reads a sheet back for the last.
+//! [`expand`], [`title`], [`description`], [`weeks`], [`read`], [`record`] and [`records`] mirror the exported functions of the library, and
+//! answer with its numbers. [`Event::read`], [`Event::ids`] and [`Event::occurrence`] are the steps of the first three; [`Sheet::read`] reads a
+//! sheet back for the others.
 //!
 //! ```
 //! let text = br#"{"@type": "Event", "uid": "1", "updated": "2024-01-01T00:00:00Z", "start": "2024-01-31T09:00:00", "duration": "PT1H",
@@ -21,6 +22,7 @@ mod event;
 pub mod json;
 mod recurrence;
 mod sheet;
+mod sheet_calls;
 mod table;
 mod times;
 mod weeks;
@@ -31,6 +33,7 @@ pub use answer::Refusal;
 pub use calls::{description, expand, title};
 pub use event::{Details, Duration, Event, Occurrence, Privacy};
 pub use sheet::{Sheet, SheetRecord};
+pub use sheet_calls::{read, record, records};
 pub use weeks::weeks;
 pub use window::Window;
 pub use zone::Zone;

@@ -2,7 +2,7 @@
 //!
 //! "It refuses with 34 to 40, in this order: too short for a trailer, unknown version, wrong record size, a distance that isn't 28 times the
 //! count or isn't the bytes before the trailer, ids not strictly increasing, marks outside 0 to 7, zeros not zero." Each is judged over the
-//! whole sheet before the next.
+//! whole sheet before the next. "A record number at or over the count is 41."
 
 use crate::answer::Refusal;
 
@@ -14,6 +14,7 @@ const LARGEST_MARKS: u8 = 7;
 /// A sheet with nothing wrong in it.
 #[derive(Clone, Copy, Debug, PartialEq, Eq)]
 pub struct Sheet<'b> {
+    version: u16,
     /// The bytes before the trailer.
     records: &'b [u8],
 }
@@ -38,8 +39,8 @@ impl<'b> Sheet<'b> {
     pub fn read(bytes: &'b [u8]) -> Result<Sheet<'b>, Refusal> {
         let before_trailer = bytes.len().checked_sub(TRAILER_LENGTH).ok_or(Refusal::SheetTooShort)?;
         let (records, trailer) = bytes.split_at(before_trailer);
-        judge_trailer(trailer, records.len())?;
-        let sheet = Sheet { records };
+        let version = judge_trailer(trailer, records.len())?;
+        let sheet = Sheet { version, records };
         if sheet.records().zip(sheet.records().skip(1)).any(|(one, next)| next.id <= one.id) {
             return Err(Refusal::SheetIds);
         }
@@ -52,14 +53,37 @@ impl<'b> Sheet<'b> {
         Ok(sheet)
     }
 
+    /// The version.
+    pub fn version(&self) -> u16 {
+        self.version
+    }
+
+    /// The number of records.
+    pub fn count(&self) -> u64 {
+        self.records().count() as u64
+    }
+
     /// The records in order.
     pub fn records(&self) -> impl Iterator<Item = SheetRecord> + 'b {
         self.records.chunks_exact(usize::from(RECORD_LENGTH)).map(SheetRecord::read)
     }
+
+    /// The record of a number, counted from 0.
+    pub fn record(&self, number: u64) -> Result<SheetRecord, Refusal> {
+        self.records_from(number)?.next().ok_or(Refusal::RecordNumber)
+    }
+
+    /// The records from a number on, which must be the number of a record.
+    pub fn records_from(&self, number: u64) -> Result<impl Iterator<Item = SheetRecord> + 'b, Refusal> {
+        if number >= self.count() {
+            return Err(Refusal::RecordNumber);
+        }
+        Ok(self.records().skip(number as usize))
+    }
 }
 
-/// "record size 28 (2), version 1 (2), count (4), distance from trailer to first record (4)"
-fn judge_trailer(trailer: &[u8], bytes_before: usize) -> Result<(), Refusal> {
+/// The version of a trailer with nothing wrong in it: "record size 28 (2), version 1 (2), count (4), distance from trailer to first record (4)".
+fn judge_trailer(trailer: &[u8], bytes_before: usize) -> Result<u16, Refusal> {
     let record_length = u16::from_le_bytes([trailer[0], trailer[1]]);
     let version = u16::from_le_bytes([trailer[2], trailer[3]]);
     let count = u32::from_le_bytes([trailer[4], trailer[5], trailer[6], trailer[7]]);
@@ -74,7 +98,7 @@ fn judge_trailer(trailer: &[u8], bytes_before: usize) -> Result<(), Refusal> {
     if distance != u128::from(RECORD_LENGTH) * u128::from(count) || distance != bytes_before as u128 {
         return Err(Refusal::SheetDistance);
     }
-    Ok(())
+    Ok(version)
 }
 
 impl SheetRecord {

@@ -3,7 +3,7 @@
 //! [`Case::new`] is one call of the library: a text, a zone table, a window, and dates to ask texts for. Its texts are events of every
 //! kind, damaged ones, and bytes that are hardly JSON. [`pairs`] has events that a planner must not be able to tell apart,
 //! and [`examples`] those whose dates the documents give. [`Replay::new`] is a log of uploads, the [`sheets`] of a closure calendar and a range
-//! of weeks.
+//! of weeks. [`SheetCase::new`] is a sheet to be read back, whole or damaged; [`sheet_faults`] has each thing that can be wrong with one.
 
 mod damage;
 pub mod dates;
@@ -17,7 +17,9 @@ pub mod pairs;
 mod random;
 mod replay;
 mod rules;
+mod sheet_case;
 mod sheet_damage;
+pub mod sheet_faults;
 pub mod sheets;
 mod spelling;
 mod strange;
@@ -27,6 +29,7 @@ pub use lengths::Length;
 pub use model::Model;
 pub use random::Random;
 pub use replay::Replay;
+pub use sheet_case::{Question, SheetCase};
 pub use tables::ZoneNumbers;
 
 /// One call of the library.

@@ -1,7 +1,8 @@
-//! Sheets of closure calendars.
+//! Sheets: of closure calendars, and of any numbers.
 
 use crate::instants::{self, WEEK};
 use crate::random::Random;
+use std::collections::BTreeSet;
 
 /// The bytes of a record.
 pub const RECORD_LENGTH: usize = 28;
@@ -60,5 +61,26 @@ fn end(start: i64, range: (i64, i64), random: &mut Random) -> i64 {
         5 => next_monday.saturating_add(random.within(0..=6) * WEEK + random.within(-1..=1)),
         6 => instants::near(range, random),
         _ => start.saturating_add(random.within(1..=10) * 43_200),
+    }
+}
+
+/// So many rows by id, with any numbers.
+pub fn any_rows(count: usize, random: &mut Random) -> Vec<Row> {
+    let mut ids = BTreeSet::new();
+    while ids.len() < count {
+        ids.insert(any_number(random));
+    }
+    let row = |id: i64| Row { id, start: any_number(random), end: any_number(random), marks: random.below(8) as u8 };
+    ids.into_iter().map(row).collect()
+}
+
+/// A number of today's times, one near 0, one where another byte begins, or any other.
+fn any_number(random: &mut Random) -> i64 {
+    match random.below(8) {
+        0 => random.pick(&[i64::MIN, i64::MIN + 1, i64::MAX - 1, i64::MAX]),
+        1 => random.pick(&[-1, 0, 255, 256, -256, -257, 65_535, 65_536, 1 << 31, 1 << 32, -(1 << 32)]),
+        2..=3 => random.within(-300..=300),
+        4..=6 => random.within(1_700_000_000..=1_900_000_000),
+        _ => random.next() as i64,
     }
 }

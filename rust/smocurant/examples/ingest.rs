@@ -2,7 +2,7 @@
 //!
 //!     cargo run -p smocurant --example ingest -- Europe/London 2026 ../examples/events/*.json
 
-use smocurant::{expand, time, title, tzif, Status, Window, ZoneTable};
+use smocurant::{expand, time, title, tzif, Record, Status, Window, ZoneTable};
 
 fn main() -> Result<(), Box<dyn std::error::Error>> {
     let mut words = std::env::args().skip(1);
@@ -21,9 +21,9 @@ fn main() -> Result<(), Box<dyn std::error::Error>> {
 
 /// What is kept of one event: its table goes on as bytes; here it is only counted.
 fn ingest(text: &[u8], zone: &ZoneTable, window: Window, buffer: &mut [u8]) -> Result<String, Status> {
-    let table = expand(text, zone, window, buffer)?;
-    let Some(first) = table.records().next() else { return Ok("no occurrences".to_string()) };
-    let busy: i64 = table.records().filter(|record| record.busy).map(|record| record.end - record.start).sum();
-    let (count, start) = (table.len(), time::written(first.id));
+    let records: Vec<Record> = expand(text, zone, window, buffer)?.records().collect();
+    let Some(first) = records.first() else { return Ok("no occurrences".to_string()) };
+    let busy: i64 = records.iter().filter(|record| record.busy).map(|record| record.end - record.start).sum();
+    let (count, start) = (records.len(), time::written(first.id));
     Ok(format!("{count} from {start} on, {} busy hours, \"{}\"", busy / 3_600, title(text, first.id)?))
 }

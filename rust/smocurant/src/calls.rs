@@ -13,10 +13,10 @@ use crate::zone::{Transition, ZoneTable};
 /// use smocurant::{expand, Status, Window, ZoneTable};
 ///
 /// let event = br#"{"@type": "Event", "uid": "1", "updated": "2024-01-01T00:00:00Z", "start": "2024-02-29T00:00:00"}"#;
-/// let mut buffer = [0; 40];
+/// let mut buffer = [0; 1_000];
 /// let table = expand(event, &ZoneTable::floating(), Window::year(2024)?, &mut buffer)?;
 /// assert_eq!(table.len(), 1);
-/// assert_eq!(expand(event, &ZoneTable::floating(), Window::year(2024)?, &mut [0; 39]), Err(Status::Buffer));
+/// assert_eq!(expand(event, &ZoneTable::floating(), Window::year(2024)?, &mut []), Err(Status::Buffer));
 /// # Ok::<(), Status>(())
 /// ```
 pub fn expand<'b>(text: &[u8], zone: &ZoneTable, window: Window, buffer: &'b mut [u8]) -> Result<Table<'b>, Status> {
@@ -32,7 +32,7 @@ pub fn expand<'b>(text: &[u8], zone: &ZoneTable, window: Window, buffer: &'b mut
 ///
 /// let event = br#"{"@type": "Event", "uid": "1", "updated": "2024-01-01T00:00:00Z", "start": "2020-11-01T01:30:00", "timeZone": "Z"}"#;
 /// let entries = [Transition { instant: 1_604_221_200, offset: -28_800 }];
-/// let mut buffer = [0; 40];
+/// let mut buffer = [0; 1_000];
 /// let table = expand_entries(event, "Z", -25_200, &entries, Window::WIDEST, &mut buffer)?;
 /// // The hour comes twice; the offset before the change is used.
 /// assert_eq!(time::written(table.records().next().unwrap().start), "2020-11-01T08:30:00");
@@ -53,18 +53,20 @@ pub fn expand_entries<'b>(
 /// The table that stands in a buffer after an answer.
 fn table((answer, length): (u32, u64), buffer: &mut [u8]) -> Result<Table<'_>, Status> {
     done(answer)?;
-    Ok(Table::borrowed(&buffer[..place(length)]))
+    Ok(Table::written(&buffer[..place(length)]))
 }
+
+/// The bytes that are lent first: enough for most events in a year.
+const FIRST_ROOM: usize = 1 << 14;
 
 /// An event's occurrences in a window, in a buffer that grows until they fit.
 pub fn expand_to_vec(text: &[u8], zone: &ZoneTable, window: Window) -> Result<Table<'static>, Status> {
-    // Room for a year of days; then four times as much, and so on.
-    let mut buffer = vec![0; 366 * 28 + 12];
+    let mut buffer = vec![0; FIRST_ROOM];
     loop {
         match expand(text, zone, window, &mut buffer).map(|table| table.as_bytes().len()) {
             Ok(length) => {
                 buffer.truncate(length);
-                return Ok(Table::owned(buffer));
+                return Ok(Table::written(buffer));
             }
             Err(Status::Buffer) => buffer.resize(buffer.len() * 4, 0),
             Err(status) => return Err(status),
@@ -93,11 +95,11 @@ pub(crate) fn done(answer: u32) -> Result<(), Status> {
     match Status::of_number(answer) {
         Some(Status::Done) => Ok(()),
         Some(status) => Err(status),
-        None => unreachable!("the library answers 0 to 14 or 30 to 33, and not {answer}"),
+        None => unreachable!("the library answers 0 to 14 or 30 to 41, and not {answer}"),
     }
 }
 
-/// A place in a slice that the library was given.
-fn place(number: u64) -> usize {
+/// A place in a slice that the library was given, or a number of such places.
+pub(crate) fn place(number: u64) -> usize {
     usize::try_from(number).expect("places lie inside of slices")
 }

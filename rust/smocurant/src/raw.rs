@@ -60,6 +60,33 @@ mod exported {
             shut: *mut u64,
             missing: *mut u64,
         ) -> u32;
+
+        pub fn smocurant_read(sheet: *const u8, sheet_length: usize, version: *mut u32, count: *mut u64) -> u32;
+
+        pub fn smocurant_record(
+            sheet: *const u8,
+            sheet_length: usize,
+            number: u64,
+            id: *mut i64,
+            start: *mut i64,
+            end: *mut i64,
+            marks: *mut u32,
+        ) -> u32;
+
+        pub fn smocurant_records(
+            sheet: *const u8,
+            sheet_length: usize,
+            first: u64,
+            ids: *mut i64,
+            ids_length: usize,
+            starts: *mut i64,
+            starts_length: usize,
+            ends: *mut i64,
+            ends_length: usize,
+            marks: *mut u32,
+            marks_length: usize,
+            count: *mut u64,
+        ) -> u32;
     }
 }
 
@@ -169,4 +196,46 @@ pub fn weeks(log: &[i64], sheet: &[u8], range_start: i64, range_end: i64, places
         )
     };
     (answer, [reported, shut, missing])
+}
+
+/// Judges the bytes of a sheet: the answer number, the sheet's version, and the number of its records.
+pub fn read(sheet: &[u8]) -> (u32, u32, u64) {
+    let (mut version, mut count) = (0, 0);
+    // SAFETY: as in `title`.
+    let answer = unsafe { exported::smocurant_read(sheet.as_ptr(), sheet.len(), &mut version, &mut count) };
+    (answer, version, count)
+}
+
+/// One record of a sheet by its number, which is counted from 0: the answer number, the id, the start, the end, and the marks. Each call judges
+/// the whole sheet; [`records`] gives many records at once.
+pub fn record(sheet: &[u8], number: u64) -> (u32, i64, i64, i64, u32) {
+    let ([mut id, mut start, mut end], mut marks) = ([0; 3], 0);
+    // SAFETY: pointer and length come from one slice, which lives through the call; the four numbers are borrowed alone.
+    let answer = unsafe { exported::smocurant_record(sheet.as_ptr(), sheet.len(), number, &mut id, &mut start, &mut end, &mut marks) };
+    (answer, id, start, end, marks)
+}
+
+/// Writes the records of a sheet from a number on into the four slices, as many as the shortest of them takes: the answer number, and how many
+/// they are. Elements after them keep their values.
+pub fn records(sheet: &[u8], first: u64, ids: &mut [i64], starts: &mut [i64], ends: &mut [i64], marks: &mut [u32]) -> (u32, u64) {
+    let mut count = 0;
+    // SAFETY: each pointer and length come from one slice, which lives through the call. The four slices and the count are borrowed alone, so
+    // the function may write there. It keeps no pointer, and is proved to touch nothing outside of the slices.
+    let answer = unsafe {
+        exported::smocurant_records(
+            sheet.as_ptr(),
+            sheet.len(),
+            first,
+            ids.as_mut_ptr(),
+            ids.len(),
+            starts.as_mut_ptr(),
+            starts.len(),
+            ends.as_mut_ptr(),
+            ends.len(),
+            marks.as_mut_ptr(),
+            marks.len(),
+            &mut count,
+        )
+    };
+    (answer, count)
 }

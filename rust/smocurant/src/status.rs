@@ -44,10 +44,26 @@ pub enum Status {
     Sheet = 32,
     /// 33: there are fewer places than weeks.
     Places = 33,
+    /// 34: the sheet is too short for a trailer.
+    SheetTooShort = 34,
+    /// 35: the sheet has an unknown version.
+    SheetVersion = 35,
+    /// 36: the sheet gives a wrong size for its records.
+    SheetRecordSize = 36,
+    /// 37: the sheet's number of records, the distance to the first of them and its length do not agree.
+    SheetDistance = 37,
+    /// 38: the ids of the sheet's records do not increase.
+    SheetIds = 38,
+    /// 39: a record has marks that the sheet's version does not know.
+    SheetMarks = 39,
+    /// 40: bytes of a record that must be zero are not.
+    SheetZeros = 40,
+    /// 41: the sheet has no record of this number.
+    RecordNumber = 41,
 }
 
 /// All answers, in the order of their numbers.
-const ALL: [Status; 19] = [
+const ALL: [Status; 27] = [
     Status::Done,
     Status::TextTooLong,
     Status::TooDeep,
@@ -67,6 +83,14 @@ const ALL: [Status; 19] = [
     Status::WeekRange,
     Status::Sheet,
     Status::Places,
+    Status::SheetTooShort,
+    Status::SheetVersion,
+    Status::SheetRecordSize,
+    Status::SheetDistance,
+    Status::SheetIds,
+    Status::SheetMarks,
+    Status::SheetZeros,
+    Status::RecordNumber,
 ];
 
 impl Status {
@@ -96,7 +120,7 @@ impl Status {
             Status::Unsupported => "The event uses a form that is not supported.",
             Status::TooMany => "The event has more than 8 rules in a list, 64 entries in a by-list, or 256 overrides.",
             Status::ZoneTable => "The zone table is invalid.",
-            Status::Window => "The window is invalid: its start lies behind its end, or it leaves the years 1601 to 9998.",
+            Status::Window => "The window is invalid: its start lies after its end, or it leaves the years 1601 to 9998.",
             Status::OtherZone => "The event is in another time zone than the zone table.",
             Status::Buffer => "The table is longer than the buffer.",
             Status::NoOccurrence => "The date is no occurrence, or the event is secret.",
@@ -104,6 +128,16 @@ impl Status {
             Status::WeekRange => "The range is not from a Monday 00:00:00 UTC to the same or a later one.",
             Status::Sheet => "The sheet is damaged: its layout, its ids or its marks are wrong.",
             Status::Places => "The range has more weeks than there are places for them.",
+            Status::SheetTooShort => "The sheet is too short: every sheet ends with a trailer, and these bytes have no room for one.",
+            Status::SheetVersion => "The sheet has a version that is not known here.",
+            Status::SheetRecordSize => "The sheet's trailer gives a wrong size for its records.",
+            Status::SheetDistance => {
+                "The sheet's trailer does not fit what stands before it: bytes are missing, there are too many, or its numbers are wrong."
+            }
+            Status::SheetIds => "The sheet's records are out of order: an id is the same as the one before it, or lower.",
+            Status::SheetMarks => "A record of the sheet has marks that do not exist in its version.",
+            Status::SheetZeros => "A record of the sheet has other bytes where there must be zeros.",
+            Status::RecordNumber => "The sheet has no record of this number: the first is 0, and the last is one below the number of records.",
         }
     }
 }
@@ -122,12 +156,14 @@ mod tests {
 
     #[test]
     fn numbers_go_round() {
-        for (number, status) in (0..15).chain(30..34).zip(ALL) {
+        let numbers = (0..15).chain(30..42);
+        assert_eq!(numbers.clone().count(), ALL.len());
+        for (number, status) in numbers.zip(ALL) {
             assert_eq!(status.number(), number);
             assert_eq!(Status::of_number(number), Some(status));
             assert!(status.sentence().ends_with('.'));
         }
-        for number in [15, 29, 34, u32::MAX] {
+        for number in [15, 29, 42, u32::MAX] {
             assert_eq!(Status::of_number(number), None);
         }
         assert!(ALL.is_sorted());

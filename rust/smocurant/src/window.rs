@@ -36,7 +36,7 @@ impl Window {
         self.start
     }
 
-    /// The first second behind the window.
+    /// The first second after the window.
     pub fn end(self) -> i64 {
         self.end
     }

@@ -1,62 +1,73 @@
-//! The library against the independent expander, on seeded cases: the same answer, length, texts, and every byte of the buffer.
+//! The library against the independent expander, on seeded cases: the same answer, length, texts, and every byte of the buffer. What was written
+//! is read back, too.
 //!
 //! There are 20,000 cases, or more if `SMOCURANT_CASES` says so, from the seed `SMOCURANT_SEED` on, or else from 0.
 
 mod support;
+use expander::Sheet;
 use generator::{Case, Random};
-use smocurant::Transition;
-use support::{cases, expander, library, number, shown, table_length, LONGEST};
-
-fn seeds() -> std::ops::Range<u64> {
-    let first = number("SMOCURANT_SEED").unwrap_or(0);
-    first..first + cases()
-}
+use smocurant::{raw, Table, Transition};
+use support::{expander, in_parallel, library, seeds, shown, table_length, Outcome, LONGEST};
 
 fn check(seed: u64, what: &str, case: &Case, same: bool) {
     let (window, zone, offset) = (case.window, String::from_utf8_lossy(&case.zone.name), case.zone.initial_offset);
     assert!(same, "seed {seed}, {what}: window {window:?}, zone {zone:?} {offset}, {}", shown(&case.text));
 }
 
-/// The seeds are shared out among the processors.
 #[test]
 fn tables_and_texts() {
-    let workers = std::thread::available_parallelism().map_or(1, usize::from);
-    std::thread::scope(|scope| {
-        for worker in 0..workers {
-            scope.spawn(move || compare(seeds().skip(worker).step_by(workers)));
+    in_parallel(|seeds| {
+        let mut buffer = vec![0; LONGEST];
+        for seed in seeds {
+            let case = Case::new(seed);
+            let length = table_length(&case, &mut buffer);
+            let own = compare_tables(seed, &case, length);
+            let rows = Sheet::read(&buffer[..length]).map_or(Vec::new(), |sheet| rows(&sheet));
+            compare_texts(seed, &case, &rows);
+            if own.answer == 0 {
+                compare_reading(seed, &case, own.table(), &rows);
+            }
         }
     });
 }
 
-fn compare(seeds: impl Iterator<Item = u64>) {
-    let mut buffer = vec![0; LONGEST];
-    for seed in seeds {
-        let case = Case::new(seed);
-        let length = table_length(&case, &mut buffer);
-        compare_tables(seed, &case, length);
-        compare_texts(seed, &case, &buffer[..length]);
-    }
+/// What a record says: its id, start, end and marks.
+type Row = (i64, i64, i64, u8);
+
+fn rows(sheet: &Sheet) -> Vec<Row> {
+    sheet.records().map(|record| (record.id, record.start, record.end, record.marks)).collect()
 }
 
-/// Buffers as long as the table, a byte shorter, a byte longer, much longer, around a bare trailer, and none at all.
-fn compare_tables(seed: u64, case: &Case, length: usize) {
+/// Buffers as long as the table, a byte shorter, a byte longer, much longer, around a bare trailer, and none at all. What the library wrote into
+/// the first of these.
+fn compare_tables(seed: u64, case: &Case, length: usize) -> Outcome {
     let rooms = [length.saturating_sub(1), length + 1, length + 29, 0, 11, 12, 13, 39, 40, length / 2];
-    let random = &mut Random::new(seed);
-    for room in [length, random.pick(&rooms)] {
+    let [own, _] = [length, Random::new(seed).pick(&rooms)].map(|room| {
         let (own, expected) = (library(case, room, seed), expander(case, room, seed));
         let what = format!("{room} bytes: {} {} and not {} {}", own.answer, own.length, expected.answer, expected.length);
         check(seed, &what, case, own == expected);
+        own
+    });
+    own
+}
+
+/// The library reads its own table back to the expander's records, all at once, one by one, and as the crate gives them.
+fn compare_reading(seed: u64, case: &Case, own: &[u8], expected: &[Row]) {
+    let count = expected.len();
+    check(seed, "read back", case, raw::read(own) == (0, 1, count as u64));
+    let table = Table::read(own).unwrap();
+    check(seed, "the number of records", case, table.len() == count);
+    check(seed, "the records", case, support::rows(table.records()) == expected);
+    for number in [0, 1, count / 2, count.wrapping_sub(1), count, count + 1] {
+        let answer = expected.get(number).map_or((41, 0, 0, 0, 0), |row| (0, row.0, row.1, row.2, u32::from(row.3)));
+        check(seed, &format!("record {number}"), case, raw::record(own, number as u64) == answer);
     }
 }
 
 /// Texts at the case's dates, and at the first and last occurrence of its table.
-fn compare_texts(seed: u64, case: &Case, table: &[u8]) {
-    let id = |place: usize| i64::from_le_bytes(table[place..place + 8].try_into().unwrap());
-    let mut dates = case.dates.clone();
-    if table.len() > 12 {
-        dates.extend([id(0), id(table.len() - 40)]);
-    }
-    for date in dates {
+fn compare_texts(seed: u64, case: &Case, rows: &[Row]) {
+    let ends = [rows.first(), rows.last()].into_iter().flatten().map(|row| row.0);
+    for date in case.dates.iter().copied().chain(ends) {
         let title = smocurant::raw::title(&case.text, date) == expander::title(&case.text, date);
         check(seed, &format!("title at {date}"), case, title);
         let description = smocurant::raw::description(&case.text, date) == expander::description(&case.text, date);

@@ -76,6 +76,8 @@ fn the_widest_window() {
     let other = expander::expand(text.as_bytes(), b"", 0, &[], &[], FIRST, LAST, &mut expected);
     assert_eq!(other, (0, expected.len() as u64));
     assert!(table.as_bytes() == expected);
+    let ids = (FIRST + 9 * 3_600..LAST).step_by(dates::DAY as usize);
+    assert!(table.records().map(|record| record.id).eq(ids));
 }
 
 /// The calls on texts that nest as deep and name as many members as they may, in threads of 1 MiB. More would end the program.

@@ -1,17 +1,23 @@
 //! What a planner must not be able to tell apart: pairs of private events that agree on what is shown, and any two secret events.
 
 mod support;
+use expander::Sheet;
 use generator::{pairs, Case, Random, ZoneNumbers};
-use support::{cases, library};
+use support::{cases, library, Outcome};
 
 /// All that can be learned of a text: tables in several buffers, titles and descriptions.
-type Learned = (Vec<support::Outcome>, Vec<(u32, u64, u64)>);
+type Learned = (Vec<Outcome>, Vec<(u32, u64, u64)>);
 
 fn learned(case: &Case, text: &[u8], seed: u64) -> Learned {
     let case = Case { text: text.to_vec(), ..case.clone() };
     let tables = [0, 11, 12, 40, 3_000, 100_000].map(|room| library(&case, room, seed)).into();
     let texts = case.dates.iter().flat_map(|date| [smocurant::raw::title(text, *date), smocurant::raw::description(text, *date)]).collect();
     (tables, texts)
+}
+
+/// The number of records, by the independent reader.
+fn records(outcome: &Outcome) -> u64 {
+    Sheet::read(outcome.table()).unwrap().count()
 }
 
 #[test]
@@ -56,7 +62,7 @@ fn learned_of_closures(offset: i64, lengths: &[(&str, &str)]) -> Vec<Learned> {
         ZoneNumbers { name: b"Z".to_vec(), initial_offset: 0, instants: vec![1_798_027_200, 1_798_372_800], offsets: vec![offset, 0] };
     let case = Case { zone, window: (1_700_000_000, 1_900_000_000), ..Case::new(0) };
     let all: Vec<_> = lengths.iter().map(|lengths| learned(&case, &closure(*lengths), 0)).collect();
-    assert!(all.iter().all(|(tables, _)| (tables[4].answer, tables[4].length) == (0, 28 * 7 + 12)));
+    assert!(all.iter().all(|(tables, _)| (tables[4].answer, records(&tables[4])) == (0, 7)));
     all
 }
 
@@ -99,6 +105,6 @@ fn a_secret_event_gives_nothing() {
         case.dates.push(model.start);
         let (tables, texts) = learned(&case, &text, seed);
         assert!(texts.iter().all(|told| *told == (14, 0, 0)), "seed {seed}");
-        assert!(tables.iter().all(|table| table.answer != 0 || table.length == 12), "seed {seed}");
+        assert!(tables.iter().all(|table| table.answer != 0 || records(table) == 0), "seed {seed}");
     }
 }

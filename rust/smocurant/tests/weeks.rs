@@ -7,7 +7,7 @@ use expander::Sheet;
 use generator::sheets::{self, Row};
 use generator::{instants, Case, Random, Replay};
 use smocurant::{raw, weeks, Status, Tallies, Week, WeekRange, Weeks, WeeksError};
-use support::{cases, number};
+use support::{in_parallel, seeds};
 
 /// Elements before and after the lent places, which nobody may write.
 const GUARD: usize = 4;
@@ -36,21 +36,6 @@ fn call(weeks: Replayed, replay: &Replay, room: usize, seed: u64) -> Outcome {
 fn filled(room: usize, seed: u64) -> Vec<i64> {
     let random = &mut Random::new(seed);
     (0..room + 2 * GUARD).map(|_| random.pick(&[0, -1, -2, 1, 7, i64::MIN])).collect()
-}
-
-fn seeds() -> std::ops::Range<u64> {
-    let first = number("SMOCURANT_SEED").unwrap_or(0);
-    first..first + cases()
-}
-
-/// The seeds are shared out among the processors.
-fn in_parallel(compare: fn(u64)) {
-    let workers = std::thread::available_parallelism().map_or(1, usize::from);
-    std::thread::scope(|scope| {
-        for worker in 0..workers {
-            scope.spawn(move || seeds().skip(worker).step_by(workers).for_each(compare));
-        }
-    });
 }
 
 /// Both programs with a place for each week, one less, one more, and none.
@@ -97,7 +82,7 @@ fn a_long_replay() {
 
 #[test]
 fn seeded_replays() {
-    in_parallel(|seed| compare(seed, &Replay::new(seed)));
+    in_parallel(|seeds| seeds.for_each(|seed| compare(seed, &Replay::new(seed))));
 }
 
 /// Sheets that events give, with their closures in the range. None of them is refused.

@@ -1,5 +1,6 @@
-//! The options that every command has: which events, in which zones, and where the output goes.
+//! The options that more than one command has: which events, in which zones, and where the output goes.
 
+use crate::output::Form;
 use smocurant::time;
 use std::path::PathBuf;
 
@@ -46,4 +47,14 @@ pub fn date(value: &str) -> Result<i64, String> {
 /// A year as a number.
 pub fn year(value: &str) -> Result<i64, String> {
     value.parse().map_err(|_| format!("\"{value}\" is no year"))
+}
+
+/// The form of output that a name stands for.
+pub fn form(value: &str) -> Option<Form> {
+    match value {
+        "table" => Some(Form::Table),
+        "csv" => Some(Form::Csv),
+        "jsonl" => Some(Form::JsonLines),
+        _ => None,
+    }
 }

@@ -1,8 +1,9 @@
 //! The options of the command that lists occurrences.
 
-use super::common::{date, year, Common};
+use super::common::{date, form, year, Common};
 use super::words::{Names, Word, Words};
 use super::Command;
+use crate::output::Form;
 use smocurant::Window;
 
 /// What `--help` prints.
@@ -11,9 +12,11 @@ Lists every occurrence of JSCalendar events (RFC 8984) in a window.
 
 Usage: smocurant [OPTIONS] EVENT...
        smocurant weeks [OPTIONS] --log FILE CLOSURE...
+       smocurant sheet [OPTIONS] SHEET...
 
 The second sorts the weeks of an upload log into reported, shut and missing
-ones; smocurant weeks --help has its options.
+ones; smocurant weeks --help has its options. The third shows what --format raw
+has written; smocurant sheet --help has its options.
 
   EVENT            a file with one event, a folder of such files (*.json),
                    or - for standard input
@@ -35,8 +38,8 @@ Output:
   --format FORMAT  table   for people to read (default)
                    csv     a line for each occurrence
                    jsonl   a JSON object in a line for each occurrence
-                   raw     the library's bytes: 28 for each occurrence and a
-                           trailer of 12 for each event
+                   raw     the library's bytes, a sheet for each event: 28
+                           for each occurrence and a trailer of 12
   --output FILE    where to write, instead of standard output
   --quiet          no line of progress
 
@@ -65,9 +68,9 @@ pub struct Options {
 /// How occurrences are written.
 #[derive(Clone, Copy, Debug, PartialEq, Eq)]
 pub enum Format {
-    Table,
-    Csv,
-    JsonLines,
+    /// A line for each.
+    Lines(Form),
+    /// The sheets' own bytes.
     Raw,
 }
 
@@ -111,12 +114,10 @@ fn take(given: &mut Given, name: &str, value: String) -> Result<(), String> {
 }
 
 fn format(value: &str) -> Result<Format, String> {
-    match value {
-        "table" => Ok(Format::Table),
-        "csv" => Ok(Format::Csv),
-        "jsonl" => Ok(Format::JsonLines),
-        "raw" => Ok(Format::Raw),
-        _ => Err(format!("\"{value}\" is no format; there are table, csv, jsonl and raw")),
+    match form(value) {
+        Some(form) => Ok(Format::Lines(form)),
+        None if value == "raw" => Ok(Format::Raw),
+        None => Err(format!("\"{value}\" is no format; there are table, csv, jsonl and raw")),
     }
 }
 
@@ -127,7 +128,7 @@ fn finish(given: Given) -> Result<Options, String> {
     if given.common.zones.is_empty() && !given.common.floating {
         return Err("give the events' time zone by --zone NAME, or say --floating".to_string());
     }
-    Ok(Options { window: window(&given)?, common: given.common, format: given.format.unwrap_or(Format::Table) })
+    Ok(Options { window: window(&given)?, common: given.common, format: given.format.unwrap_or(Format::Lines(Form::Table)) })
 }
 
 /// The window, said in one of three ways.

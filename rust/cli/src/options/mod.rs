@@ -2,6 +2,7 @@
 
 mod common;
 pub mod list;
+pub mod sheet;
 pub mod weeks;
 mod words;
 
@@ -15,6 +16,8 @@ pub enum Command {
     Version,
     /// List occurrences.
     List(list::Options),
+    /// Show the records of sheets.
+    Sheet(sheet::Options),
     /// Sort the weeks of a log.
     Weeks(weeks::Options),
 }
@@ -24,6 +27,9 @@ pub fn read(words: Vec<String>) -> Result<Command, String> {
     match words.split_first() {
         Some((first, rest)) if first == "weeks" => {
             weeks::read(rest.iter().cloned()).map_err(|reason| format!("{reason}\nsmocurant weeks --help lists the options."))
+        }
+        Some((first, rest)) if first == "sheet" => {
+            sheet::read(rest.iter().cloned()).map_err(|reason| format!("{reason}\nsmocurant sheet --help lists the options."))
         }
         _ => list::read(words.into_iter()).map_err(|reason| format!("{reason}\nsmocurant --help lists the options.")),
     }

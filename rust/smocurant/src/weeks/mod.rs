@@ -6,6 +6,7 @@ mod range;
 use crate::calls::done;
 use crate::raw;
 use crate::status::Status;
+use crate::table::empty_sheet;
 use std::num::NonZeroU64;
 
 pub use error::WeeksError;
@@ -14,9 +15,6 @@ pub use range::WeekRange;
 /// The library's numbers for a week without uploads.
 const SHUT: i64 = -1;
 const MISSING: i64 = -2;
-
-/// A sheet without records: the trailer alone.
-const NO_RECORDS: [u8; 12] = [0x1c, 0, 1, 0, 0, 0, 0, 0, 0, 0, 0, 0];
 
 /// What became of a week.
 #[derive(Clone, Copy, Debug, PartialEq, Eq, Hash)]
@@ -140,7 +138,7 @@ impl Weeks {
 pub fn weeks<S: AsRef<[u8]>>(log: &[i64], sheets: impl IntoIterator<Item = S>, range: WeekRange) -> Result<Weeks, WeeksError> {
     let mut sheets = sheets.into_iter();
     let first = sheets.next();
-    let first = first.as_ref().map_or(&NO_RECORDS[..], S::as_ref);
+    let first = first.as_ref().map_or_else(|| empty_sheet(), S::as_ref);
     let mut places = room(range);
     let tallies = weeks_into(log, first, range, &mut places).map_err(|status| error(status, log, 0, range))?;
     let mut weeks = Weeks { range, places, tallies };
@@ -160,14 +158,15 @@ pub fn weeks<S: AsRef<[u8]>>(log: &[i64], sheets: impl IntoIterator<Item = S>, r
 /// After a refusal all of them do.
 ///
 /// ```
-/// use smocurant::{weeks_into, Status, Tallies, WeekRange};
+/// use smocurant::{weeks_into, Status, Table, Tallies, WeekRange};
 ///
-/// let sheet = [0x1c, 0, 1, 0, 0, 0, 0, 0, 0, 0, 0, 0]; // no records
+/// let sheet = Table::empty();
 /// let range = WeekRange::new(345_600, 345_600 + 2 * 604_800)?;
 /// let mut places = [7; 3];
-/// assert_eq!(weeks_into(&[345_599, 345_600], &sheet, range, &mut places), Ok(Tallies { reported: 1, shut: 0, missing: 1 }));
+/// let tallies = weeks_into(&[345_599, 345_600], sheet.as_bytes(), range, &mut places)?;
+/// assert_eq!(tallies, Tallies { reported: 1, shut: 0, missing: 1 });
 /// assert_eq!(places, [1, -2, 7]);
-/// assert_eq!(weeks_into(&[], &sheet, range, &mut places[..1]), Err(Status::Places));
+/// assert_eq!(weeks_into(&[], sheet.as_bytes(), range, &mut places[..1]), Err(Status::Places));
 /// # Ok::<(), Status>(())
 /// ```
 pub fn weeks_into(log: &[i64], sheet: &[u8], range: WeekRange, places: &mut [i64]) -> Result<Tallies, Status> {
@@ -200,21 +199,11 @@ fn error(status: Status, log: &[i64], place: usize, range: WeekRange) -> WeeksEr
 #[cfg(test)]
 mod tests {
     use super::*;
+    use generator::examples::replays::sheet;
 
     const WEEK: i64 = 604_800;
     const MONDAY: i64 = 345_600;
     const NONE: [[u8; 0]; 0] = [];
-
-    /// A sheet with a record for each span.
-    fn sheet(spans: &[(i64, i64)]) -> Vec<u8> {
-        let record =
-            |(id, (start, end)): (i64, &(i64, i64))| [id, *start, *end].iter().flat_map(|n| n.to_le_bytes()).chain([1, 0, 0, 0]).collect();
-        let records: Vec<Vec<u8>> = (0..).zip(spans).map(record).collect();
-        let mut bytes = records.concat();
-        let (count, distance) = (spans.len() as u32, bytes.len() as u32);
-        bytes.extend([0x1c, 0, 1, 0].into_iter().chain(count.to_le_bytes()).chain(distance.to_le_bytes()));
-        bytes
-    }
 
     fn range(weeks: i64) -> WeekRange {
         WeekRange::new(MONDAY, MONDAY + weeks * WEEK).unwrap()

@@ -2,7 +2,6 @@
 
 use crate::raw;
 use crate::status::Status;
-use crate::weeks::NO_RECORDS;
 
 /// The seconds of a week.
 const WEEK: i64 = 604_800;
@@ -30,8 +29,8 @@ impl WeekRange {
     /// # Ok::<(), Status>(())
     /// ```
     pub fn new(start: i64, end: i64) -> Result<WeekRange, Status> {
-        // No log, no records and no room: only the range can be wrong.
-        let (answer, _) = raw::weeks(&[], &NO_RECORDS, start, end, &mut []);
+        // No log, no sheet and no room. The log is right, and the range is judged before the sheet.
+        let (answer, _) = raw::weeks(&[], &[], start, end, &mut []);
         match Status::of_number(answer) {
             Some(Status::WeekRange) => Err(Status::WeekRange),
             _ => Ok(WeekRange { start, end }),

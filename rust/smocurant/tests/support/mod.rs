@@ -2,8 +2,10 @@
 #![allow(dead_code)] // each test file uses some
 
 use generator::{Case, Random};
+use smocurant::Record;
+use std::ops::Range;
 
-/// Bytes before and behind each lent buffer, which nobody may write.
+/// Bytes before and after each lent buffer, which nobody may write.
 const GUARD: usize = 64;
 
 /// The longest table that is compared.
@@ -22,6 +24,13 @@ pub struct Outcome {
     pub answer: u32,
     pub length: u64,
     pub bytes: Vec<u8>,
+}
+
+impl Outcome {
+    /// The table that was written.
+    pub fn table(&self) -> &[u8] {
+        &self.bytes[GUARD..GUARD + self.length as usize]
+    }
 }
 
 /// The parameters of both programs.
@@ -60,8 +69,31 @@ pub fn cases() -> u64 {
     number("SMOCURANT_CASES").unwrap_or(0).max(20_000)
 }
 
+/// The seeds of the cases, from `SMOCURANT_SEED` on, or else from 0.
+pub fn seeds() -> Range<u64> {
+    let first = number("SMOCURANT_SEED").unwrap_or(0);
+    first..first + cases()
+}
+
+/// Shares the seeds out among the processors.
+pub fn in_parallel(compare: impl Fn(&mut dyn Iterator<Item = u64>) + Sync) {
+    let workers = std::thread::available_parallelism().map_or(1, usize::from);
+    std::thread::scope(|scope| {
+        for worker in 0..workers {
+            let compare = &compare;
+            scope.spawn(move || compare(&mut seeds().skip(worker).step_by(workers)));
+        }
+    });
+}
+
+/// The numbers of records, with their marks as document 01 counts them.
+pub fn rows(records: impl Iterator<Item = Record>) -> Vec<(i64, i64, i64, u8)> {
+    let marks = |record: &Record| u8::from(record.busy) + 2 * u8::from(record.all_day) + 4 * u8::from(record.floating);
+    records.map(|record| (record.id, record.start, record.end, marks(&record))).collect()
+}
+
 /// A number of the environment.
-pub fn number(name: &str) -> Option<u64> {
+fn number(name: &str) -> Option<u64> {
     let value = std::env::var(name).ok()?;
     Some(value.parse().unwrap_or_else(|_| panic!("{name} is no number: {value}")))
 }

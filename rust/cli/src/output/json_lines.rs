@@ -11,10 +11,10 @@ pub fn line(line: &Line, out: &mut dyn Write) -> io::Result<()> {
     let (start, end) = (line.time(record.start), line.time(record.end));
     let (busy, all_day, floating) = (record.busy, record.all_day, record.floating);
     let file = escaped(line.file);
-    let title = line.title.map_or("", |title| title.as_str());
+    let title = line.title.map_or(String::new(), |title| format!(r#","title":"{}""#, title.as_str()));
     writeln!(
         out,
-        r#"{{"file":"{file}","id":"{id}","start":"{start}","end":"{end}","busy":{busy},"allDay":{all_day},"floating":{floating},"title":"{title}"}}"#
+        r#"{{"file":"{file}","id":"{id}","start":"{start}","end":"{end}","busy":{busy},"allDay":{all_day},"floating":{floating}{title}}}"#
     )
 }
 
