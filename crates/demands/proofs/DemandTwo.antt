@@ -26,17 +26,20 @@ use Rattle.call_definitions.specs.Answer.{Outcome, isSecret, expanded}
 use Rattle.call_definitions.specs.Call.{textFault, expandText}
 use Rattle.call_definitions.specs.Results.{Gives}
 use Rattle.call_definitions.proofs.DemandTwo as definitions
-use Rattle.call_definitions.proofs.Few.{window-last, few-accepted}
+use Rattle.call_definitions.proofs.DemandTwo.{rows-count}
+use Rattle.call_definitions.proofs.Few.{few-accepted}
 use Rattle.demands.specs.Conditions.{applies, textConditions, callConditions, tableConditions}
 use Rattle.sheet.specs.Records as sheet
 use Rattle.sheet.specs.Records.{idAt, rowAt}
 use Rattle.sheet.specs.Writing.{sheetOf}
+use Rattle.sheet.specs.Reading.{mostMarks}
 use Rattle.demands.specs.Two.{OnSheet, OccursIn, Row, Listed}
 use Rattle.demands.proofs.DemandOne.{table-answered}
 use Rattle.demands.proofs.SheetLaws.{has-sheet, row-back, zeros-back}
 use Rattle.demands.proofs.Lists.{among-stands, at-among, increases-at}
 use Rattle.demands.proofs.WindowLaws.{back-1600, back-1970, earlier, low-enough, after-first, before-last, first-below, last-above}
-use Rattle.demands.proofs.Ranges.{id-fits, end-reach, start-small, end-small, start-fits, end-fits}
+use Rattle.demands.proofs.Rows.{past, ordered, small, row-is, occurrences-writable}
+use Rattle.demands.proofs.Ranges.{end-reach, start-small, end-small}
 
 -- ---- what does not apply to a call that is answered 0
 
@@ -75,20 +78,27 @@ module _ (zones : ZoneTable) (s : List ℕ) (from to : ℤ) (before after : List
   abbrev xs : List ℕ
   xs = occurrences (eventOf s) (since1600 from) (since1600 to)
 
-  module _ (increase : StrictlyIncreases xs) (exactly : (x : ℕ) → (among x xs ≡ true) ↔ OccursWithin (datesOf e) (since1600 from) (since1600 to) x)
-      (is : after ≡ sets before 0 (sheetOf writtenVersion (rowsFor zones e xs))) (fits : 28 * length xs + 12 ≤ length before) where
-    small : (k : ℕ) → k < length xs → getD xs k 0 < 86400 * endDay
-    small k h = omega (arith, exactly (getD xs k 0) .0 (at-among xs k h) .before, window-last from to window)
+  abbrev d : sheet.Row
+  d = past zones s from to accepted table window
 
-    row-is : (k : ℕ) → k < length xs → rowAt after k ≡ rowOf zones (e .zone) (getD xs k 0) (detailsAt e (getD xs k 0))
-    row-is k h =
-        let x = getD xs k 0 in
-        row-back zones e xs before after is fits k h (id-fits x (small k h)) (start-fits zones table s accepted (e .zone) x (small k h))
-        (end-fits zones table s accepted (e .zone) x (small k h))
+  increase : StrictlyIncreases xs
+  increase = ordered zones s from to accepted table window .0
+
+  exactly : (x : ℕ) → (among x xs ≡ true) ↔ OccursWithin (datesOf e) (since1600 from) (since1600 to) x
+  exactly = ordered zones s from to accepted table window .1
+
+  brief : (k : ℕ) → k < length xs → getD xs k 0 < 86400 * endDay
+  brief = small zones s from to accepted table window
+
+  module _ (is : after ≡ sets before 0 (sheetOf writtenVersion (rowsFor zones e xs))) (fits : 28 * length xs + 12 ≤ length before) where
+    row-at-is : (k : ℕ) → k < length xs → rowAt after k ≡ rowOf zones (e .zone) (getD xs k 0) (detailsAt e (getD xs k 0))
+    row-at-is k h =
+        let f = occurrences-writable zones s from to accepted table window .fits k (omega (arith, rows-count zones e xs)) in
+        row-back zones e xs before after is fits d k h (mostMarks writtenVersion) f ∙ row-is zones s from to accepted table window k
 
     id-is : (k : ℕ) → k < length xs → idAt after k ≡ since1970 (getD xs k 0)
     unfolding rowAt rowOf
-    id-is k h = ap (λ (r : sheet.Row). r .id) (row-is k h)
+    id-is k h = ap (λ (r : sheet.Row). r .id) (row-at-is k h)
 
     id-of : (k : ℕ) → k < length xs → getD xs k 0 ≡ since1600 (idAt after k)
     id-of k h = sym (ap since1600 (id-is k h) ∙ back-1600 (getD xs k 0))
@@ -125,18 +135,18 @@ module _ (zones : ZoneTable) (s : List ℕ) (from to : ℤ) (before after : List
     row-at k h =
         let x = getD xs k 0 in
         let is-x = id-of k h in
-        let start = ap (λ (r : sheet.Row). r .start) (row-is k h) in
-        let end = ap (λ (r : sheet.Row). r .end) (row-is k h) in
+        let start = ap (λ (r : sheet.Row). r .start) (row-at-is k h) in
+        let end = ap (λ (r : sheet.Row). r .end) (row-at-is k h) in
         record {
           startIs = rw (← is-x) start;
           endIs = rw (← is-x) end;
-          reach = rw (← is-x) (end-reach s accepted x (small k h));
+          reach = rw (← is-x) (end-reach s accepted x (brief k h));
           near = (
-            rw start (omega (arith, start-small zones table s accepted (e .zone) x (small k h))),
-            rw end (omega (arith, end-small zones table s accepted (e .zone) x (small k h))),
+            rw start (omega (arith, start-small zones table s accepted (e .zone) x (brief k h))),
+            rw end (omega (arith, end-small zones table s accepted (e .zone) x (brief k h))),
           );
-          marksIs = rw (← is-x) (ap (λ (r : sheet.Row). r .marks) (row-is k h));
-          zeros = zeros-back zones e xs before after is fits k h;
+          marksIs = rw (← is-x) (ap (λ (r : sheet.Row). r .marks) (row-at-is k h));
+          zeros = zeros-back zones e xs before after is fits d k h;
         }
 
     sheet-listed : (size : ℕ) → size ≡ 28 * length xs + 12 → Listed zones e from to before size after
@@ -165,4 +175,4 @@ module _ (zones : ZoneTable) (s : List ℕ) (from to : ℤ) (buffer : List ℕ) 
       let long = sym (ap (λ (u : Outcome). u .length) written) ∙ said .size in
       let fits : 28 * length (occurrences (eventOf s) (since1600 from) (since1600 to)) + 12 ≤ length buffer = omega (arith, room zones s from to buffer (none 13), long) in
       sheet-listed zones s from to buffer after accepted (table-valid zones s from to buffer (none 10)) (window-valid zones s from to buffer (none 11))
-      (said .increase) (said .exactly) bytes fits size sized
+      bytes fits size sized

@@ -6,6 +6,7 @@ pub mod SheetLaws
 pub mod Lists
 pub mod WindowLaws
 pub mod Ranges
+pub mod Rows
 pub mod DemandTwo
 pub mod OwnBytes
 pub mod DemandTwoTexts

@@ -3,15 +3,11 @@ use Prim.Native.Nat.{ℕ, _+_, _*_, _<_, _≤_}
 use mathlib.Core.List.{List, _++_, append-assoc}
 use mathlib.Core.Path.{_≡_, ap, _∙_}
 use native.Mathlib.Omega.{arith}
-use lib.ListN.{length, drop, getD, List·getD-map}
+use lib.ListN.{length, drop, getD}
 use lib.Seq.{sets, sets-eq, length-sets, drop-at}
-use mir.Syntax.{w64}
-use mir.Val.{SFits}
 use Rattle.event.specs.Types.{Event}
-use Rattle.call_definitions.specs.Window.{since1970}
-use Rattle.call_definitions.specs.Occurrence.{detailsAt}
-use Rattle.call_definitions.specs.Utc.{ZoneTable, utcStart, utcEnd}
-use Rattle.call_definitions.specs.Bytes.{rowOf, rowsFor, writtenVersion}
+use Rattle.call_definitions.specs.Utc.{ZoneTable}
+use Rattle.call_definitions.specs.Bytes.{rowsFor, writtenVersion}
 use Rattle.call_definitions.proofs.DemandTwo.{rows-count, table-length}
 use Rattle.sheet.specs.Records.{Row, zerosAt, rowAt}
 use Rattle.sheet.specs.Writing.{rowsBytes, trailerBytes, sheetOf}
@@ -58,32 +54,14 @@ module _ (zones : ZoneTable) (e : Event) (xs before after : List ℕ)
         whole = ap length is ∙ length-sets before 0 (sheetOf writtenVersion rows);
       }
 
-  -- ---- record k
+  -- ---- record k: `d` stands for one past the last
 
-  module _ (k : ℕ) (h : k < length xs) where
-    abbrev x : ℕ
-    x = getD xs k 0
+  module _ (d : Row) (k : ℕ) (h : k < length xs) where
+    there : k < length rows
+    there = omega (arith, rows-count zones e xs)
 
-    abbrev row : Row
-    row = rowOf zones (e .zone) x (detailsAt e x)
-
-    -- it stands for a record past the last
-    abbrev past : Row
-    past = rowOf zones (e .zone) 0 (detailsAt e 0)
-
-    row-is : getD rows k past ≡ row
-    unfolding rowsFor
-    row-is = List·getD-map (λ (y : ℕ). rowOf zones (e .zone) y (detailsAt e y)) xs k 0
-
-    pub row-back : SFits w64 (since1970 (getD xs k 0)) → SFits w64 (utcStart zones (e .zone) (detailsAt e (getD xs k 0)))
-        → SFits w64 (utcEnd zones (e .zone) (detailsAt e (getD xs k 0))) → rowAt after k ≡ rowOf zones (e .zone) (getD xs k 0) (detailsAt e (getD xs k 0))
-    unfolding rowOf
-    row-back id start end =
-        let there : k < length rows = omega (arith, rows-count zones e xs) in
-        let numbers : sheet.Fits (row .marks) row = record { id = id; start = start; end = end; marks = omega arith } in
-        rw parted (sheet.row-back rows (trailerBytes writtenVersion (length xs) ++ rest) past k there (row .marks) (rw row-is numbers) ∙ row-is)
+    pub row-back : (most : ℕ) → sheet.Fits most (getD (rowsFor zones e xs) k d) → rowAt after k ≡ getD (rowsFor zones e xs) k d
+    row-back most f = rw parted (sheet.row-back rows (trailerBytes writtenVersion (length xs) ++ rest) d k there most f)
 
     pub zeros-back : zerosAt after k ≡ 0
-    zeros-back =
-        let there : k < length rows = omega (arith, rows-count zones e xs) in
-        rw parted (sheet.zeros-back rows (trailerBytes writtenVersion (length xs) ++ rest) past k there)
+    zeros-back = rw parted (sheet.zeros-back rows (trailerBytes writtenVersion (length xs) ++ rest) d k there)

@@ -3,7 +3,7 @@
 use crate::texts;
 use generator::dates;
 use generator::examples::{by_day, event, recurring};
-use smocurant::{expand_to_vec, tzif, Window, ZoneTable};
+use smocurant::{tzif, Window, ZoneTable};
 use std::ffi::CString;
 use std::rc::Rc;
 
@@ -33,11 +33,10 @@ impl Workload {
         Workload { name: self.name.clone(), text: self.text.clone(), window, rule: None, zone: zone() }
     }
 
-    /// As many bytes as the table takes; none where the call is refused.
+    /// More than an occurrence a day and the overrides need, so that the library does not count them first.
     pub fn room(&self) -> usize {
-        let (start, end) = self.window;
-        let table = Window::new(start, end).and_then(|window| expand_to_vec(&self.text, &self.zone, window));
-        table.map_or(0, |table| table.as_bytes().len())
+        let days = (self.window.1 - self.window.0) / dates::DAY + 1;
+        (days as usize + 256) * 32
     }
 
     /// The library's call.
