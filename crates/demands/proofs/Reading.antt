@@ -1,13 +1,13 @@
 -- A sheet read back, of every call that keeps its contract: `Summarises (summaryOf ..)`, `Fetches (fetchOf ..)`, `FetchesRun (runOf ..)`.
-use Prim.Native.Nat.{ℕ, _+_, _*_, _-_, _<_, _≤_, min}
+use Prim.Native.Nat.{ℕ, _+_, _-_, _<_, min}
 use mathlib.Core.Bool.{Bool, true, false, not}
-use mathlib.Core.List.{List, [], _∷_, _++_, map}
+use mathlib.Core.List.{List, [], _∷_, map}
 use mathlib.Core.Path.{_≡_, refl, sym, ap, ap₂, _∙_, subst}
 use native.Mathlib.Nat.{zero-add}
 use native.Mathlib.Omega.{arith}
 use lib.Dec.{eqb, leb}
 use lib.IntN.{ℤ, pos}
-use lib.ListN.{length, getD, take, drop, List·getD-append}
+use lib.ListN.{length, getD, drop, List·getD-append}
 use lib.Seq.{drop-at}
 use borrow.Author.Tests.{eqb-true, eqb-false, ne-eqb, le-leb}
 use Rattle.signed.specs.Choose.{if_then_else_}
@@ -22,7 +22,7 @@ use Rattle.sheet.proofs.RunLaws.{tab-length, tab-at, tab-map}
 use Rattle.sheet.proofs.Accepted.{accepted-is}
 use Rattle.sheet.proofs.ReadWritten.{read-written, same-sheet}
 use Rattle.sheet.proofs.FetchLaws.{number-below, room, run-done}
-use Rattle.demands.specs.Conditions.{Numbered, Lowest}
+use Rattle.demands.specs.Conditions.{Lowest}
 use Rattle.demands.specs.Reading.{sheetConditions, recordConditions, ReadAnswered, RecordAnswered, Slices, rowIn, past, RunAnswered, SameReadings, NoRecords}
 use Rattle.demands.proofs.Lowest.{lowestOf, Rising, lowest-of}
 use Rattle.demands.proofs.TextAnswers.{lowest-join}

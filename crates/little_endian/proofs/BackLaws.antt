@@ -8,7 +8,7 @@ use native.Mathlib.Omega.{arith}
 use borrow.Author.Tests.{ltb-false}
 use lib.Dec.{ltb}
 use lib.IntN.{pos, negsuc}
-use lib.ListN.{length, getD, take, drop, length-drop}
+use lib.ListN.{length, take, drop, length-drop}
 use lib.Seq.{take-add, drop-drop, getD-drop, length-take-le}
 use Rattle.signed.specs.Choose.{if_then_else_}
 use Rattle.little_endian.specs.Bytes.{bytesOf, twos, valueOf, numberAt, signedOf, AllBytes}

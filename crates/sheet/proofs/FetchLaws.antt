@@ -1,8 +1,8 @@
 -- The reader's calls: what each hands back where it is refused, and where it is not.
 use Prim.Native.Nat.{ℕ, _+_, _*_, _-_, _<_, _≤_, min}
-use mathlib.Core.Bool.{Bool, true, false}
-use mathlib.Core.List.{List, [], _∷_, _++_, map}
-use mathlib.Core.Path.{_≡_, refl, sym, ap, ap₂, _∙_}
+use mathlib.Core.Bool.{true}
+use mathlib.Core.List.{List, _++_, map}
+use mathlib.Core.Path.{_≡_, refl, sym, ap, _∙_}
 use native.Mathlib.Nat.{zero-add}
 use native.Mathlib.Omega.{arith}
 use lib.Dec.{leb, eqb}
@@ -14,7 +14,7 @@ use Rattle.rule.proofs.Bools.{by}
 use Rattle.sheet.specs.Runs.{tabulate}
 use Rattle.sheet.specs.Records.{Row, idAt, startAt, endAt, marksAt, rowAt}
 use Rattle.sheet.specs.Reading.{versionOf, countOf, rowsOf, faultOf}
-use Rattle.sheet.specs.Fetching.{Summary, summaryOf, fetchFault, Fetched, fetchOf, Run, over, handedOut, runOf, Summarises, Fetches, FetchesRun}
+use Rattle.sheet.specs.Fetching.{summaryOf, fetchFault, fetchOf, over, handedOut, runOf, Summarises, Fetches, FetchesRun}
 use Rattle.sheet.proofs.RunLaws.{tab-length, tab-same, tab-map, tab-take, tab-past}
 use Rattle.sheet.proofs.Accepted.{long-enough, rows-before}
 

@@ -9,7 +9,7 @@ use borrow.Author.Tests.{eqb-true}
 use Rattle.little_endian.specs.Bytes.{bytesOf, twos, numberAt, signedOf, AllBytes}
 use Rattle.little_endian.proofs.BackLaws.{twos-signed, part-join, number-bytes, number-below}
 use Rattle.sheet.specs.Runs.{tabulate}
-use Rattle.sheet.specs.Records.{Row, idAt, startAt, endAt, marksAt, zerosAt, rowAt}
+use Rattle.sheet.specs.Records.{idAt, startAt, endAt, marksAt, zerosAt, rowAt}
 use Rattle.sheet.specs.Writing.{rowBytes, rowsBytes, trailerBytes, sheetOf}
 use Rattle.sheet.specs.Reading.{before, sizeOf, versionOf, countOf, distanceOf, rowsOf, clearAt, faultOf}
 use Rattle.sheet.proofs.RunLaws.{every-at, tab-length}

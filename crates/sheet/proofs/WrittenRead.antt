@@ -2,7 +2,7 @@
 use Prim.Native.Nat.{ℕ, suc, _+_, _*_, _-_, _<_, _≤_, _^_}
 use mathlib.Core.Bool.{true}
 use mathlib.Core.List.{List, [], _++_, append-nil}
-use mathlib.Core.Path.{_≡_, refl, sym, ap, ap₂, _∙_}
+use mathlib.Core.Path.{_≡_, sym, ap, ap₂, _∙_}
 use native.Mathlib.Omega.{arith}
 use lib.ListN.{length, take, drop, getD}
 use lib.Seq.{length-take-le}
@@ -11,9 +11,9 @@ use mir.Syntax.{w64}
 use mir.Val.{SFits}
 use borrow.Author.Tests.{le-leb, eq-eqb, eqb-true}
 use Rattle.little_endian.specs.Bytes.{numberAt}
-use Rattle.sheet.specs.Runs.{tabulate, every}
-use Rattle.sheet.specs.Records.{Row, idAt, startAt, endAt, marksAt, zerosAt, rowAt}
-use Rattle.sheet.specs.Writing.{rowBytes, rowsBytes, trailerBytes, sheetOf}
+use Rattle.sheet.specs.Runs.{every}
+use Rattle.sheet.specs.Records.{Row, idAt, marksAt, zerosAt, rowAt}
+use Rattle.sheet.specs.Writing.{rowsBytes, trailerBytes, sheetOf}
 use Rattle.sheet.specs.Reading.{before, sizeOf, versionOf, countOf, distanceOf, rowsOf, known, mostMarks, risesAt, markedAt, clearAt, faultOf}
 use Rattle.sheet.proofs.RunLaws.{every-all, tab-drop}
 use Rattle.sheet.proofs.Accepted.{is-accepted}

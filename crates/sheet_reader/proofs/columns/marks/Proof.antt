@@ -1,7 +1,7 @@
 -- `sheet_reader::columns::marks` meets its contract: the elements before here have their marks.
-use Prim.Native.Nat.{_+_, _*_, _-_, _≤_}
+use Prim.Native.Nat.{_-_, _≤_}
 use native.Mathlib.Omega.{arith}
-use mathlib.Core.Path.{_≡_, refl, sym, _∙_}
+use mathlib.Core.Path.{_≡_, refl}
 use lib.ListN.{length, take, length-set}
 use Rattle.sheet.specs.Runs.{tabulate}
 use Rattle.sheet.specs.Records.{marksAt}

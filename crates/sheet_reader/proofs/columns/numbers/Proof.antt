@@ -1,7 +1,7 @@
 -- `sheet_reader::columns::numbers` meets its contract: the elements before here have their numbers.
-use Prim.Native.Nat.{_+_, _*_, _-_, _≤_}
+use Prim.Native.Nat.{_+_, _-_, _≤_}
 use native.Mathlib.Omega.{arith}
-use mathlib.Core.Path.{_≡_, refl, sym, _∙_}
+use mathlib.Core.Path.{_≡_, refl}
 use lib.ListN.{length, take, length-set}
 use Rattle.signed.proofs.Parts.{back}
 use Rattle.sheet.specs.Runs.{tabulate}
