@@ -1,5 +1,5 @@
 -- A sheet read back, of every call that keeps its contract: `Summarises (summaryOf ..)`, `Fetches (fetchOf ..)`, `FetchesRun (runOf ..)`.
-use Prim.Native.Nat.{ℕ, _+_, _-_, _<_, min}
+use Prim.Native.Nat.{ℕ, _+_, _-_, _<_, _≤_, min}
 use mathlib.Core.Bool.{Bool, true, false, not}
 use mathlib.Core.List.{List, [], _∷_, map}
 use mathlib.Core.Path.{_≡_, refl, sym, ap, ap₂, _∙_, subst}
@@ -7,7 +7,7 @@ use native.Mathlib.Nat.{zero-add}
 use native.Mathlib.Omega.{arith}
 use lib.Dec.{eqb, leb}
 use lib.IntN.{ℤ, pos}
-use lib.ListN.{length, getD, drop, List·getD-append}
+use lib.ListN.{length, getD, drop, List·getD-append, length-append, length-drop}
 use lib.Seq.{drop-at}
 use borrow.Author.Tests.{eqb-true, eqb-false, ne-eqb, le-leb}
 use Rattle.signed.specs.Choose.{if_then_else_}
@@ -23,7 +23,7 @@ use Rattle.sheet.proofs.Accepted.{accepted-is}
 use Rattle.sheet.proofs.ReadWritten.{read-written, same-sheet}
 use Rattle.sheet.proofs.FetchLaws.{number-below, room, run-done}
 use Rattle.demands.specs.Conditions.{Lowest}
-use Rattle.demands.specs.Reading.{sheetConditions, recordConditions, ReadAnswered, RecordAnswered, Slices, rowIn, past, RunAnswered, SameReadings, NoRecords}
+use Rattle.demands.specs.Reading.{sheetConditions, recordConditions, ReadAnswered, RecordAnswered, Slices, rowIn, past, lengths, RunAnswered, SameReadings, NoRecords}
 use Rattle.demands.proofs.Lowest.{lowestOf, Rising, lowest-of}
 use Rattle.demands.proofs.TextAnswers.{lowest-join}
 
@@ -166,6 +166,10 @@ module _ {A : Type 0} (f : Row → A) (s : List ℕ) (first n : ℕ) (lent : Lis
   pub values-past : drop n (over values lent) ≡ drop n lent
   values-past = drop-at values (drop (length values) lent) n values-length ∙ ap (λ (m : ℕ). drop m lent) values-length
 
+  pub values-whole : n ≤ length lent → length (over values lent) ≡ length lent
+  values-whole h =
+      length-append values (drop (length values) lent) ∙ omega (arith, values-length, length-drop (length values) lent)
+
 module _ (s : List ℕ) (first : ℕ) (l : Slices) where
   abbrev ran : Run
   ran = runOf s first (l .ids) (l .starts) (l .ends) (l .marks)
@@ -238,6 +242,16 @@ module _ (s : List ℕ) (first : ℕ) (l : Slices) where
             marks = values-past (λ (r : Row). r .marks) s first n (l .marks) i;
           }
 
+      -- there is room for n in each
+      lengths-out : lengths out ≡ lengths l
+      unfolding handedOut
+      lengths-out =
+          let ids = values-whole (λ (r : Row). r .id) s first n (l .ids) (omega arith) in
+          let starts = values-whole (λ (r : Row). r .start) s first n (l .starts) (omega arith) in
+          let ends = values-whole (λ (r : Row). r .end) s first n (l .ends) (omega arith) in
+          let marks = values-whole (λ (r : Row). r .marks) s first n (l .marks) (omega arith) in
+          λ i. ids i ∷ starts i ∷ ends i ∷ marks i ∷ []
+
     pub run-answered : RunAnswered s first l answer count after
     run-answered =
         record {
@@ -254,6 +268,10 @@ module _ (s : List ℕ) (first : ℕ) (l : Slices) where
               λ z.
               let none = sym is-run-fault ∙ z in
               ap₂ past (count-is none) (out-is none) ∙ past-out none ∙ ap (λ (m : ℕ). past m l) (sym (count-is none));
+          whole =
+              by (eqb (fetchFault s first) 0)
+              (λ t. let none = eqb-true (fetchFault s first) 0 t in ap lengths (out-is none) ∙ lengths-out none)
+              (λ t. ap lengths (after-is ∙ ap left (ran-refused (eqb-false (fetchFault s first) 0 t))));
         }
 
 -- ---- "any bytes that it accepts as a whole are what the writer of that version would give for those records"

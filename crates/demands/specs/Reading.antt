@@ -64,6 +64,10 @@ rowIn l k = record { id = getD (l .ids) k (pos 0); start = getD (l .starts) k (p
 abbrev pub past : ℕ → Slices → Slices
 past n l = record { ids = drop n (l .ids); starts = drop n (l .starts); ends = drop n (l .ends); marks = drop n (l .marks) }
 
+-- The lengths of the four slices.
+abbrev pub lengths : Slices → List ℕ
+lengths l = length (l .ids) ∷ length (l .starts) ∷ length (l .ends) ∷ length (l .marks) ∷ []
+
 pub record RunAnswered (sheet : List ℕ) (first : ℕ) (before : Slices) (answer count : ℕ) (after : Slices) : Type 0 where
   pub one : Lowest (recordConditions sheet first) answer
   pub refusedCount : (answer ≡ 0 → ⊥) → count ≡ 0
@@ -75,6 +79,7 @@ pub record RunAnswered (sheet : List ℕ) (first : ℕ) (before : Slices) (answe
   pub recordsAre : (d : Row) → answer ≡ 0 → (k : ℕ) → k < count → rowIn after k ≡ getD (rowsOf sheet) (first + k) d
   -- "a buffer keeps what lies past the result"
   pub others : answer ≡ 0 → past count after ≡ past count before
+  pub whole : lengths after ≡ lengths before
 
 -- ---- "Every sheet the library writes is read back to the records that made it"
 
