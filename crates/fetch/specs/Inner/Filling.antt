@@ -1,9 +1,9 @@
 -- Some records in four lent slices.
-use Prim.Native.Nat.{ℕ, _+_, _*_, _≤_}
+use Prim.Native.Nat.{ℕ, _+_, _*_, _-_, _≤_}
 use mathlib.Core.List.{List, _++_}
 use mathlib.Core.Path.{_≡_}
 use lib.IntN.{ℤ}
-use lib.ListN.{drop}
+use lib.ListN.{take, drop}
 use Rattle.sheet.specs.Runs.{tabulate}
 use Rattle.sheet.specs.Records.{idAt, startAt, endAt, marksAt}
 
@@ -21,3 +21,19 @@ pub record Filled (s : List ℕ) (k n : ℕ) (ids starts ends : List ℤ) (marks
   pub starts-are : starts′ ≡ tabulate (startAt s) k n ++ drop n starts
   pub ends-are : ends′ ≡ tabulate (endAt s) k n ++ drop n ends
   pub marks-are : marks′ ≡ tabulate (marksAt s) k n ++ drop n marks
+
+-- Record k and those after it are on a sheet of some length, one for each element from i to e, and each slice has these elements.
+pub record Block (size k i e ids starts ends marks : ℕ) : Type 0 where
+  pub order : i ≤ e
+  pub on-sheet : 28 * (k + (e - i)) ≤ size
+  pub ids-fit : e ≤ ids
+  pub starts-fit : e ≤ starts
+  pub ends-fit : e ≤ ends
+  pub marks-fit : e ≤ marks
+
+-- Their numbers stand from i to e; the elements before and after them are as they were.
+pub record BlockFilled (s : List ℕ) (k i e : ℕ) (ids starts ends : List ℤ) (marks : List ℕ) (ids′ starts′ ends′ : List ℤ) (marks′ : List ℕ) : Type 0 where
+  pub ids-are : ids′ ≡ take i ids ++ (tabulate (idAt s) k (e - i) ++ drop e ids)
+  pub starts-are : starts′ ≡ take i starts ++ (tabulate (startAt s) k (e - i) ++ drop e starts)
+  pub ends-are : ends′ ≡ take i ends ++ (tabulate (endAt s) k (e - i) ++ drop e ends)
+  pub marks-are : marks′ ≡ take i marks ++ (tabulate (marksAt s) k (e - i) ++ drop e marks)

@@ -1,95 +1,84 @@
--- `fetch::run::fill` meets its contract: the first n elements of each slice have one number of the records each.
-use mathlib.Core.Path.{sym}
+-- `fetch::run::fill` meets its contract: the first i elements of each slice have their numbers.
+use Prim.Native.Nat.{ℕ, _+_, _-_, _≤_}
 use native.Mathlib.Omega.{arith}
-use lib.Seq.{length-take-le}
-use Rattle.sheet.specs.Records.{idAt, startAt, endAt, marksAt}
-use Rattle.fetch.proofs.PartLaws.{part-filled}
+use mathlib.Core.Path.{_≡_, refl, subst}
+use Rattle.sheet.specs.Runs.{tabulate}
+use Rattle.fetch.specs.Inner.Filling.{Filled}
+use Rattle.fetch.proofs.FillLaws.{ids-same, starts-same, ends-same, marks-same, block-room, block-filled}
 use borrow.Author.Needs.{needs}
 use Rattle.fetch.proofs.run.fill.Statement.{statement}
 use Rattle.fetch.proofs.run.fill.Tie as tie
 
-slice-relend-prefix-ids : tie.Need-slice-relend-prefix-ids
-slice-relend-prefix-ids c = search needs
+abbrev Inv-loop : tie.InvT-loop
+Inv-loop sheet k n ids₀ starts₀ ends₀ marks₀ i₀ ids starts ends marks i = (i ≤ n) × Filled sheet k i ids₀ starts₀ ends₀ marks₀ ids starts ends marks
 
-slice-aggregate-ids : tie.Need-slice-aggregate-ids
-slice-aggregate-ids c = sym (length-take-le _ _ (c .before .before .before .pre .ids-fit))
+abbrev μ-loop : tie.MeasureT-loop
+μ-loop sheet k n ids₀ starts₀ ends₀ marks₀ i₀ ids starts ends marks i = n - i
 
-ids-requires : tie.Need-ids-requires
-ids-requires c κs =
-    let q = c .before .before .before in
-    omega (arith, length-take-le (q .args .n) (q .args .ids .now) (q .pre .ids-fit), q .pre .on-sheet)
+loop-holds : tie.Need-loop-holds Inv-loop μ-loop
+unfolding tabulate
+loop-holds c = (omega arith, record { ids-are = refl; starts-are = refl; ends-are = refl; marks-are = refl })
 
-slice-relend-prefix-starts : tie.Need-slice-relend-prefix-starts
-slice-relend-prefix-starts c = search needs
+sub-lesser : tie.Need-sub-lesser Inv-loop μ-loop
+sub-lesser c = search needs
 
-slice-aggregate-starts : tie.Need-slice-aggregate-starts
-slice-aggregate-starts c = sym (length-take-le _ _ (c .before .before .before .before .before .before .pre .starts-fit))
+lesser-requires : tie.Need-lesser-requires Inv-loop μ-loop
+lesser-requires c κs = search needs
 
-starts-requires : tie.Need-starts-requires
-starts-requires c κs =
-    let q = c .before .before .before .before .before .before in
-    omega (arith, length-take-le (q .args .n) (q .args .starts .now) (q .pre .starts-fit), q .pre .on-sheet)
+add-e : tie.Need-add-e Inv-loop μ-loop
+add-e c = search needs
 
-slice-relend-prefix-ends : tie.Need-slice-relend-prefix-ends
-slice-relend-prefix-ends c = search needs
+add-fill-block : tie.Need-add-fill-block Inv-loop μ-loop
+add-fill-block c = search needs
 
-slice-aggregate-ends : tie.Need-slice-aggregate-ends
-slice-aggregate-ends c = sym (length-take-le _ _ (c .before .before .before .before .before .before .before .before .before .pre .ends-fit))
+fill-block-requires : tie.Need-fill-block-requires Inv-loop μ-loop
+fill-block-requires c κs =
+    let l = c .before .before .before .before .before .before .loop in
+    let m = c .before .before .before .before .lesser .ensures in
+    block-room _ _ _ _ _ _ _ (c .before .before .before .before .before .before .before .before .before .pre) (l .i) _ _ _ _ (l .inv .0) (l .inv .1) _ (omega arith) (omega (arith, m, l .inv .0))
 
-ends-requires : tie.Need-ends-requires
-ends-requires c κs =
-    let q = c .before .before .before .before .before .before .before .before .before in
-    omega (arith, length-take-le (q .args .n) (q .args .ends .now) (q .pre .ends-fit), q .pre .on-sheet)
+loop-less : tie.Need-loop-less Inv-loop μ-loop
+loop-less c = search needs
 
-slice-relend-prefix-marks : tie.Need-slice-relend-prefix-marks
-slice-relend-prefix-marks c = search needs
+loop-again : tie.Need-loop-again Inv-loop μ-loop
+loop-again c =
+    let l = c .before .before .before .before .before .before .before .before .before .before .before .before .loop in
+    let m = c .before .before .before .before .before .before .before .before .before .before .lesser .ensures in
+    let e : l .i + c .before .before .before .before .before .before .before .before .before .before .lesser .result ≤ c .before .before .before .before .before .before .before .before .before .before .before .before .before .before .before .args .n = omega (arith, m, l .inv .0) in
+    (e, block-filled _ _ _ _ _ _ _ (c .before .before .before .before .before .before .before .before .before .before .before .before .before .before .before .pre) (l .i) _ _ _ _ (l .inv .0) (l .inv .1) _ (omega arith) e _ _ _ _ (c .before .before .before .before .before .fill-block .ensures))
 
-slice-aggregate-marks : tie.Need-slice-aggregate-marks
-slice-aggregate-marks c = sym (length-take-le _ _ (c .before .before .before .before .before .before .before .before .before .before .before .before .pre .marks-fit))
+same-length : tie.Need-same-length Inv-loop μ-loop
+same-length c = let l = c .before .loop in ids-same _ _ _ _ _ _ _ (c .before .before .before .before .pre) (l .i) _ _ _ _ (l .inv .0) (l .inv .1)
 
-marks-requires : tie.Need-marks-requires
-marks-requires c κs =
-    let q = c .before .before .before .before .before .before .before .before .before .before .before .before in
-    omega (arith, length-take-le (q .args .n) (q .args .marks .now) (q .pre .marks-fit), q .pre .on-sheet)
+same-length-2 : tie.Need-same-length-2 Inv-loop μ-loop
+same-length-2 c = let l = c .before .loop in starts-same _ _ _ _ _ _ _ (c .before .before .before .before .pre) (l .i) _ _ _ _ (l .inv .0) (l .inv .1)
 
-same-length : tie.Need-same-length
-same-length c = search needs
+same-length-3 : tie.Need-same-length-3 Inv-loop μ-loop
+same-length-3 c = let l = c .before .loop in ends-same _ _ _ _ _ _ _ (c .before .before .before .before .pre) (l .i) _ _ _ _ (l .inv .0) (l .inv .1)
 
-same-length-2 : tie.Need-same-length-2
-same-length-2 c = search needs
+same-length-4 : tie.Need-same-length-4 Inv-loop μ-loop
+same-length-4 c = let l = c .before .loop in marks-same _ _ _ _ _ _ _ (c .before .before .before .before .pre) (l .i) _ _ _ _ (l .inv .0) (l .inv .1)
 
-same-length-3 : tie.Need-same-length-3
-same-length-3 c = search needs
-
-same-length-4 : tie.Need-same-length-4
-same-length-4 c = search needs
-
-returns : tie.Need-returns
+returns : tie.Need-returns Inv-loop μ-loop
 returns c =
-    let q = c .before .before .before .before .before .before .before .before .before .before .before .before .before .before .before in
-    record {
-      ids-are = part-filled (idAt _) _ _ _ _ (q .pre .ids-fit) (c .before .before .before .before .before .before .before .before .before .before .before .ids .ensures);
-      starts-are = part-filled (startAt _) _ _ _ _ (q .pre .starts-fit) (c .before .before .before .before .before .before .before .before .starts .ensures);
-      ends-are = part-filled (endAt _) _ _ _ _ (q .pre .ends-fit) (c .before .before .before .before .before .ends .ensures);
-      marks-are = part-filled (marksAt _) _ _ _ _ (q .pre .marks-fit) (c .before .before .marks .ensures);
-    }
+    let l = c .before .loop in
+    let all : l .i ≡ c .before .before .before .before .args .n = omega (arith, l .inv .0, c .loop-test .left) in
+    subst (λ (i : ℕ). Filled (c .before .before .before .before .args .sheet .now) (c .before .before .before .before .args .k) i (c .before .before .before .before .args .ids .now) (c .before .before .before .before .args .starts .now) (c .before .before .before .before .args .ends .now) (c .before .before .before .before .args .marks .now) (l .ids) (l .starts) (l .ends) (l .marks)) all (l .inv .1)
 
 pub fill-spec : {M : Type 1} → statement M
 fill-spec =
     tie.close
     (tie.spec
-    slice-relend-prefix-ids
-    slice-aggregate-ids
-    ids-requires
-    slice-relend-prefix-starts
-    slice-aggregate-starts
-    starts-requires
-    slice-relend-prefix-ends
-    slice-aggregate-ends
-    ends-requires
-    slice-relend-prefix-marks
-    slice-aggregate-marks
-    marks-requires
+    Inv-loop
+    μ-loop
+    loop-holds
+    sub-lesser
+    lesser-requires
+    add-e
+    add-fill-block
+    fill-block-requires
+    loop-less
+    loop-again
     same-length
     same-length-2
     same-length-3
