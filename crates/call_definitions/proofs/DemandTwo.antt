@@ -1,5 +1,6 @@
--- Demand 2, about the definitions: "For an accepted event that is not secret and is answered 0, the recurrence ids strictly increase and are
--- exactly those that RFC 8984 gives in the written profile", and the buffer has their records and the trailer.
+-- Demand 2, about the definitions: "When an accepted event that is not secret is answered 0, the recurrence ids on the sheet strictly increase, and a
+-- date-time of the window is there exactly when no override excludes it and either an override names it, or it is the start or a rule gives it, and
+-- no excluded rule does." The buffer has their records and the trailer.
 use Prim.Native.Nat.{ℕ, _+_, _*_}
 use mathlib.Core.Bool.{Bool, true, false}
 use mathlib.Core.List.{List}
@@ -27,10 +28,10 @@ use Rattle.call_definitions.specs.Answer.{isSecret, Outcome, answerFor, 
 
 -- What a call that is answered 0 leaves.
 pub record Listed (zones : ZoneTable) (e : Event) (from to : ℤ) (buffer : List ℕ) (ids : List ℕ) : Type 0 where
-  -- "the recurrence ids strictly increase"
+  -- "the recurrence ids on the sheet strictly increase"
   pub increase : StrictlyIncreases ids
-  -- "and are exactly those": x is one exactly when it lies in the window, no override excludes it, and either an override names it, or it is
-  -- the start or a rule gives it, and no excluded rule does
+  -- "and a date-time of the window is there exactly when no override excludes it and either an override names it, or it is the start or a rule gives
+  -- it, and no excluded rule does"
   pub exactly : (x : ℕ) → (among x ids ≡ true) ↔ OccursWithin (datesOf e) (since1600 from) (since1600 to) x
   -- the table is their records in order, and the trailer with their number
   pub bytes : expanded zones e from to buffer .buffer ≡ sets buffer 0 (sheetOf writtenVersion (rowsFor zones e ids))
