@@ -9,7 +9,7 @@ use lib.Dec.{eqb, leb}
 use lib.IntN.{ℤ, pos}
 use lib.ListN.{length, getD, drop, List·getD-append, length-append, length-drop}
 use lib.Seq.{drop-at}
-use borrow.Author.Tests.{eqb-true, eqb-false, ne-eqb, le-leb}
+use borrow.Author.Tests.{eqb-true, eqb-false, le-leb}
 use Rattle.signed.specs.Choose.{if_then_else_}
 use Rattle.rule.proofs.Bools.{by}
 use Rattle.little_endian.specs.Bytes.{AllBytes}
@@ -21,7 +21,7 @@ use Rattle.sheet.specs.Fetching.{Summary, summaryOf, fetchFault, Fetched, fetch
 use Rattle.sheet.proofs.RunLaws.{tab-length, tab-at, tab-map}
 use Rattle.sheet.proofs.Accepted.{accepted-is}
 use Rattle.sheet.proofs.ReadWritten.{read-written, same-sheet}
-use Rattle.sheet.proofs.FetchLaws.{number-below, room, run-done}
+use Rattle.sheet.proofs.FetchLaws.{number-below, summary-done, summary-none, fetch-done, fetch-none, room, run-done, run-none}
 use Rattle.demands.specs.Conditions.{Lowest}
 use Rattle.demands.specs.Reading.{sheetConditions, recordConditions, ReadAnswered, RecordAnswered, Slices, rowIn, past, lengths, RunAnswered, SameReadings, NoRecords}
 use Rattle.demands.proofs.Lowest.{lowestOf, Rising, lowest-of}
@@ -72,19 +72,11 @@ row-of s k d h = tab-at (rowAt s) 0 (countOf s) k d h ∙ ap (rowAt s) (zero-add
 -- ---- smocurant_read
 
 module _ (s : List ℕ) where
-  read-done : faultOf s ≡ 0 → summaryOf s ≡ record { answer = 0; version = versionOf s; count = countOf s }
-  unfolding summaryOf
-  read-done h = rw h
-
-  read-refused : (faultOf s ≡ 0 → ⊥) → summaryOf s ≡ record { answer = faultOf s; version = 0; count = 0 }
-  unfolding summaryOf
-  read-refused h = rw (ne-eqb (faultOf s) 0 h)
-
   read-answer : summaryOf s .answer ≡ faultOf s
   read-answer =
       by (eqb (faultOf s) 0)
-      (λ t. ap (λ (r : Summary). r .answer) (read-done (eqb-true (faultOf s) 0 t)) ∙ sym (eqb-true (faultOf s) 0 t))
-      (λ t. ap (λ (r : Summary). r .answer) (read-refused (eqb-false (faultOf s) 0 t)))
+      (λ t. ap (λ (r : Summary). r .answer) (summary-done s (eqb-true (faultOf s) 0 t)) ∙ sym (eqb-true (faultOf s) 0 t))
+      (λ t. ap (λ (r : Summary). r .answer) (summary-none s (eqb-false (faultOf s) 0 t)))
 
   module _ (answer version count : ℕ) (g : Summarises (summaryOf s) answer version count) where
     pub is-fault : answer ≡ faultOf s
@@ -96,31 +88,20 @@ module _ (s : List ℕ) where
           one = rw is-fault (sheet-judged s);
           refusedNumbers =
               λ h.
-              let r = read-refused (λ z. h (is-fault ∙ z)) in
+              let r = summary-none s (λ z. h (is-fault ∙ z)) in
               (g .version-is ∙ ap (λ (u : Summary). u .version) r, g .count-is ∙ ap (λ (u : Summary). u .count) r);
-          versionIs = λ z. g .version-is ∙ ap (λ (u : Summary). u .version) (read-done (sym is-fault ∙ z));
-          countIs = λ z. g .count-is ∙ ap (λ (u : Summary). u .count) (read-done (sym is-fault ∙ z)) ∙ sym (rows-length s);
+          versionIs = λ z. g .version-is ∙ ap (λ (u : Summary). u .version) (summary-done s (sym is-fault ∙ z));
+          countIs = λ z. g .count-is ∙ ap (λ (u : Summary). u .count) (summary-done s (sym is-fault ∙ z)) ∙ sym (rows-length s);
         }
 
 -- ---- smocurant_record
 
-noRow : Row
-noRow = record { id = pos 0; start = pos 0; end = pos 0; marks = 0 }
-
 module _ (s : List ℕ) (number : ℕ) where
-  fetch-done : fetchFault s number ≡ 0 → fetchOf s number ≡ record { answer = 0; row = rowAt s number }
-  unfolding fetchOf
-  fetch-done h = rw h
-
-  fetch-refused : (fetchFault s number ≡ 0 → ⊥) → fetchOf s number ≡ record { answer = fetchFault s number; row = noRow }
-  unfolding fetchOf noRow
-  fetch-refused h = rw (ne-eqb (fetchFault s number) 0 h)
-
   fetch-answer : fetchOf s number .answer ≡ fetchFault s number
   fetch-answer =
       by (eqb (fetchFault s number) 0)
-      (λ t. ap (λ (r : Fetched). r .answer) (fetch-done (eqb-true (fetchFault s number) 0 t)) ∙ sym (eqb-true (fetchFault s number) 0 t))
-      (λ t. ap (λ (r : Fetched). r .answer) (fetch-refused (eqb-false (fetchFault s number) 0 t)))
+      (λ t. ap (λ (r : Fetched). r .answer) (fetch-done s number (eqb-true (fetchFault s number) 0 t)) ∙ sym (eqb-true (fetchFault s number) 0 t))
+      (λ t. ap (λ (r : Fetched). r .answer) (fetch-none s number (eqb-false (fetchFault s number) 0 t)))
 
   module _ (answer : ℕ) (id start end : ℤ) (marks : ℕ) (g : Fetches (fetchOf s number) answer id start end marks) where
     pub is-fetch-fault : answer ≡ fetchFault s number
@@ -133,19 +114,18 @@ module _ (s : List ℕ) (number : ℕ) where
     handed-is = λ i. record { id = g .id-is i; start = g .start-is i; end = g .end-is i; marks = g .marks-is i }
 
     pub record-answered : RecordAnswered s number answer id start end marks
-    unfolding noRow
     record-answered =
         record {
           one = rw is-fetch-fault (record-judged s number);
           refusedNumbers =
               λ h.
-              let r = handed-is ∙ ap (λ (u : Fetched). u .row) (fetch-refused (λ z. h (is-fetch-fault ∙ z))) in
+              let r = handed-is ∙ ap (λ (u : Fetched). u .row) (fetch-none s number (λ z. h (is-fetch-fault ∙ z))) in
               (ap (λ (u : Row). u .id) r, (ap (λ (u : Row). u .start) r, (ap (λ (u : Row). u .end) r, ap (λ (u : Row). u .marks) r)));
           there = λ z. omega (arith, rows-length s, number-below s number (sym is-fetch-fault ∙ z));
           recordIs =
               λ d z.
               let none = sym is-fetch-fault ∙ z in
-              handed-is ∙ ap (λ (u : Fetched). u .row) (fetch-done none) ∙ sym (row-of s number d (number-below s number none));
+              handed-is ∙ ap (λ (u : Fetched). u .row) (fetch-done s number none) ∙ sym (row-of s number d (number-below s number none));
         }
 
 -- ---- smocurant_records
@@ -188,8 +168,7 @@ module _ (s : List ℕ) (first : ℕ) (l : Slices) where
 
   ran-refused : (fetchFault s first ≡ 0 → ⊥)
       → ran ≡ record { answer = fetchFault s first; count = 0; ids = l .ids; starts = l .starts; ends = l .ends; marks = l .marks }
-  unfolding runOf
-  ran-refused h = rw (ne-eqb (fetchFault s first) 0 h)
+  ran-refused = run-none s first (l .ids) (l .starts) (l .ends) (l .marks)
 
   ran-answer : ran .answer ≡ fetchFault s first
   unfolding handedOut
@@ -329,6 +308,6 @@ pub no-records : (s : List ℕ) → faultOf s ≡ 0 → countOf s ≡ 0 → NoRe
 unfolding fetchFault
 no-records s e n =
     record {
-      none = λ answer version count g. g .count-is ∙ ap (λ (r : Summary). r .count) (read-done s e) ∙ n;
+      none = λ answer version count g. g .count-is ∙ ap (λ (r : Summary). r .count) (summary-done s e) ∙ n;
       never = λ number answer id start end marks g. is-fetch-fault s number answer id start end marks g ∙ rw (e, n, le-leb 0 number (omega arith));
     }

@@ -39,27 +39,42 @@ module _ (s : List ℕ) (number : ℕ) (e : fetchFault s number ≡ 0) where
 
 -- ---- the whole sheet
 
-pub summary-refused : (s : List ℕ) (r : ℕ) → r ≡ faultOf s → (r ≡ 0 → ⊥) → Summarises (summaryOf s) r 0 0
-unfolding summaryOf
-summary-refused s r e h = rw (← e, ne-eqb r 0 h) (record { answer-is = refl; version-is = refl; count-is = refl })
+module _ (s : List ℕ) where
+  pub summary-done : faultOf s ≡ 0 → summaryOf s ≡ record { answer = 0; version = versionOf s; count = countOf s }
+  unfolding summaryOf
+  summary-done h = rw h
 
-pub summary-read : (s : List ℕ) → faultOf s ≡ 0 → (v n : ℕ) → v ≡ versionOf s → n ≡ countOf s → Summarises (summaryOf s) 0 v n
-unfolding summaryOf
-summary-read s h v n e f = rw (eq-eqb (faultOf s) 0 h) (record { answer-is = refl; version-is = e; count-is = f })
+  pub summary-none : (faultOf s ≡ 0 → ⊥) → summaryOf s ≡ record { answer = faultOf s; version = 0; count = 0 }
+  unfolding summaryOf
+  summary-none h = rw (ne-eqb (faultOf s) 0 h)
+
+  pub summary-refused : (r : ℕ) → r ≡ faultOf s → (r ≡ 0 → ⊥) → Summarises (summaryOf s) r 0 0
+  summary-refused r e h = rw (summary-none (λ z. h (e ∙ z))) (record { answer-is = e; version-is = refl; count-is = refl })
+
+  pub summary-read : faultOf s ≡ 0 → (v n : ℕ) → v ≡ versionOf s → n ≡ countOf s → Summarises (summaryOf s) 0 v n
+  summary-read h v n e f = rw (summary-done h) (record { answer-is = refl; version-is = e; count-is = f })
 
 -- ---- one record
 
 module _ (s : List ℕ) (number : ℕ) where
-  pub fetch-refused : (r : ℕ) → r ≡ fetchFault s number → (r ≡ 0 → ⊥) → Fetches (fetchOf s number) r (pos 0) (pos 0) (pos 0) 0
+  pub fetch-done : fetchFault s number ≡ 0 → fetchOf s number ≡ record { answer = 0; row = rowAt s number }
   unfolding fetchOf
+  fetch-done h = rw h
+
+  pub fetch-none : (fetchFault s number ≡ 0 → ⊥)
+      → fetchOf s number ≡ record { answer = fetchFault s number; row = record { id = pos 0; start = pos 0; end = pos 0; marks = 0 } }
+  unfolding fetchOf
+  fetch-none h = rw (ne-eqb (fetchFault s number) 0 h)
+
+  pub fetch-refused : (r : ℕ) → r ≡ fetchFault s number → (r ≡ 0 → ⊥) → Fetches (fetchOf s number) r (pos 0) (pos 0) (pos 0) 0
   fetch-refused r e h =
-      rw (← e, ne-eqb r 0 h) (record { answer-is = refl; id-is = refl; start-is = refl; end-is = refl; marks-is = refl })
+      rw (fetch-none (λ z. h (e ∙ z))) (record { answer-is = e; id-is = refl; start-is = refl; end-is = refl; marks-is = refl })
 
   pub fetch-read : fetchFault s number ≡ 0 → (id start end : ℤ) (marks : ℕ) → id ≡ idAt s number → start ≡ startAt s number → end ≡ endAt s number
       → marks ≡ marksAt s number → Fetches (fetchOf s number) 0 id start end marks
-  unfolding fetchOf rowAt
+  unfolding rowAt
   fetch-read z id start end marks a b c d =
-      rw (eq-eqb (fetchFault s number) 0 z) (record { answer-is = refl; id-is = a; start-is = b; end-is = c; marks-is = d })
+      rw (fetch-done z) (record { answer-is = refl; id-is = a; start-is = b; end-is = c; marks-is = d })
 
 -- ---- a run of records
 
@@ -71,10 +86,15 @@ stored f g s same k n lent =
     ap (λ (m : ℕ). tabulate g k n ++ drop m lent) (sym (tab-length g k n)) ∙ ap (λ (l : List _). over l lent) values
 
 module _ (s : List ℕ) (first : ℕ) (ids starts ends : List ℤ) (marks : List ℕ) where
-  pub run-refused : (r : ℕ) → r ≡ fetchFault s first → (r ≡ 0 → ⊥) → FetchesRun (runOf s first ids starts ends marks) r 0 ids starts ends marks
+  pub run-none : (fetchFault s first ≡ 0 → ⊥)
+      → runOf s first ids starts ends marks ≡ record { answer = fetchFault s first; count = 0; ids = ids; starts = starts; ends = ends; marks = marks }
   unfolding runOf
+  run-none h = rw (ne-eqb (fetchFault s first) 0 h)
+
+  pub run-refused : (r : ℕ) → r ≡ fetchFault s first → (r ≡ 0 → ⊥) → FetchesRun (runOf s first ids starts ends marks) r 0 ids starts ends marks
   run-refused r e h =
-      rw (← e, ne-eqb r 0 h) (record { answer-is = refl; count-is = refl; ids-are = refl; starts-are = refl; ends-are = refl; marks-are = refl })
+      rw (run-none (λ z. h (e ∙ z)))
+      (record { answer-is = e; count-is = refl; ids-are = refl; starts-are = refl; ends-are = refl; marks-are = refl })
 
   -- how many there is room for
   abbrev pub room : ℕ
