@@ -10,14 +10,24 @@ use Rattle.signed.specs.Choose.{if_then_else_}
 use Rattle.json.specs.Answer.{answerOf}
 use Rattle.keywords.specs.declared.Privacy.{Privacy}
 use Rattle.event.specs.Types.{Text, Details, Event}
-use Rattle.event.specs.Event.{eventFault, eventOf}
+use Rattle.event.specs.Event.{eventFault, eventPlace, eventOf}
 use Rattle.call_definitions.specs.Occurrence.{detailsAt}
 use Rattle.call_definitions.specs.Utc.{ZoneTable}
 use Rattle.call_definitions.specs.Answer.{isPublic, Outcome, expanded, dateTimeOf, textAnswer}
 
--- "An event is accepted when none of 1 to 9 applies to its text": the lowest of 1 to 9 that applies, or 0.
+-- "An event is accepted when none of 1 to 9 applies to its text": the lowest of 1 to 9 that applies, or 0. 02, 4, of 20 to 26: "The order against the
+-- other numbers is that of 6, so "1 to 9" takes them in."
 unfoldable pub textFault : List ℕ → ℕ
 textFault s = let event = eventFault s in if eqb (answerOf s) 0 then event else answerOf s
+
+-- What the call for the place of a fault answers. 02, 4: "Each carries the byte place, from 0, at which the first such value in the text begins";
+-- "only a call of the uploader's own, on one text, gives the place". Only 20 to 26 have one: it is 0 for every other number.
+pub record Located : Type 0 where
+  pub answer : ℕ
+  pub place : ℕ
+
+unfoldable pub locateText : List ℕ → Located
+locateText s = let place = eventPlace s in record { answer = textFault s; place = if eqb (answerOf s) 0 then place else 0 }
 
 -- A refusal: "the buffer keeps all of them, the length is 0".
 unfoldable pub expandText : ZoneTable → List ℕ → ℤ → ℤ → List ℕ → Outcome

@@ -6,7 +6,7 @@ use lib.IntN.{ℤ}
 use lib.ListN.{take, drop}
 use Rattle.call_definitions.specs.Utc.{ZoneTable}
 use Rattle.call_definitions.specs.Answer.{Outcome}
-use Rattle.call_definitions.specs.Call.{Shown}
+use Rattle.call_definitions.specs.Call.{Located, Shown}
 
 -- The zone table that a call is lent, by its parts.
 abbrev pub zonesOf : List ℕ → ℤ → List ℤ → List ℤ → ZoneTable
@@ -17,6 +17,11 @@ pub record Gives (o : Outcome) (answer length : ℕ) (buffer : List ℕ) : Type 
   pub answer-is : answer ≡ o .answer
   pub length-is : length ≡ o .length
   pub buffer-is : buffer ≡ o .buffer
+
+-- The call for the place of a fault: its number, and the place.
+pub record Locates (o : Located) (answer place : ℕ) : Type 0 where
+  pub answer-is : answer ≡ o .answer
+  pub place-is : place ≡ o .place
 
 -- A text's call: its number, and the place of the text in the caller's own.
 pub record Shows (o : Shown) (answer start length : ℕ) : Type 0 where

@@ -1,8 +1,8 @@
 -- LocalDateTime, 01, "Reading the event".
 use Prim.Native.Nat.{ℕ, _+_, _*_}
-use mathlib.Core.Bool.{Bool, true, false}
+use mathlib.Core.Bool.{Bool, false}
 use mathlib.Core.List.{List}
-use lib.Dec.{eqb, ltb, leb}
+use lib.Dec.{eqb, leb}
 use lib.ListN.{length, drop}
 use Rattle.signed.specs.Choose.{if_then_else_}
 use Rattle.json_text.specs.Bytes.{byte}
@@ -25,20 +25,21 @@ isLocal last s =
     else false)
     else false
 
--- "A fraction that is non-zero with no trailing zero answers 8, any other fraction 6." What stands after the seconds, where anything does.
+-- "A fraction that is non-zero with no trailing zero answers 8, any other fraction 6." 02, 4: "bad date or time 21". What stands after the seconds, where
+-- anything does.
 unfoldable pub fractionFault : List ℕ → ℕ
 fractionFault s =
     if eqb (byte s 19) 0x2E then
-    (if legalFraction (drop 20 s) then 8 else 6)
-    else 6
+    (if legalFraction (drop 20 s) then 8 else 21)
+    else 21
 
 -- Seconds from 1600-01-01T00:00:00.
 unfoldable pub secondsAt : List ℕ → ℕ
 secondsAt s = 86400 * dayOf (dateAt s) + secondOfDay s
 
--- A LocalDateTime of a year to the given last: its seconds; "else 6". With a legal fraction 8, where the rest is right.
+-- A LocalDateTime of a year to the given last: its seconds; else 21. With a legal fraction 8, where the rest is right.
 unfoldable pub localOf : ℕ → List ℕ → DateTime
 localOf last s =
     if isLocal last s then
     (if eqb (length s) 19 then At (secondsAt s) else Fault (fractionFault s))
-    else Fault 6
+    else Fault 21

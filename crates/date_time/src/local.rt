@@ -40,12 +40,12 @@ fn fraction_fault(raw: &[u8]) -> u32
     ensures { λ r. ⌜ r ≡ fractionFault (now (raw .entry)) ⌝ }
 {
     if byte(raw, 19) != 0x2E {
-        return 6;
+        return 21;
     }
     if legal_fraction(&raw[20..]) {
         return 8;
     }
-    6
+    21
 }
 
 fn seconds(raw: &[u8]) -> u64
@@ -61,7 +61,7 @@ pub fn local(raw: &[u8], last: u32) -> DateTime
     ensures { λ r. ⌜ r ≡ localOf last (now (raw .entry)) ⌝ }
 {
     if !is_local(raw, last) {
-        return DateTime::Fault(6);
+        return DateTime::Fault(21);
     }
     if raw.len() == 19 {
         return DateTime::At(seconds(raw));

@@ -5,7 +5,6 @@ use mathlib.Core.Bool.{Bool, true, false, not, _&&_, _||_}
 use mathlib.Core.List.{List, [], _∷_}
 use mathlib.Core.Option.{Option, none, some}
 use mathlib.Core.Path.{_≡_, refl, sym, ap, _∙_, subst}
-use native.Mathlib.Omega.{arith}
 use lib.Dec.{eqb}
 use lib.IntN.{ℤ}
 use lib.ListN.{take, drop}
@@ -21,42 +20,38 @@ use Rattle.call_definitions.specs.Bytes.{tableOf}
 use Rattle.call_definitions.specs.Answer.{isSecret, isPublic, answerFor, outcomeBy, expanded, dateTimeOf, textAnswerFor, textAnswer}
 use Rattle.call_definitions.specs.Call.{textFault, expandText, Shown, placeFrom, placeOf, noPlace, shownFor, shownAt, textOf}
 use Rattle.call_definitions.specs.Results.{Gives, Shows, Tells}
-use Rattle.demands.specs.Conditions.{Lowest, textConditions, callConditions, tableConditions, occursAt, wordsConditions}
+use Rattle.demands.specs.Conditions.{Given, applies, faultConditions, textConditions, callConditions, tableConditions, occursAt, wordsConditions}
 use Rattle.demands.specs.One.{TableAnswered, TextAnswered, PartAnswered}
-use Rattle.demands.proofs.Lowest.{lowestOf, Rising, lowest-of}
-use Rattle.demands.proofs.TextAnswers.{lowest-join, text-lowest, text-rises}
+use Rattle.demands.proofs.Given.{givenBy, given-by, Refusals, given-join, none-applies}
+use Rattle.demands.proofs.TextAnswers.{text-given, text-refusals}
 
 -- ---- the table's call
 
 module _ (zones : ZoneTable) (s : List ℕ) (from to : ℤ) (buffer : List ℕ) where
-  table-rises : Rising 0 (tableConditions zones s from to buffer)
-  unfolding tableConditions textConditions callConditions
-  table-rises = (omega arith, (omega arith, (omega arith, (omega arith, (omega arith, (omega arith, (omega arith, (omega arith, (omega arith, (omega arith, (omega arith, (omega arith, (omega arith, tt)))))))))))))
-
   calls : ℕ
-  calls = lowestOf (callConditions zones (eventOf s) from to buffer)
+  calls = givenBy (callConditions zones (eventOf s) from to buffer)
 
-  table-lowest : lowestOf (tableConditions zones s from to buffer) ≡ (if eqb (textFault s) 0 then calls else textFault s)
+  table-given : givenBy (tableConditions zones s from to buffer) ≡ (if eqb (textFault s) 0 then calls else textFault s)
   unfolding tableConditions calls
-  table-lowest =
-      lowest-join 0 (textConditions s) (callConditions zones (eventOf s) from to buffer) (text-rises s)
-      ∙ ap (λ (n : ℕ). if eqb n 0 then lowestOf (callConditions zones (eventOf s) from to buffer) else n) (text-lowest s)
+  table-given =
+      given-join (textConditions s) (callConditions zones (eventOf s) from to buffer) (text-refusals s)
+      ∙ ap (λ (n : ℕ). if eqb n 0 then givenBy (callConditions zones (eventOf s) from to buffer) else n) (text-given s)
 
-  -- an accepted event has the lowest of 10 to 13
+  -- an accepted event has the first of 10 to 13
   accepted-answer : expanded zones (eventOf s) from to buffer ≡ outcomeBy calls (tableOf zones (eventOf s) from to) buffer
-  unfolding expanded answerFor calls callConditions lowestOf
+  unfolding expanded answerFor calls callConditions givenBy
   accepted-answer = refl
 
   outcome-answer : (answer : ℕ) (table : List ℕ) → outcomeBy answer table buffer .answer ≡ answer
   unfolding outcomeBy
   outcome-answer answer table = by (eqb answer 0) (λ e. rw e (sym (eqb-true answer 0 e))) (λ e. rw e)
 
-  table-answer : expandText zones s from to buffer .answer ≡ lowestOf (tableConditions zones s from to buffer)
+  table-answer : expandText zones s from to buffer .answer ≡ givenBy (tableConditions zones s from to buffer)
   unfolding expandText
   table-answer =
       by (eqb (textFault s) 0)
-      (λ e. rw (table-lowest, e, accepted-answer) (outcome-answer calls (tableOf zones (eventOf s) from to)))
-      (λ e. rw (table-lowest, e))
+      (λ e. rw (table-given, e, accepted-answer) (outcome-answer calls (tableOf zones (eventOf s) from to)))
+      (λ e. rw (table-given, e))
 
   -- a refusal leaves nothing
   nothing-left : (answer : ℕ) (table : List ℕ) → (answer ≡ 0 → ⊥)
@@ -78,10 +73,19 @@ module _ (zones : ZoneTable) (s : List ℕ) (from to : ℤ) (buffer : List ℕ) 
       → TableAnswered zones s from to buffer answer length after
   table-answered answer length after g =
       record {
-        one = subst (Lowest (tableConditions zones s from to buffer)) (sym (g .answer-is ∙ table-answer)) (lowest-of 0 (tableConditions zones s from to buffer) table-rises);
+        one = subst (Given (tableConditions zones s from to buffer)) (sym (g .answer-is ∙ table-answer)) (given-by (tableConditions zones s from to buffer));
         refusedLength = λ h. g .length-is ∙ table-refused (λ z. h (g .answer-is ∙ z)) .0;
         refusedBuffer = λ h. g .buffer-is ∙ table-refused (λ z. h (g .answer-is ∙ z)) .1;
       }
+
+  -- where it is answered 0, no condition holds
+  table-refusals : Refusals (tableConditions zones s from to buffer)
+  unfolding tableConditions textConditions faultConditions callConditions
+  table-refusals = (refl, (refl, (refl, (refl, (refl, (refl, (refl, (refl, (refl, (refl, (refl, (refl, (refl, (refl, (refl, (refl, (refl, (refl, (refl, tt)))))))))))))))))))
+
+  pub table-none : (answer length : ℕ) (after : List ℕ) → Gives (expandText zones s from to buffer) answer length after → answer ≡ 0
+      → (n : ℕ) → applies n (tableConditions zones s from to buffer) ≡ false
+  table-none answer length after g done n = none-applies (tableConditions zones s from to buffer) table-refusals (sym table-answer ∙ sym (g .answer-is) ∙ done) n
 
 -- ---- a text's call
 
@@ -90,10 +94,6 @@ pub no-part : (o : Shown) (s : List ℕ) (answer : ℕ) (part : List ℕ) → Te
 no-part o s answer part g z = g .part-is ∙ ap (λ (n : ℕ). take n (drop (o .start) s)) z
 
 module _ (s : List ℕ) (date : ℤ) where
-  words-rises : Rising 0 (wordsConditions s date)
-  unfolding wordsConditions textConditions
-  words-rises = (omega arith, (omega arith, (omega arith, (omega arith, (omega arith, (omega arith, (omega arith, (omega arith, (omega arith, (omega arith, tt))))))))))
-
   secret-or-no : (privacy : Privacy) (occurs : Bool) → textAnswerFor privacy occurs ≡ (if not occurs || isSecret privacy then 14 else 0)
   unfolding textAnswerFor
   secret-or-no privacy occurs = go (isSecret privacy) occurs
@@ -109,11 +109,11 @@ module _ (s : List ℕ) (date : ℤ) where
   asked e none = refl
   asked e (some x) = secret-or-no (e .privacy) (isOccurrence e x)
 
-  words-lowest : lowestOf (wordsConditions s date) ≡ (if eqb (textFault s) 0 then textAnswer (eventOf s) (dateTimeOf date) else textFault s)
-  unfolding wordsConditions lowestOf
-  words-lowest =
-      lowest-join 0 (textConditions s) _ (text-rises s)
-      ∙ ap (λ (n : ℕ). if eqb n 0 then (if not (occursAt (eventOf s) (dateTimeOf date)) || isSecret (eventOf s .privacy) then 14 else 0) else n) (text-lowest s)
+  words-given : givenBy (wordsConditions s date) ≡ (if eqb (textFault s) 0 then textAnswer (eventOf s) (dateTimeOf date) else textFault s)
+  unfolding wordsConditions givenBy
+  words-given =
+      given-join (textConditions s) _ (text-refusals s)
+      ∙ ap (λ (n : ℕ). if eqb n 0 then (if not (occursAt (eventOf s) (dateTimeOf date)) || isSecret (eventOf s .privacy) then 14 else 0) else n) (text-given s)
       ∙ ap (λ (n : ℕ). if eqb (textFault s) 0 then n else textFault s) (sym (asked (eventOf s) (dateTimeOf date)))
 
   -- where a place is shown, the answer is 0
@@ -147,14 +147,14 @@ module _ (s : List ℕ) (date : ℤ) where
     said-at e none = unfold textAnswer in (record { answer-is = refl; no-place = λ h. (refl, refl) })
     said-at e (some x) = said-for (e .privacy) (textAnswer e (some x)) (placeOf (which (detailsAt e x))) (place-answer (which (detailsAt e x)))
 
-    said : Said (lowestOf (wordsConditions s date)) (textOf which s date)
+    said : Said (givenBy (wordsConditions s date)) (textOf which s date)
     unfolding textOf
-    said = by (eqb (textFault s) 0) (λ e. rw (words-lowest, e) (said-at (eventOf s) (dateTimeOf date))) (λ e. rw (words-lowest, e) (record { answer-is = refl; no-place = λ h. (refl, refl) }))
+    said = by (eqb (textFault s) 0) (λ e. rw (words-given, e) (said-at (eventOf s) (dateTimeOf date))) (λ e. rw (words-given, e) (record { answer-is = refl; no-place = λ h. (refl, refl) }))
 
     pub text-answered : (answer start size : ℕ) → Shows (textOf which s date) answer start size → TextAnswered s date answer start size
     text-answered answer start size g =
         record {
-          one = subst (Lowest (wordsConditions s date)) (sym (g .answer-is ∙ said .answer-is)) (lowest-of 0 (wordsConditions s date) words-rises);
+          one = subst (Given (wordsConditions s date)) (sym (g .answer-is ∙ said .answer-is)) (given-by (wordsConditions s date));
           refusedText =
               λ h.
               let no = said .no-place (λ z. h (g .answer-is ∙ z)) in

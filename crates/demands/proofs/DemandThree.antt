@@ -22,7 +22,7 @@ use Rattle.call_definitions.proofs.DemandTwo.{table-written}
 use Rattle.call_definitions.proofs.DemandThree.{accepted-table, secret-is, private-text, secret-text, private-tables, private-texts, secret-tables}
 use Rattle.demands.specs.Sheet.{HasSheet}
 use Rattle.demands.specs.Three.{SameTable, PrivateTable, SameText, SamePart}
-use Rattle.demands.proofs.DemandOne.{table-answered, no-part}
+use Rattle.demands.proofs.DemandOne.{table-answered, table-none, no-part}
 use Rattle.demands.proofs.SheetLaws.{has-sheet}
 use Rattle.demands.proofs.DemandTwo.{room, table-listed}
 
@@ -59,7 +59,7 @@ module _ (zones : ZoneTable) (from to : ℤ) (buffer : List ℕ) (answer answer�
       let alone = secret-is zones (eventOf s) (h .setting) from to in
       let bytes : after ≡ sets buffer 0 (sheetOf writtenVersion (rowsFor zones (eventOf s) [])) = g .buffer-is ∙ ap (λ (u : Outcome). u .buffer) written ∙ ap (sets buffer 0) alone in
       let sized : size ≡ 12 = g .length-is ∙ ap (λ (u : Outcome). u .length) written ∙ ap length alone ∙ sheet-length writtenVersion [] in
-      let none = table-answered zones s from to buffer answer size after g .one .done done 13 in
+      let none = table-none zones s from to buffer answer size after g done 13 in
       let fits : 28 * 0 + 12 ≤ length buffer = omega (arith, room zones s from to buffer none, ap length alone, sheet-length writtenVersion []) in
       has-sheet zones (eventOf s) [] buffer after bytes fits (omega arith) size sized
 

@@ -28,13 +28,13 @@ use Rattle.call_definitions.specs.Results.{Gives}
 use Rattle.call_definitions.proofs.DemandTwo as definitions
 use Rattle.call_definitions.proofs.DemandTwo.{rows-count}
 use Rattle.call_definitions.proofs.Few.{few-accepted}
-use Rattle.demands.specs.Conditions.{applies, textConditions, callConditions, tableConditions}
+use Rattle.demands.specs.Conditions.{applies, textConditions, faultConditions, callConditions, tableConditions}
 use Rattle.sheet.specs.Records as sheet
 use Rattle.sheet.specs.Records.{idAt, rowAt}
 use Rattle.sheet.specs.Writing.{sheetOf}
 use Rattle.sheet.specs.Reading.{mostMarks}
 use Rattle.demands.specs.Two.{OnSheet, OccursIn, Row, Listed}
-use Rattle.demands.proofs.DemandOne.{table-answered}
+use Rattle.demands.proofs.DemandOne.{table-none}
 use Rattle.demands.proofs.SheetLaws.{has-sheet, row-back, zeros-back}
 use Rattle.demands.proofs.Lists.{among-stands, at-among, increases-at}
 use Rattle.demands.proofs.WindowLaws.{back-1600, back-1970, earlier, low-enough, after-first, before-last, first-below, last-above}
@@ -53,15 +53,15 @@ not-not false h = absurd (false≢true (sym h))
 
 module _ (zones : ZoneTable) (s : List ℕ) (from to : ℤ) (buffer : List ℕ) where
   pub table-valid : applies 10 (tableConditions zones s from to buffer) ≡ false → validTable (zones .initial) (zones .instants) (zones .offsets) ≡ true
-  unfolding applies any tableConditions textConditions callConditions
+  unfolding applies any tableConditions textConditions faultConditions callConditions
   table-valid h = not-not (validTable (zones .initial) (zones .instants) (zones .offsets)) (or-none (not (validTable (zones .initial) (zones .instants) (zones .offsets))) h)
 
   pub window-valid : applies 11 (tableConditions zones s from to buffer) ≡ false → validWindow from to ≡ true
-  unfolding applies any tableConditions textConditions callConditions
+  unfolding applies any tableConditions textConditions faultConditions callConditions
   window-valid h = not-not (validWindow from to) (or-none (not (validWindow from to)) h)
 
   pub room : applies 13 (tableConditions zones s from to buffer) ≡ false → length (tableOf zones (eventOf s) from to) ≤ length buffer
-  unfolding applies any tableConditions textConditions callConditions
+  unfolding applies any tableConditions textConditions faultConditions callConditions
   room h = ltb-false _ _ (or-none (ltb (length buffer) (length (tableOf zones (eventOf s) from to))) h)
 
   pub accepted-outcome : textFault s ≡ 0 → expandText zones s from to buffer ≡ expanded zones (eventOf s) from to buffer
@@ -170,7 +170,7 @@ module _ (zones : ZoneTable) (s : List ℕ) (from to : ℤ) (buffer : List ℕ) 
       let said = definitions.demand-two zones (eventOf s) from to buffer shown o in
       let bytes = g .buffer-is ∙ ap (λ (u : Outcome). u .buffer) is ∙ said .bytes in
       let sized = g .length-is ∙ ap (λ (u : Outcome). u .length) is ∙ said .size in
-      let none = table-answered zones s from to buffer answer size after g .one .done done in
+      let none = table-none zones s from to buffer answer size after g done in
       let written = definitions.table-written zones (eventOf s) from to buffer o in
       let long = sym (ap (λ (u : Outcome). u .length) written) ∙ said .size in
       let fits : 28 * length (occurrences (eventOf s) (since1600 from) (since1600 to)) + 12 ≤ length buffer = omega (arith, room zones s from to buffer (none 13), long) in

@@ -1,24 +1,22 @@
 -- Demand 2, "UTC times, marks and words are those of the same document", of every call for a text that keeps its contract.
 use Prim.Native.Nat.{ℕ}
-use mathlib.Core.Bool.{Bool, true, false, not, _&&_}
+use mathlib.Core.Bool.{Bool, true, false}
 use mathlib.Core.List.{List, [], _∷_}
 use mathlib.Core.Option.{Option, none, some}
 use mathlib.Core.Path.{_≡_, refl, sym, ap, _∙_, subst}
 use native.Mathlib.Omega.{arith}
-use lib.Dec.{eqb}
 use lib.IntN.{ℤ}
 use lib.ListN.{length, take, drop}
-use Rattle.signed.specs.Choose.{if_then_else_}
 use Rattle.keywords.specs.declared.Privacy.{Privacy}
 use Rattle.keywords.specs.declared.Privacy.the-variants.{Public}
-use Rattle.event.specs.Types.{Text, Details, Event}
+use Rattle.event.specs.Types.{Text, Details}
 use Rattle.event.specs.Event.{eventOf}
 use Rattle.call_definitions.specs.Occurrence.{isOccurrence, detailsAt}
-use Rattle.call_definitions.specs.Answer.{isPublic, isSecret, dateTimeOf, textAnswerFor, textAnswer}
-use Rattle.call_definitions.specs.Call.{Shown, textFault, placeFrom, placeOf, noPlace, shownFor, shownAt, textOf}
+use Rattle.call_definitions.specs.Answer.{dateTimeOf, textAnswerFor, textAnswer}
+use Rattle.call_definitions.specs.Call.{Shown, textFault, placeFrom, placeOf, shownFor, shownAt, textOf}
 use Rattle.call_definitions.specs.Results.{Shows, Tells}
 use Rattle.demands.specs.Two.{rawOf, Told, PartTold}
-use Rattle.demands.proofs.OwnBytes.{Own, OwnIn}
+use Rattle.demands.proofs.OwnBytes.{OwnIn}
 
 -- The part that a place names is a text.
 record Names (s : List ℕ) (o : Option Text) (p : Shown) : Type 0 where

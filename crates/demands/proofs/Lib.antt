@@ -1,7 +1,8 @@
-pub mod Lowest
-pub mod FaultLaws
+pub mod Given
+pub mod FaultConditions
 pub mod TextAnswers
 pub mod DemandOne
+pub mod Locating
 pub mod SheetLaws
 pub mod Lists
 pub mod WindowLaws

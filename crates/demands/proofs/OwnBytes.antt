@@ -1,9 +1,9 @@
 -- The texts of an event are parts of the text that it was read from.
-use Prim.Native.Nat.{ℕ, zero, suc, _+_, _-_, _≤_, _<_}
+use Prim.Native.Nat.{ℕ, zero, suc, _+_, _-_, _≤_}
 use mathlib.Core.Bool.{Bool, true, false}
 use mathlib.Core.List.{List, [], _∷_}
 use mathlib.Core.Option.{Option, none, some}
-use mathlib.Core.Path.{_≡_, refl, sym, ap, _∙_, subst}
+use mathlib.Core.Path.{_≡_, refl, sym, ap, subst}
 use native.Mathlib.Omega.{arith}
 use native.Mathlib.Numerals.{add-one}
 use lib.Dec.{eqb}
@@ -21,19 +21,19 @@ use Rattle.json_walk.specs.declared.Member.{Member}
 use Rattle.json_walk.proofs.Laws.{length-bytes}
 use Rattle.json_tree.specs.Finds
 use Rattle.json_tree.specs.Finds.{lookUp}
-use Rattle.json_tree.specs.Tree.{Json, Items, Fields, noField, noItem, field, endOf, scalarTree, fieldsOf, treeBy, treeAt, textTree}
+use Rattle.json_tree.specs.Tree.{Json, Items, Fields, noField, noItem, field, placeOf, endOf, scalarTree, fieldsOf, treeBy, treeAt, textTree}
 use Rattle.property.specs.Inner.Words.{wordAt}
 use Rattle.property.proofs.Ends.{string-end}
 use Rattle.property.proofs.Words.{raw-none, string-text}
 use Rattle.json_text.specs.Ascii.{ascii}
 use Rattle.event.specs.Types.{Text, Details, Override, Event}
 use Rattle.event.specs.Values.{isNull, string, object, asOption, member}
-use Rattle.event.specs.Reading.{Reading, orWrong, optional, limited}
+use Rattle.event.specs.Reading.{Reading, orWrong, optional, placed, inside, present, limited}
 use Rattle.event.specs.Properties.{dateTime, readText}
 use Rattle.event.specs.Overrides.{patched, patchIn, overrideOf, overridesIn, readOverrides}
-use Rattle.event.specs.Event.{detailsIn, nothing, eventIn, eventOf}
+use Rattle.event.specs.Event.{detailsIn, eventIn, eventFrom, eventOf}
 use Rattle.call_definitions.specs.Occurrence.{overrideAt, withStart, patchedBy, detailsAt}
-use Rattle.demands.proofs.FaultLaws.{pick}
+use Rattle.event.proofs.ValueNumbers.{pick}
 
 -- ---- the bytes of a string
 
@@ -135,7 +135,7 @@ read-own : (s : List ℕ) (v : Json) → Grown s v → OwnIn s (readText v .valu
 unfolding readText orWrong
 read-own s v g = go (string v) (text-own s v g)
   where
-    go : (o : Option Text) → OwnIn s o → OwnIn s (orWrong none (λ (t : Text). record { value = some t; fault = 0 }) o .value)
+    go : (o : Option Text) → OwnIn s o → OwnIn s (orWrong none 20 (λ (t : Text). record { value = some t; fault = 0 }) o .value)
     go none h = tt
     go (some t) h = h
 
@@ -149,28 +149,28 @@ unfolding patched
 patched-own s own none h g = h
 patched-own s own (some v) h g = pick (λ (r : Reading (Option Text)). OwnIn s (r .value)) (isNull v) _ _ tt (read-own s v g)
 
-details-owned : (s : List ℕ) (fields : Fields) → AllGrown s fields → Owned s (detailsIn fields .value)
-unfolding detailsIn
-details-owned s fields g =
+details-owned : (s : List ℕ) (at : ℕ) (fields : Fields) → AllGrown s fields → Owned s (detailsIn at fields .value)
+unfolding detailsIn placed
+details-owned s at fields g =
     record { title = optional-own s _ (member-grown s (ascii "title") fields g); description = optional-own s _ (member-grown s (ascii "description") fields g) }
 
-patch-owned : (s : List ℕ) (own : Details) (id : ℕ) (fields : Fields) → Owned s own → AllGrown s fields → Owned s (patchIn own id fields .value .details)
-unfolding patchIn
-patch-owned s own id fields h g =
+patch-owned : (s : List ℕ) (own : Details) (id at : ℕ) (fields : Fields) → Owned s own → AllGrown s fields → Owned s (patchIn own id at fields .value .details)
+unfolding patchIn placed
+patch-owned s own id at fields h g =
     record {
       title = patched-own s (own .title) _ (h .title) (member-grown s (ascii "title") fields g);
       description = patched-own s (own .description) _ (h .description) (member-grown s (ascii "description") fields g);
     }
 
-override-owned : (s : List ℕ) (own : Details) (name : List ℕ) (patch : Json) → Owned s own → Grown s patch
-    → Owned s (overrideOf own name patch .value .details)
-unfolding overrideOf orWrong
-override-owned s own name patch h g = go (object patch) (object-grown s patch g)
+override-owned : (s : List ℕ) (own : Details) (at : ℕ) (name : List ℕ) (patch : Json) → Owned s own → Grown s patch
+    → Owned s (overrideOf own at name patch .value .details)
+unfolding overrideOf inside
+override-owned s own at name patch h g = go (object patch) (object-grown s patch g)
   where
     go : (o : Option Fields) → FieldsGrown s o
-        → Owned s (orWrong (record { id = dateTime name .value; excluded = false; details = own }) (patchIn own (dateTime name .value)) o .value .details)
+        → Owned s (inside (record { id = dateTime name .value; excluded = false; details = own }) (placeOf patch) (patchIn own (dateTime name .value) (placeOf patch)) o .value .details)
     go none f = h
-    go (some fields) f = patch-owned s own (dateTime name .value) fields h f
+    go (some fields) f = patch-owned s own (dateTime name .value) (placeOf patch) fields h f
 
 abbrev AllOwned : List ℕ → List Override → Type 0
 AllOwned s [] = Unit {0}
@@ -179,18 +179,18 @@ AllOwned s (o ∷ os) = Owned s (o .details) × AllOwned s os
 overrides-owned : (s : List ℕ) (own : Details) (fields : Fields) → Owned s own → AllGrown s fields → AllOwned s (overridesIn own fields .value)
 unfolding overridesIn
 overrides-owned s own noField h g = tt
-overrides-owned s own (field at name patch fields) h g = (override-owned s own name patch h (g .0), overrides-owned s own fields h (g .1))
+overrides-owned s own (field at name patch fields) h g = (override-owned s own at name patch h (g .0), overrides-owned s own fields h (g .1))
 
 read-owned : (s : List ℕ) (own : Details) (v : Json) → Owned s own → Grown s v → AllOwned s (readOverrides own v .value)
-unfolding readOverrides orWrong limited
+unfolding readOverrides inside limited
 read-owned s own v h g = go (object v) (object-grown s v g)
   where
-    go : (o : Option Fields) → FieldsGrown s o → AllOwned s (orWrong [] (λ (fields : Fields). limited 256 (overridesIn own fields)) o .value)
+    go : (o : Option Fields) → FieldsGrown s o → AllOwned s (inside [] (placeOf v) (λ (fields : Fields). limited 256 (placeOf v) (overridesIn own fields)) o .value)
     go none f = tt
     go (some fields) f = overrides-owned s own fields h f
 
-listed-owned : (s : List ℕ) (own : Details) (o : Option Json) → Owned s own → GrownIn s o → AllOwned s (optional [] (readOverrides own) o .value)
-unfolding optional
+listed-owned : (s : List ℕ) (own : Details) (o : Option Json) → Owned s own → GrownIn s o → AllOwned s (present [] (readOverrides own) o .value)
+unfolding present
 listed-owned s own none h g = tt
 listed-owned s own (some v) h g = read-owned s own v h g
 
@@ -202,15 +202,16 @@ module _ (s : List ℕ) where
     others : AllOwned s (e .overrides)
 
   event-owned : EventOwned (eventOf s)
-  unfolding eventOf orWrong textTree eventIn
+  unfolding eventOf eventFrom textTree eventIn
   event-owned = go (object (textTree s)) (tree-grown levels s (spaceAt s 0))
     where
-      go : (o : Option Fields) → FieldsGrown s o → EventOwned (orWrong nothing eventIn o .value)
+      go : (o : Option Fields) → FieldsGrown s o → EventOwned (eventFrom (placeOf (textTree s)) o)
       go none f = record { own = record { title = tt; description = tt }; others = tt }
       go (some fields) f =
+          let at = placeOf (textTree s) in
           record {
-            own = details-owned s fields f;
-            others = listed-owned s (detailsIn fields .value) _ (details-owned s fields f) (member-grown s (ascii "recurrenceOverrides") fields f);
+            own = details-owned s at fields f;
+            others = listed-owned s (detailsIn at fields .value) _ (details-owned s at fields f) (member-grown s (ascii "recurrenceOverrides") fields f);
           }
 
   patched-owned : (own : Details) (x : ℕ) (os : List Override) → Owned s own → AllOwned s os → Owned s (patchedBy own x (overrideAt os x))

@@ -8,10 +8,11 @@ use Rattle.event.specs.Types.{Text, Details}
 use Rattle.event.specs.Event.{eventOf}
 use Rattle.call_definitions.specs.Occurrence.{detailsAt}
 use Rattle.call_definitions.specs.Call.{textOf, titleOf, descriptionOf}
-use Rattle.demands.specs.Promises.{TablePromises, TextPromises, WeeksPromises, ReadingPromises, Promises}
-use Rattle.demands.proofs.Lowest.{lowest-one}
+use Rattle.demands.specs.Promises.{TablePromises, TextPromises, PlacePromises, WeeksPromises, ReadingPromises, Promises}
+use Rattle.demands.proofs.Given.{given-one}
 use Rattle.demands.proofs.TextAnswers.{accepted-none}
 use Rattle.demands.proofs.DemandOne.{table-answered, text-answered, part-answered}
+use Rattle.demands.proofs.Locating.{place-answered, place-accepted, place-none, table-same, text-same}
 use Rattle.demands.proofs.DemandTwo.{table-listed}
 use Rattle.demands.proofs.OwnBytes.{OwnIn, title-own, description-own}
 use Rattle.demands.proofs.DemandTwoTexts.{text-told, part-told}
@@ -64,6 +65,18 @@ description-promises : TextPromises descriptionOf (λ d. d .description)
 unfolding descriptionOf
 description-promises = text-promises (λ d. d .description) description-own
 
+place-promises : PlacePromises
+unfolding titleOf descriptionOf
+place-promises =
+    record {
+      answered = place-answered;
+      table = table-same;
+      title = λ s answer place g. text-same s answer place g (λ d. d .title);
+      description = λ s answer place g. text-same s answer place g (λ d. d .description);
+      accepted = place-accepted;
+      silent = λ s e answer place g. place-none s answer place g e;
+    }
+
 weeks-promises : WeeksPromises
 weeks-promises =
     record {
@@ -110,11 +123,12 @@ reading-promises =
 pub promises : Promises
 promises =
     record {
-      oneAnswer = lowest-one;
+      oneAnswer = given-one;
       accepted = accepted-none;
       table = table-promises;
       title = title-promises;
       description = description-promises;
+      place = place-promises;
       weeks = weeks-promises;
       reading = reading-promises;
     }

@@ -12,17 +12,18 @@ use lib.ListN.{length, getD}
 use mir.Syntax.{w64}
 use mir.Val.{SFits}
 use Rattle.signed.specs.Choose.{if_then_else_}
-use Rattle.fault.proofs.Laws.{lower-zero}
+use Rattle.fault.proofs.Laws.{all-none}
 use Rattle.zone.specs.Table.{validTable}
 use Rattle.zone.proofs.RangeLaws.{abs-fits}
 use Rattle.rule.specs.Gives.{endDay}
-use Rattle.json_tree.specs.Tree.{Json, Fields, textTree}
+use Rattle.json_tree.specs.Tree.{Json, Fields, placeOf, textTree}
 use Rattle.event.specs.Types.{Details, Override, Event}
 use Rattle.event.specs.Values.{object}
-use Rattle.event.specs.Reading.{orWrong, optional}
+use Rattle.event.specs.Reading.{optional, placed, present}
 use Rattle.event.specs.Properties.{noLength, readLength}
 use Rattle.event.specs.Overrides.{readOverrides}
-use Rattle.event.specs.Event.{detailsIn, noEvent, nothing, eventIn, objectFault, eventFault, eventOf}
+use Rattle.event.specs.Event.{detailsIn, eventIn, faultsIn, faultsOf, eventFrom, eventOf}
+use Rattle.event.proofs.Numbers.{accepted-faultless}
 use Rattle.property.proofs.Ranges.{Short, length-range}
 use Rattle.override_text.proofs.RangeLaws.{InRange, read-range}
 use Rattle.call_definitions.specs.Window.{since1970}
@@ -43,32 +44,25 @@ unfolding optional
 short-length none = omega arith
 short-length (some v) = length-range v
 
-overrides-ranged : (own : Details) → Short (own .length) → (o : Option Json) → optional [] (readOverrides own) o .fault ≡ 0 → (k : ℕ)
-    → k < length (optional [] (readOverrides own) o .value) → (d : Override) → InRange (getD (optional [] (readOverrides own) o .value) k d)
-unfolding optional
+overrides-ranged : (own : Details) → Short (own .length) → (o : Option Json) → present [] (readOverrides own) o .faults ≡ [] → (k : ℕ)
+    → k < length (present [] (readOverrides own) o .value) → (d : Override) → InRange (getD (present [] (readOverrides own) o .value) k d)
+unfolding present
 overrides-ranged own short none e k h d = absurd (omega arith)
 overrides-ranged own short (some v) e k h d = read-range own short v e k h d
 
-event-known : (fields : Fields) → eventIn fields .fault ≡ 0 → Known (eventIn fields .value)
-unfolding eventIn detailsIn
-event-known fields e =
-    let details = lower-zero _ _ (lower-zero _ _ (lower-zero _ _ (lower-zero _ _ e .1) .1) .1) .1 in
-    let overrides = lower-zero _ _ (lower-zero _ _ (lower-zero _ _ details .1) .1) .1 in
+event-known : (at : ℕ) (fields : Fields) → eventIn at fields .faults ≡ [] → Known (eventIn at fields .value)
+unfolding eventIn detailsIn placed
+event-known at fields e =
     let short = short-length _ in
-    record { short = short; ranged = overrides-ranged _ short _ (lower-zero _ _ overrides .0) }
-
-object-known : (o : Option Fields) → objectFault o ≡ 0 → Known (orWrong nothing eventIn o .value)
-unfolding objectFault orWrong
-object-known none e = absurd (omega (arith, e))
-object-known (some fields) e = go (noEvent fields) e
-  where
-    go : (c : Bool) → (if c then 5 else eventIn fields .fault) ≡ 0 → Known (eventIn fields .value)
-    go true p = absurd (omega (arith, p))
-    go false p = event-known fields p
+    record { short = short; ranged = overrides-ranged _ short _ (all-none _ e .1 .1 .1 .1 .1 .1 .1 .1 .0) }
 
 known : (s : List ℕ) → textFault s ≡ 0 → Known (eventOf s)
-unfolding eventFault eventOf
-known s h = object-known (object (textTree s)) (accepted-event s h)
+unfolding faultsOf faultsIn eventOf eventFrom
+known s h = go (object (textTree s)) (accepted-faultless s (accepted-event s h))
+  where
+    go : (o : Option Fields) → faultsIn (placeOf (textTree s)) o ≡ [] → Known (eventFrom (placeOf (textTree s)) o)
+    go none e = record { short = omega arith; ranged = λ k below d. absurd (omega arith) }
+    go (some fields) e = event-known (placeOf (textTree s)) fields e
 
 -- ---- an occurrence of it
 

@@ -22,42 +22,37 @@ use Rattle.sheet.proofs.RunLaws.{tab-length, tab-at, tab-map}
 use Rattle.sheet.proofs.Accepted.{accepted-is}
 use Rattle.sheet.proofs.ReadWritten.{read-written, same-sheet}
 use Rattle.sheet.proofs.FetchLaws.{number-below, summary-done, summary-none, fetch-done, fetch-none, room, run-done, run-none}
-use Rattle.demands.specs.Conditions.{Lowest}
+use Rattle.demands.specs.Conditions.{Given}
 use Rattle.demands.specs.Reading.{sheetConditions, recordConditions, ReadAnswered, RecordAnswered, Slices, rowIn, past, lengths, RunAnswered, SameReadings, NoRecords}
-use Rattle.demands.proofs.Lowest.{lowestOf, Rising, lowest-of}
-use Rattle.demands.proofs.TextAnswers.{lowest-join}
+use Rattle.demands.proofs.Given.{givenBy, given-by, Refusals, given-join}
 
 -- ---- the lowest of 34 to 41
 
 module _ (s : List ℕ) where
-  sheet-rises : Rising 0 (sheetConditions s)
+  sheet-refusals : Refusals (sheetConditions s)
   unfolding sheetConditions
-  sheet-rises = (omega arith, (omega arith, (omega arith, (omega arith, (omega arith, (omega arith, (omega arith, tt)))))))
+  sheet-refusals = (refl, (refl, (refl, (refl, (refl, (refl, (refl, tt)))))))
 
-  sheet-lowest : lowestOf (sheetConditions s) ≡ faultOf s
-  unfolding sheetConditions lowestOf faultOf faultInRows
-  sheet-lowest = refl
+  sheet-given : givenBy (sheetConditions s) ≡ faultOf s
+  unfolding sheetConditions givenBy faultOf faultInRows
+  sheet-given = refl
 
-  pub sheet-judged : Lowest (sheetConditions s) (faultOf s)
-  sheet-judged = subst (Lowest (sheetConditions s)) sheet-lowest (lowest-of 0 (sheetConditions s) sheet-rises)
+  pub sheet-judged : Given (sheetConditions s) (faultOf s)
+  sheet-judged = subst (Given (sheetConditions s)) sheet-given (given-by (sheetConditions s))
 
   module _ (number : ℕ) where
-    record-rises : Rising 0 (recordConditions s number)
-    unfolding recordConditions sheetConditions
-    record-rises = (omega arith, (omega arith, (omega arith, (omega arith, (omega arith, (omega arith, (omega arith, (omega arith, tt))))))))
-
     turned : (t : Bool) (a b : ℕ) → (if t then a else b) ≡ (if not t then b else a)
     turned true a b = refl
     turned false a b = refl
 
-    record-lowest : lowestOf (recordConditions s number) ≡ fetchFault s number
-    unfolding recordConditions lowestOf fetchFault
-    record-lowest =
-        lowest-join 0 (sheetConditions s) (record { number = 41; holds = leb (countOf s) number } ∷ []) sheet-rises
-        ∙ (rw sheet-lowest (turned (eqb (faultOf s) 0) _ (faultOf s)))
+    record-given : givenBy (recordConditions s number) ≡ fetchFault s number
+    unfolding recordConditions givenBy fetchFault
+    record-given =
+        given-join (sheetConditions s) (record { number = 41; holds = leb (countOf s) number } ∷ []) sheet-refusals
+        ∙ (rw sheet-given (turned (eqb (faultOf s) 0) _ (faultOf s)))
 
-    pub record-judged : Lowest (recordConditions s number) (fetchFault s number)
-    record-judged = subst (Lowest (recordConditions s number)) record-lowest (lowest-of 0 (recordConditions s number) record-rises)
+    pub record-judged : Given (recordConditions s number) (fetchFault s number)
+    record-judged = subst (Given (recordConditions s number)) record-given (given-by (recordConditions s number))
 
 -- ---- the records of a sheet
 

@@ -21,9 +21,9 @@ use Rattle.weeks.specs.Weeks.{weeksIn, isReported, isShut, isMissing, uploadsIn
 use Rattle.weeks.specs.Replay.{refusal, Replay, sorted, refused, replayOf, Replays}
 use Rattle.weeks.proofs.Allowed.{Allowed, refusal-none}
 use Rattle.weeks.proofs.Theorems.{one-class, tallies-sum, whole-weeks, uploads-sum}
-use Rattle.demands.specs.Conditions.{Lowest}
+use Rattle.demands.specs.Conditions.{Given}
 use Rattle.demands.specs.Weeks.{weeksConditions, WeeksAnswered, WeeksSorted, SameReplays, ShutsNothing}
-use Rattle.demands.proofs.Lowest.{lowestOf, Rising, lowest-of}
+use Rattle.demands.proofs.Given.{givenBy, given-by}
 
 -- ---- the place of a week, by its class
 
@@ -51,13 +51,9 @@ module _ (log : List ℤ) (sheet : List ℕ) (from to : ℤ) (before : List ℤ)
   abbrev given : ℕ
   given = refusal log sheet from to (length before)
 
-  weeks-rise : Rising 0 (weeksConditions log sheet from to (length before))
-  unfolding weeksConditions
-  weeks-rise = (omega arith, (omega arith, (omega arith, (omega arith, tt))))
-
-  weeks-lowest : lowestOf (weeksConditions log sheet from to (length before)) ≡ given
-  unfolding weeksConditions lowestOf refusal
-  weeks-lowest = refl
+  weeks-given : givenBy (weeksConditions log sheet from to (length before)) ≡ given
+  unfolding weeksConditions givenBy refusal
+  weeks-given = refl
 
   replay-refused : (given ≡ 0 → ⊥) → replayOf log sheet from to before ≡ refused given before
   unfolding replayOf
@@ -85,7 +81,7 @@ module _ (log : List ℤ) (sheet : List ℕ) (from to : ℤ) (before : List ℤ)
     unfolding refused
     weeks-answered =
         record {
-          one = subst (Lowest (weeksConditions log sheet from to (length before))) (weeks-lowest ∙ sym is-given) (lowest-of 0 (weeksConditions log sheet from to (length before)) weeks-rise);
+          one = subst (Given (weeksConditions log sheet from to (length before))) (weeks-given ∙ sym is-given) (given-by (weeksConditions log sheet from to (length before)));
           refusedTallies =
               λ h. (
                 g .reported-is ∙ ap (λ (r : Replay). r .reported) (is-refused h),

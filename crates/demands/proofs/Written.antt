@@ -28,7 +28,7 @@ use Rattle.call_definitions.specs.Results.{Gives}
 use Rattle.call_definitions.proofs.DemandTwo.{table-written}
 use Rattle.demands.specs.Conditions.{applies, tableConditions}
 use Rattle.demands.specs.Reading.{ReadBack}
-use Rattle.demands.proofs.DemandOne.{table-answered}
+use Rattle.demands.proofs.DemandOne.{table-none}
 use Rattle.demands.proofs.DemandTwo.{table-valid, window-valid, room, accepted-outcome}
 
 -- ---- the sheet of an accepted event in a window
@@ -71,7 +71,7 @@ module _ (zones : ZoneTable) (s : List ℕ) (from to : ℤ) (buffer : List ℕ) 
       sym is ∙ done)
 
   none : (n : ℕ) → applies n (tableConditions zones s from to buffer) ≡ false
-  none = table-answered zones s from to buffer answer size after g .one .done done
+  none = table-none zones s from to buffer answer size after g done
 
   outcome : expandText zones s from to buffer ≡ record { answer = 0; length = length sheet; buffer = sets buffer 0 sheet }
   outcome =

@@ -1,7 +1,7 @@
 -- 01, "Answer numbers": the numbers of the table, each with its condition.
-use Prim.Native.Nat.{ℕ, _+_, _<_}
+use Prim.Native.Nat.{ℕ, _+_}
 use mathlib.Core.Bool.{Bool, true, false, not, _&&_, _||_}
-use mathlib.Core.List.{List, [], _∷_, _++_}
+use mathlib.Core.List.{List, [], _∷_, _++_, map}
 use mathlib.Core.Option.{Option, none, some}
 use mathlib.Core.Path.{_≡_}
 use lib.Dec.{eqb, ltb}
@@ -13,13 +13,14 @@ use Rattle.json_text.specs.declared.Read.the-variants.{To, Bad, Deep}
 use Rattle.json_value.specs.Values.{valueAt, endAt, textAt, levels}
 use Rattle.json.specs.Answer.{limit}
 use Rattle.json.specs.Surrogates.{pairsAt}
-use Rattle.json_tree.specs.Tree.{Fields, textTree}
+use Rattle.json_tree.specs.Tree.{textTree}
 use Rattle.json_tree.specs.Faults.{faulty}
+use Rattle.fault.specs.Fault.{Fault, isWrong}
 use Rattle.zone.specs.Table.{validTable}
 use Rattle.rule.specs.Lists.{any}
 use Rattle.event.specs.Types.{Event}
 use Rattle.event.specs.Values.{object}
-use Rattle.event.specs.Event.{noEvent, eventIn, eventOf}
+use Rattle.event.specs.Event.{faultsOf, isNoEvent, eventOf}
 use Rattle.call_definitions.specs.Window.{validWindow}
 use Rattle.call_definitions.specs.Occurrence.{isOccurrence}
 use Rattle.call_definitions.specs.Utc.{ZoneTable}
@@ -35,11 +36,34 @@ pub record Numbered : Type 0 where
 unfoldable pub applies : ℕ → List Numbered → Bool
 applies n l = any (λ c. eqb (c .number) n && c .holds) l
 
--- 01: "The lowest number that applies is given", and 0, "done", where none does.
-pub record Lowest (l : List Numbered) (answer : ℕ) : Type 0 where
-  pub done : answer ≡ 0 → (n : ℕ) → applies n l ≡ false
-  pub given : (answer ≡ 0 → ⊥) → applies answer l ≡ true
-  pub lowest : (n : ℕ) → n < answer → applies n l ≡ false
+-- 01: "The lowest number that applies is given", and 0, "done", where none does. The conditions stand in the order of the numbers, 20 to 26 in 6's
+-- place: the first that holds is given.
+pub data Given : List Numbered → ℕ → Type 0 where
+  nothing : Given [] 0
+  here : {c : Numbered} {l : List Numbered} → c .holds ≡ true → Given (c ∷ l) (c .number)
+  later : {c : Numbered} {l : List Numbered} {n : ℕ} → c .holds ≡ false → Given l n → Given (c ∷ l) n
+
+-- ---- 7 to 9 and 20 to 26, of the faults that the values read have, each a number and a place
+
+-- 02, 4: "The earliest place decides, then the lowest number". Is this fault one of 20 to 26 that stands before p, or there with a number below n?
+unfoldable pub earlier : ℕ → ℕ → Fault → Bool
+earlier n p f = isWrong (f .number) && (ltb (f .place) p || (eqb (f .place) p && ltb (f .number) n))
+
+abbrev pub isAt : ℕ → ℕ → Fault → Bool
+isAt n p f = eqb (f .number) n && eqb (f .place) p
+
+-- 20 to 26: some value has the fault n, and none of 20 to 26 stands earlier.
+unfoldable pub isFirst : List Fault → ℕ → Bool
+isFirst l n = any (λ (f : Fault). eqb (f .number) n && not (any (earlier n (f .place)) l)) l
+
+-- 7 to 9: something that is read has the fault n.
+unfoldable pub has : List Fault → ℕ → Bool
+has l n = any (λ (f : Fault). eqb (f .number) n) l
+
+unfoldable pub faultConditions : List Fault → List Numbered
+faultConditions l =
+    map (λ (n : ℕ). record { number = n; holds = isFirst l n }) (20 ∷ 21 ∷ 22 ∷ 23 ∷ 24 ∷ 25 ∷ 26 ∷ [])
+    ++ map (λ (n : ℕ). record { number = n; holds = has l n }) (7 ∷ 8 ∷ 9 ∷ [])
 
 -- ---- 1 to 9, of a text
 
@@ -63,17 +87,8 @@ isJson s = isRead (next (valueAt (levels + length s) s (spaceAt s 0)) (λ j. end
 unfoldable pub isUnpaired : List ℕ → Bool
 isUnpaired s = not (isRead (pairsAt (length s) s 0))
 
--- "the value is no object; `@type` is not `Event`; `uid`, `updated` or `start` is missing"
-unfoldable pub isNoEvent : Option Fields → Bool
-isNoEvent none = true
-isNoEvent (some fields) = noEvent fields
-
--- The lowest of 6 to 9 that the properties read have, each judged by its own definition, or 0.
-unfoldable pub readFault : Option Fields → ℕ
-readFault none = 0
-readFault (some fields) = eventIn fields .fault
-
--- 01, "Answer numbers", 1 to 9: what each is given for stands in the table there.
+-- 01, "Answer numbers", 1 to 9: what each is given for stands in the table there. 5: "the value is no object; `@type` is not `Event`; `uid`, `updated`
+-- or `start` is missing".
 unfoldable pub textConditions : List ℕ → List Numbered
 textConditions s =
     record { number = 1; holds = ltb limit (length s) }
@@ -81,11 +96,7 @@ textConditions s =
     ∷ record { number = 3; holds = not (isJson s) || isUnpaired s }
     ∷ record { number = 4; holds = faulty (textTree s) }
     ∷ record { number = 5; holds = isNoEvent (object (textTree s)) }
-    ∷ record { number = 6; holds = eqb (readFault (object (textTree s))) 6 }
-    ∷ record { number = 7; holds = eqb (readFault (object (textTree s))) 7 }
-    ∷ record { number = 8; holds = eqb (readFault (object (textTree s))) 8 }
-    ∷ record { number = 9; holds = eqb (readFault (object (textTree s))) 9 }
-    ∷ []
+    ∷ faultConditions (faultsOf s)
 
 -- ---- 10 to 13, of the table's call
 

@@ -4,6 +4,7 @@
 --     Gives (expandText ..)     smocurant_expand, smocurant_expand_entries
 --     Shows (titleOf ..)        smocurant_title                    Shows (descriptionOf ..)   smocurant_description
 --     Tells (titleOf ..)        texts::calls::title                Tells (descriptionOf ..)   texts::calls::description
+--     Locates (locateText ..)   smocurant_locate
 --     Replays (replayOf ..)     smocurant_weeks
 --     Summarises (summaryOf ..) smocurant_read                     Fetches (fetchOf ..)       smocurant_record
 --     FetchesRun (runOf ..)     smocurant_records
@@ -32,11 +33,11 @@ use Rattle.event.specs.Event.{eventOf}
 use Rattle.call_definitions.specs.Agree.{Agree, Accepted}
 use Rattle.call_definitions.specs.Answer.{isSecret}
 use Rattle.call_definitions.specs.Utc.{ZoneTable}
-use Rattle.call_definitions.specs.Call.{Shown, textFault, expandText, titleOf, descriptionOf}
-use Rattle.call_definitions.specs.Results.{Gives, Shows, Tells}
-use Rattle.demands.specs.Conditions.{Numbered, Lowest, applies, textConditions}
+use Rattle.call_definitions.specs.Call.{Shown, textFault, locateText, expandText, titleOf, descriptionOf}
+use Rattle.call_definitions.specs.Results.{Gives, Locates, Shows, Tells}
+use Rattle.demands.specs.Conditions.{Numbered, Given, applies, textConditions}
 use Rattle.demands.specs.Sheet.{HasSheet}
-use Rattle.demands.specs.One.{TableAnswered, TextAnswered, PartAnswered}
+use Rattle.demands.specs.One.{TableAnswered, PlaceAnswered, TextAnswered, PartAnswered}
 use Rattle.demands.specs.Two.{Listed, Told, PartTold}
 use Rattle.demands.specs.Three.{SameTable, PrivateTable, SameText, SamePart}
 use Rattle.demands.specs.Weeks.{WeeksAnswered, WeeksSorted, SameReplays, ShutsNothing}
@@ -93,6 +94,23 @@ pub record TextPromises (call : List ℕ → ℤ → Shown) (which : Details →
   -- 3. "Every request for words about either is answered 14." By demand 1 no words come out.
   pub secret : (s : List ℕ) → Accepted Secret s → (date : ℤ) (answer start size : ℕ) → Shows (call s date) answer start size → answer ≡ 14
   pub secretPart : (s : List ℕ) → Accepted Secret s → (date : ℤ) (answer : ℕ) (part : List ℕ) → Tells (call s date) s answer part → answer ≡ 14
+
+-- The call for the place of a fault. Request 4: "only a call of the uploader's own, on one text, gives the place."
+pub record PlacePromises : Type 0 where
+  -- 1. ".. a call ends with one answer": the number, and the place of a fault of the text that has it, with none of 20 to 26 before it.
+  pub answered : (s : List ℕ) (answer place : ℕ) → Locates (locateText s) answer place → PlaceAnswered s answer place
+  -- The other calls on the text answer that number, whatever else they are given.
+  pub table : (s : List ℕ) (answer place : ℕ) → Locates (locateText s) answer place → (answer ≡ 0 → ⊥)
+      → (zones : ZoneTable) (from to : ℤ) (buffer : List ℕ) (answer′ size : ℕ) (after : List ℕ)
+      → Gives (expandText zones s from to buffer) answer′ size after → answer′ ≡ answer
+  pub title : (s : List ℕ) (answer place : ℕ) → Locates (locateText s) answer place → (answer ≡ 0 → ⊥)
+      → (date : ℤ) (answer′ start size : ℕ) → Shows (titleOf s date) answer′ start size → answer′ ≡ answer
+  pub description : (s : List ℕ) (answer place : ℕ) → Locates (locateText s) answer place → (answer ≡ 0 → ⊥)
+      → (date : ℤ) (answer′ start size : ℕ) → Shows (descriptionOf s date) answer′ start size → answer′ ≡ answer
+  -- 0 is given exactly for an accepted event.
+  pub accepted : (s : List ℕ) (answer place : ℕ) → Locates (locateText s) answer place → (answer ≡ 0) ↔ (textFault s ≡ 0)
+  -- 3. Request 4: "Demand 3 is unchanged". Of accepted events, private and secret ones too, the call gives nothing but 0.
+  pub silent : (s : List ℕ) → textFault s ≡ 0 → (answer place : ℕ) → Locates (locateText s) answer place → (answer ≡ 0) × (place ≡ 0)
 
 -- The call for the weeks of an upload log, given a sheet: that of an event is the first `size` bytes of the buffer, `take size after`.
 pub record WeeksPromises : Type 0 where
@@ -154,12 +172,13 @@ pub record ReadingPromises : Type 0 where
 
 -- All that is promised.
 pub record Promises : Type 0 where
-  -- 1. "one answer": two numbers that both are the lowest are equal.
-  pub oneAnswer : (l : List Numbered) (a b : ℕ) → Lowest l a → Lowest l b → a ≡ b
+  -- 1. "one answer": two numbers that both are given are equal.
+  pub oneAnswer : (l : List Numbered) (a b : ℕ) → Given l a → Given l b → a ≡ b
   -- 01: "An event is accepted when none of 1 to 9 applies to its text."
   pub accepted : (s : List ℕ) → (textFault s ≡ 0) ↔ ((n : ℕ) → applies n (textConditions s) ≡ false)
   pub table : TablePromises
   pub title : TextPromises titleOf (λ d. d .title)
   pub description : TextPromises descriptionOf (λ d. d .description)
+  pub place : PlacePromises
   pub weeks : WeeksPromises
   pub reading : ReadingPromises

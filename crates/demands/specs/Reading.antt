@@ -13,7 +13,7 @@ use Rattle.sheet.specs.Fetching.{summaryOf, fetchOf, runOf, Summarises, Fetches
 use Rattle.event.specs.Types.{Event}
 use Rattle.call_definitions.specs.Utc.{ZoneTable}
 use Rattle.call_definitions.specs.Bytes.{rowsIn, writtenVersion}
-use Rattle.demands.specs.Conditions.{Numbered, Lowest}
+use Rattle.demands.specs.Conditions.{Numbered, Given}
 
 -- ---- demand 1
 
@@ -36,14 +36,14 @@ recordConditions s number = sheetConditions s ++ (record { number = 41; holds = 
 
 -- smocurant_read
 pub record ReadAnswered (sheet : List ℕ) (answer version count : ℕ) : Type 0 where
-  pub one : Lowest (sheetConditions sheet) answer
+  pub one : Given (sheetConditions sheet) answer
   pub refusedNumbers : (answer ≡ 0 → ⊥) → (version ≡ 0) × (count ≡ 0)
   pub versionIs : answer ≡ 0 → version ≡ versionOf sheet
   pub countIs : answer ≡ 0 → count ≡ length (rowsOf sheet)
 
 -- smocurant_record: "hands out record by number"
 pub record RecordAnswered (sheet : List ℕ) (number answer : ℕ) (id start end : ℤ) (marks : ℕ) : Type 0 where
-  pub one : Lowest (recordConditions sheet number) answer
+  pub one : Given (recordConditions sheet number) answer
   pub refusedNumbers : (answer ≡ 0 → ⊥) → (id ≡ pos 0) × ((start ≡ pos 0) × ((end ≡ pos 0) × (marks ≡ 0)))
   pub there : answer ≡ 0 → number < length (rowsOf sheet)
   pub recordIs : (d : Row) → answer ≡ 0 → record { id = id; start = start; end = end; marks = marks } ≡ getD (rowsOf sheet) number d
@@ -69,7 +69,7 @@ abbrev pub lengths : Slices → List ℕ
 lengths l = length (l .ids) ∷ length (l .starts) ∷ length (l .ends) ∷ length (l .marks) ∷ []
 
 pub record RunAnswered (sheet : List ℕ) (first : ℕ) (before : Slices) (answer count : ℕ) (after : Slices) : Type 0 where
-  pub one : Lowest (recordConditions sheet first) answer
+  pub one : Given (recordConditions sheet first) answer
   pub refusedCount : (answer ≡ 0 → ⊥) → count ≡ 0
   pub refusedSlices : (answer ≡ 0 → ⊥) → after ≡ before
   -- as many as each slice has room for, and as there are from that number on

@@ -16,7 +16,7 @@ use Rattle.sheet.specs.Reading.{faultOf}
 use Rattle.weeks.specs.Weeks.{weeksIn, isReported, isShut, isMissing, count, uploadsIn}
 use Rattle.weeks.specs.Replay.{ordered, isRange, replayOf, Replays}
 use Rattle.weeks.specs.Sums.{sum, inRange}
-use Rattle.demands.specs.Conditions.{Numbered, Lowest}
+use Rattle.demands.specs.Conditions.{Numbered, Given}
 
 -- ---- demand 1
 
@@ -32,7 +32,7 @@ weeksConditions log sheet from to room =
 
 -- "a refusal changes nothing", "refused tallies are 0"
 pub record WeeksAnswered (log : List ℤ) (sheet : List ℕ) (from to : ℤ) (before : List ℤ) (answer reported shut missing : ℕ) (after : List ℤ) : Type 0 where
-  pub one : Lowest (weeksConditions log sheet from to (length before)) answer
+  pub one : Given (weeksConditions log sheet from to (length before)) answer
   pub refusedTallies : (answer ≡ 0 → ⊥) → (reported ≡ 0) × ((shut ≡ 0) × (missing ≡ 0))
   pub refusedPlaces : (answer ≡ 0 → ⊥) → after ≡ before
 

@@ -34,7 +34,7 @@ limit = 366 * 86400
 -- Without a fraction.
 unfoldable pub wholeOf : List ℕ → Span
 wholeOf s =
-    if ltb limit (86400 * daysOf s + secondsOf 0x53 s) then Fault 6 else
+    if ltb limit (86400 * daysOf s + secondsOf 0x53 s) then Fault 22 else
     Of (daysOf s) (secondsOf 0x53 s)
 
 -- With a fraction, which lies between the "." and the last byte, "S". A legal fraction is more than nothing, so that with it 366 whole days
@@ -42,12 +42,12 @@ wholeOf s =
 unfoldable pub fractionOf : List ℕ → Span
 fractionOf s =
     if legalFraction (take (length s - 1 - (pointAt s + 1)) (drop (pointAt s + 1) s)) then
-    (if leb limit (86400 * daysOf s + secondsOf 0x2E s) then Fault 6 else Fault 8)
-    else Fault 6
+    (if leb limit (86400 * daysOf s + secondsOf 0x2E s) then Fault 22 else Fault 8)
+    else Fault 22
 
 -- A duration: its days, and its seconds apart from them, since a day of the zone need not have 24 hours; or the fault.
 unfoldable pub lengthOf : List ℕ → Span
 lengthOf s =
     if isDuration s then
     (if ltb (pointAt s) (length s) then fractionOf s else wholeOf s)
-    else Fault 6
+    else Fault 22

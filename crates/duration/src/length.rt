@@ -52,7 +52,7 @@ fn whole(raw: &[u8]) -> Span
     let days = days(raw);
     let seconds = seconds(raw, 0x53);
     if LIMIT < 86400 * days + seconds {
-        return Span::Fault(6);
+        return Span::Fault(22);
     }
     Span::Of(days, seconds)
 }
@@ -64,15 +64,15 @@ fn fraction(raw: &[u8], at: usize) -> Span
     let end = raw.len() - 1;
     let from = at + 1;
     if end < from {
-        return Span::Fault(6);
+        return Span::Fault(22);
     }
     if !legal_fraction(&raw[from..end]) {
-        return Span::Fault(6);
+        return Span::Fault(22);
     }
     let days = days(raw);
     let seconds = seconds(raw, 0x2E);
     if LIMIT <= 86400 * days + seconds {
-        return Span::Fault(6);
+        return Span::Fault(22);
     }
     Span::Fault(8)
 }
@@ -81,7 +81,7 @@ pub fn length(raw: &[u8]) -> Span
     ensures { λ r. ⌜ r ≡ lengthOf (now (raw .entry)) ⌝ }
 {
     if !is_duration(raw) {
-        return Span::Fault(6);
+        return Span::Fault(22);
     }
     let at = point(raw);
     if at < raw.len() {

@@ -1,2 +1,5 @@
+pub mod Begins
 pub mod Limits
+pub mod Numbers
+pub mod ValueNumbers
 pub mod Worked

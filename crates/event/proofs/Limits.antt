@@ -9,53 +9,49 @@ use lib.Dec.{ltb}
 use lib.ListN.{length}
 use borrow.Author.Tests.{ltb-false}
 use Rattle.signed.specs.Choose.{if_then_else_}
-use Rattle.fault.proofs.Laws.{lower-zero}
-use Rattle.json_tree.specs.Tree.{Json, Fields, textTree}
+use Rattle.fault.specs.Fault.{faultsAt}
+use Rattle.fault.proofs.Laws.{append-none, all-none, fault-some}
+use Rattle.json_tree.specs.Tree.{Json, Fields, placeOf, textTree}
 use Rattle.event.specs.Types.{Details}
 use Rattle.event.specs.Values.{object}
-use Rattle.event.specs.Reading.{orWrong, optional, atMost, limited}
+use Rattle.event.specs.Reading.{inside, present, limited}
 use Rattle.event.specs.Overrides.{overridesIn, readOverrides}
-use Rattle.event.specs.Event.{noEvent, nothing, eventIn, objectFault, eventFault, eventOf}
+use Rattle.event.specs.Event.{eventIn, faultsIn, faultsOf, eventFrom, eventFault, eventOf}
+use Rattle.event.proofs.Numbers.{accepted-faultless}
 
-at-most : (most n : ℕ) → _≡_ {A = ℕ} (if ltb most n then 9 else 0) 0 → n ≤ most
-at-most most n e = go (ltb most n) refl e
+at-most : (most n place : ℕ) → (if ltb most n then faultsAt 9 place else []) ≡ [] → n ≤ most
+at-most most n place e = go (ltb most n) refl e
   where
-    go : (c : Bool) → ltb most n ≡ c → _≡_ {A = ℕ} (if c then 9 else 0) 0 → n ≤ most
-    go true p q = absurd (omega (arith, q))
+    go : (c : Bool) → ltb most n ≡ c → (if c then faultsAt 9 place else []) ≡ [] → n ≤ most
+    go true p q = absurd (fault-some 9 place refl q)
     go false p q = ltb-false most n p
 
-pub read-most : (own : Details) (v : Json) → readOverrides own v .fault ≡ 0 → length (readOverrides own v .value) ≤ 256
-unfolding readOverrides limited orWrong atMost
+pub read-most : (own : Details) (v : Json) → readOverrides own v .faults ≡ [] → length (readOverrides own v .value) ≤ 256
+unfolding readOverrides limited inside
 read-most own v = go (object v)
   where
-    go : (o : Option Fields) → orWrong [] (λ (fields : Fields). limited 256 (overridesIn own fields)) o .fault ≡ 0
-        → length (orWrong [] (λ (fields : Fields). limited 256 (overridesIn own fields)) o .value) ≤ 256
-    go none e = absurd (omega (arith, e))
-    go (some fields) e = at-most 256 _ (lower-zero _ _ e .1)
+    go : (o : Option Fields) → inside [] (placeOf v) (λ (fields : Fields). limited 256 (placeOf v) (overridesIn own fields)) o .faults ≡ []
+        → length (inside [] (placeOf v) (λ (fields : Fields). limited 256 (placeOf v) (overridesIn own fields)) o .value) ≤ 256
+    go none e = absurd (fault-some 20 (placeOf v) refl e)
+    go (some fields) e =
+        let all = overridesIn own fields in
+        let n = length (all .value) in
+        at-most 256 n (placeOf v) (append-none (all .faults) (if ltb 256 n then faultsAt 9 (placeOf v) else []) e .1)
 
--- ---- of the event of a text
+present-most : (own : Details) (o : Option Json) → present [] (readOverrides own) o .faults ≡ [] → length (present [] (readOverrides own) o .value) ≤ 256
+unfolding present
+present-most own none e = omega arith
+present-most own (some v) e = read-most own v e
 
-optional-most : (own : Details) (o : Option Json) → optional [] (readOverrides own) o .fault ≡ 0 → length (optional [] (readOverrides own) o .value) ≤ 256
-unfolding optional
-optional-most own none e = omega arith
-optional-most own (some v) e = read-most own v e
-
-event-most : (fields : Fields) → eventIn fields .fault ≡ 0 → length (eventIn fields .value .overrides) ≤ 256
+event-most : (at : ℕ) (fields : Fields) → eventIn at fields .faults ≡ [] → length (eventIn at fields .value .overrides) ≤ 256
 unfolding eventIn
-event-most fields e =
-    let details = lower-zero _ _ (lower-zero _ _ (lower-zero _ _ (lower-zero _ _ e .1) .1) .1) .1 in
-    let overrides = lower-zero _ _ (lower-zero _ _ (lower-zero _ _ details .1) .1) .1 in
-    optional-most _ _ (lower-zero _ _ overrides .0)
-
-object-most : (o : Option Fields) → objectFault o ≡ 0 → length (orWrong nothing eventIn o .value .overrides) ≤ 256
-unfolding objectFault orWrong
-object-most none e = absurd (omega (arith, e))
-object-most (some fields) e = go (noEvent fields) e
-  where
-    go : (c : Bool) → (if c then 5 else eventIn fields .fault) ≡ 0 → length (eventIn fields .value .overrides) ≤ 256
-    go true p = absurd (omega (arith, p))
-    go false p = event-most fields p
+event-most at fields e =
+    present-most _ _ (all-none _ e .1 .1 .1 .1 .1 .1 .1 .1 .0)
 
 pub most-overrides : (s : List ℕ) → eventFault s ≡ 0 → length (eventOf s .overrides) ≤ 256
-unfolding eventFault eventOf
-most-overrides s e = object-most (object (textTree s)) e
+unfolding faultsOf eventOf faultsIn eventFrom
+most-overrides s e = go (object (textTree s)) (accepted-faultless s e)
+  where
+    go : (o : Option Fields) → faultsIn (placeOf (textTree s)) o ≡ [] → length (eventFrom (placeOf (textTree s)) o .overrides) ≤ 256
+    go none z = omega arith
+    go (some fields) z = event-most (placeOf (textTree s)) fields z

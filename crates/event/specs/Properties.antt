@@ -18,22 +18,22 @@ use Rattle.keywords.specs.declared.Privacy.{Privacy}
 use Rattle.keywords.specs.declared.Privacy.the-variants.{Private}
 use Rattle.keywords.specs.Marks.{freeBusyOf, privacyOf}
 use Rattle.event.specs.Types.{Text, Length}
-use Rattle.event.specs.Values.{isNull, boolean, string, word}
+use Rattle.event.specs.Values.{isNull, boolean, string, ofWord}
 use Rattle.event.specs.Reading.{Reading, right, wrong, orWrong}
 
--- "`uid`: at least one byte."
+-- "`uid`: at least one byte." 02, 4: one without is 26, "anything else".
 unfoldable pub filled : List ℕ → Reading (List ℕ)
-filled [] = wrong [] 6
+filled [] = wrong [] 26
 filled (b ∷ raw) = right (b ∷ raw)
 
 unfoldable pub readUid : Json → Reading (List ℕ)
-readUid v = orWrong [] filled (word v)
+readUid v = ofWord [] filled v
 
--- "`updated` is a UTCDateTime"
+-- "`updated` is a UTCDateTime". 02, 4: "bad date or time 21".
 unfoldable pub readUpdated : Json → Reading Bool
-readUpdated v = orWrong true (λ raw. if isUtc raw then right true else wrong true 6) (word v)
+readUpdated v = ofWord true (λ raw. if isUtc raw then right true else wrong true 21) v
 
--- LocalDateTime, of a year to the given last.
+-- LocalDateTime, of a year to the given last: 21, or 8 where it has a legal fraction.
 abbrev pub fromLocal : DateTime → Reading ℕ
 fromLocal (local.At x) = right x
 fromLocal (local.Fault n) = wrong 0 n
@@ -43,20 +43,20 @@ unfoldable pub dateTime : List ℕ → Reading ℕ
 dateTime raw = fromLocal (localOf 9998 raw)
 
 unfoldable pub readStart : Json → Reading ℕ
-readStart v = orWrong 0 dateTime (word v)
+readStart v = ofWord 0 dateTime v
 
 unfoldable pub readUntil : Json → Reading ℕ
-readUntil v = orWrong 0 (λ raw. fromLocal (localOf 9999 raw)) (word v)
+readUntil v = ofWord 0 (λ raw. fromLocal (localOf 9999 raw)) v
 
 -- "`timeZone`: absent or null is floating; else at least one byte."
 unfoldable pub named : List ℕ → Reading (Option (List ℕ))
-named [] = wrong none 6
+named [] = wrong none 26
 named (b ∷ raw) = right (some (b ∷ raw))
 
 unfoldable pub readZone : Json → Reading (Option (List ℕ))
-readZone v = if isNull v then right none else orWrong none named (word v)
+readZone v = if isNull v then right none else ofWord none named v
 
--- "`duration`: .. default zero"
+-- "`duration`: .. default zero". 02, 4: "bad duration 22", or 8 where it has a legal fraction.
 abbrev pub noLength : Length
 noLength = record { days = 0; seconds = 0 }
 
@@ -65,25 +65,25 @@ fromSpan (span.Of d s) = right (record { days = d; seconds = s })
 fromSpan (span.Fault n) = wrong noLength n
 
 unfoldable pub readLength : Json → Reading Length
-readLength v = orWrong noLength (λ raw. fromSpan (lengthOf raw)) (word v)
+readLength v = ofWord noLength (λ raw. fromSpan (lengthOf raw)) v
 
--- "`freeBusyStatus`: `free` or `busy`"
+-- "`freeBusyStatus`: `free` or `busy`". 02, 4: "unknown word in a closed list .. 24".
 abbrev pub fromStatus : FreeBusy → Reading Bool
 fromStatus status.Free = right false
 fromStatus status.Busy = right true
 fromStatus (status.Fault n) = wrong true n
 
 unfoldable pub readBusy : Json → Reading Bool
-readBusy v = orWrong true (λ raw. fromStatus (freeBusyOf raw)) (word v)
+readBusy v = ofWord true (λ raw. fromStatus (freeBusyOf raw)) v
 
 -- "`showWithoutTime`: boolean"
 unfoldable pub readBoolean : Json → Reading Bool
-readBoolean v = orWrong false right (boolean v)
+readBoolean v = orWrong false 20 right (boolean v)
 
 -- "`privacy`: `public` (default), `private`, `secret`; any other string counts as private."
 unfoldable pub readPrivacy : Json → Reading Privacy
-readPrivacy v = orWrong Private (λ raw. right (privacyOf raw)) (word v)
+readPrivacy v = ofWord Private (λ raw. right (privacyOf raw)) v
 
 -- "`title`, `description`: strings." They may have escapes.
 unfoldable pub readText : Json → Reading (Option Text)
-readText v = orWrong none (λ t. right (some t)) (string v)
+readText v = orWrong none 20 (λ t. right (some t)) (string v)

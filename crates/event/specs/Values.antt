@@ -7,6 +7,7 @@ use lib.IntN.{ℤ, pos, negsuc}
 use Rattle.signed.specs.Choose.{if_then_else_}
 use Rattle.json_walk.specs.Strings.{same, slashed}
 use Rattle.event.specs.Types.{Text}
+use Rattle.event.specs.Reading.{Reading, wrong, orWrong}
 use Rattle.json_tree.specs.declared.Integer.{Integer}
 use Rattle.json_tree.specs.declared.Integer.the-variants.{Is, No}
 use Rattle.json_tree.specs.Finds
@@ -40,13 +41,10 @@ string (stringOf i raw) = some (record { at = i + 1; raw = raw })
 string (arrayOf i items) = none
 string (objectOf i fields) = none
 
--- "A read string other than `title` and `description` that has a backslash answers 6."
-unfoldable pub plain : Option Text → Option (List ℕ)
-plain none = none
-plain (some t) = if slashed (t .raw) then none else some (t .raw)
-
-unfoldable pub word : Json → Option (List ℕ)
-word v = plain (string v)
+-- "A read string other than `title` and `description` that has a backslash answers 6"; 02, 4: "wrong JSON type 20", "anything else 26, which a wrong
+-- backslash always is".
+unfoldable pub ofWord : {B : Type 0} → B → (List ℕ → Reading B) → Json → Reading B
+ofWord b f v = orWrong b 20 (λ (t : Text). if slashed (t .raw) then wrong b 26 else f (t .raw)) (string v)
 
 unfoldable pub listOf : Items → List Json
 listOf noItem = []
@@ -77,14 +75,18 @@ asInteger (Is true zero) = some (pos 0)
 asInteger (Is true (suc n)) = some (negsuc n)
 asInteger No = none
 
-abbrev pub integer : Json → Option ℤ
-integer (nullAt i) = none
-integer (falseAt i) = none
-integer (trueAt i) = none
-integer (numberOf i n) = asInteger n
-integer (stringOf i raw) = none
-integer (arrayOf i items) = none
-integer (objectOf i fields) = none
+abbrev pub number : Json → Option Integer
+number (nullAt i) = none
+number (falseAt i) = none
+number (trueAt i) = none
+number (numberOf i n) = some n
+number (stringOf i raw) = none
+number (arrayOf i items) = none
+number (objectOf i fields) = none
+
+-- 02, 4: "wrong JSON type 20", "number out of range or with a fraction or exponent 23".
+unfoldable pub ofInteger : {B : Type 0} → B → (ℤ → Reading B) → Json → Reading B
+ofInteger b f v = orWrong b 20 (λ (n : Integer). orWrong b 23 f (asInteger n)) (number v)
 
 -- The member of that name.
 abbrev pub asOption : Value? → Option Json

@@ -2,14 +2,13 @@
 use Prim.Native.Nat.{ℕ}
 use mathlib.Core.List.{List, []}
 use mathlib.Core.Path.{_≡_, ap, sym, subst, _∙_}
-use Rattle.keywords.specs.declared.Privacy.{Privacy}
 use Rattle.property.specs.Inner.From.{nameIn, valueIn}
 use Rattle.event.specs.Event.{eventFault, eventOf}
 use Rattle.event.specs.Overrides.{readOverrides}
-use Rattle.event.specs.Reading.{optional}
+use Rattle.event.specs.Reading.{present}
 use Rattle.event.specs.Rules.{readRules}
 use Rattle.event.specs.Types.{Event}
-use Rattle.event_text.specs.Inner.Front.{Front, frontOf, inner, eventWith}
+use Rattle.event_text.specs.Inner.Front.{frontOf, inner, eventWith}
 use Rattle.event_text.specs.Inner.Held.{fromHead}
 use Rattle.event_text.specs.declared.Head.{Head}
 use Rattle.event_text.proofs.Accepted.{Accepted, accepted}
@@ -31,15 +30,15 @@ module _ (s : List ℕ) (r : Head) (h : fromHead inner s r ≡ frontOf s) where
   unfolding eventWith
   head-details = ap (λ (e : Event). e .details) head-event
 
-  pub head-rules : eventOf s .rules ≡ optional [] readRules (valueIn inner s (r .rules)) .value
+  pub head-rules : eventOf s .rules ≡ present [] readRules (valueIn inner s (r .rules)) .value
   unfolding eventWith
   head-rules = ap (λ (e : Event). e .rules) head-event
 
-  pub head-excluded : eventOf s .excludedRules ≡ optional [] readRules (valueIn inner s (r .excluded)) .value
+  pub head-excluded : eventOf s .excludedRules ≡ present [] readRules (valueIn inner s (r .excluded)) .value
   unfolding eventWith
   head-excluded = ap (λ (e : Event). e .excludedRules) head-event
 
-  pub head-overrides : eventOf s .overrides ≡ optional [] (readOverrides (fromHead inner s r .details)) (valueIn inner s (r .overrides)) .value
+  pub head-overrides : eventOf s .overrides ≡ present [] (readOverrides (fromHead inner s r .details)) (valueIn inner s (r .overrides)) .value
   unfolding eventWith
   head-overrides = ap (λ (e : Event). e .overrides) head-event
 

@@ -19,16 +19,21 @@ use fault::lower;
 use json_text::bytes::byte;
 use json_text::bytes::space;
 use override_text::Own;
+use property::rows::fault_in;
 use property::rows::fill;
 use property::rows::place;
 use property::vocabulary::EXCLUDED_RULES;
 use property::vocabulary::OVERRIDES;
+use property::vocabulary::PRIVACY;
 use property::vocabulary::RULES;
+use property::vocabulary::UID;
+use property::vocabulary::UPDATED;
+use property::vocabulary::ZONE;
 
 // The head of the object at a place, with the row of its members.
 fn head_by(text: &[u8], at: usize, row: &[usize]) -> Head
     requires { ⌜ RowTo 18 (now text) at (now row) ⌝ }
-    ensures { λ r. ⌜ ((l : ℕ) → fromHead l (now (text .entry)) r ≡ frontIn (fieldsIn l (now (text .entry)) at)) ⌝ }
+    ensures { λ r. ⌜ ((l : ℕ) → fromHead l (now (text .entry)) r ≡ frontIn at (fieldsIn l (now (text .entry)) at)) ⌝ }
 {
     let zone = zone(text, at, row);
     let access = privacy(text, at, row);
@@ -36,12 +41,13 @@ fn head_by(text: &[u8], at: usize, row: &[usize]) -> Head
     let rules = place(text, at, row, RULES);
     let excluded = place(text, at, row, EXCLUDED_RULES);
     let overrides = place(text, at, row, OVERRIDES);
-    let details = lower(own.fault, id_fault(text, at, row));
-    let named = lower(zone.fault, lower(access.fault, details));
-    let fault = lower(
-        uid_fault(text, at, row),
-        lower(updated_fault(text, at, row), named),
-    );
+    let uid = fault_in(text, at, row, UID, uid_fault(text, at, row));
+    let updated = fault_in(text, at, row, UPDATED, updated_fault(text, at, row));
+    let named = fault_in(text, at, row, ZONE, zone.fault);
+    let shown = fault_in(text, at, row, PRIVACY, access.fault);
+    let details = own.fault;
+    let rest = lower(details, id_fault(text, at, row));
+    let fault = lower(uid, lower(updated, lower(named, lower(shown, rest))));
     let name = zone.place;
     let privacy = access.privacy;
     let title = own.title;
@@ -66,7 +72,7 @@ fn head_by(text: &[u8], at: usize, row: &[usize]) -> Head
 // The head of the object at a place.
 fn head_at(text: &[u8], ends: &[u32], at: usize) -> Head
     requires { ⌜ Ends (now text) (now ends) ⌝ }
-    ensures { λ r. ⌜ ((l : ℕ) → fromHead l (now (text .entry)) r ≡ frontIn (fieldsIn l (now (text .entry)) at)) ⌝ }
+    ensures { λ r. ⌜ ((l : ℕ) → fromHead l (now (text .entry)) r ≡ frontIn at (fieldsIn l (now (text .entry)) at)) ⌝ }
 {
     let mut row = [0usize; 18];
     fill(text, ends, at, &mut row);

@@ -3,16 +3,17 @@ ghost use Prim.Native.Nat.{ℕ};
 ghost use mathlib.Core.Bool.{true};
 ghost use mathlib.Core.List.{[]};
 ghost use mathlib.Core.Path.{_≡_};
+ghost use Rattle.fault.specs.Fault.{first as Fault·first};
 ghost use Rattle.json_ends.specs.Inner.Ends.{Ends};
 ghost use Rattle.json_tree.specs.Tree.{treeAt};
 ghost use Rattle.json_text.specs.Ascii.{ascii};
 ghost use Rattle.event.specs.Event.{missing, noEvent};
 ghost use Rattle.event.specs.Properties.{readUid, readUpdated};
-ghost use Rattle.event.specs.Reading.{unsupported};
-ghost use Rattle.event.specs.Rules.{required};
+ghost use Rattle.event.specs.Reading.{required, unsupported};
 ghost use Rattle.event.specs.Values.{string, member, isText, isType};
 ghost use Rattle.property.specs.Inner.From.{fieldsIn};
 ghost use Rattle.property.specs.Inner.Rows.{RowTo};
+use fault::First;
 use json_text::bytes::byte;
 use json_tree::Found;
 use property::Place;
@@ -32,7 +33,7 @@ pub(crate) fn uid_fault(text: &[u8], at: usize, row: &[usize]) -> u32
 {
     match place(text, at, row, UID) {
         Place::At(i) => read_uid(text, i),
-        Place::None => 6,
+        Place::None => 26,
     }
 }
 
@@ -43,18 +44,18 @@ pub(crate) fn updated_fault(text: &[u8], at: usize, row: &[usize]) -> u32
 {
     match place(text, at, row, UPDATED) {
         Place::At(i) => read_updated(text, i),
-        Place::None => 6,
+        Place::None => 26,
     }
 }
 
-// 8 where there is a `recurrenceId`, else 0.
-pub(crate) fn id_fault(text: &[u8], at: usize, row: &[usize]) -> u32
+// 8 where there is a `recurrenceId`, at its value.
+pub(crate) fn id_fault(text: &[u8], at: usize, row: &[usize]) -> First
     requires { ⌜ RowTo 18 (now text) at (now row) ⌝ }
-    ensures { λ r. ⌜ ((l : ℕ) → r ≡ unsupported (member (ascii "recurrenceId") (fieldsIn l (now (text .entry)) at))) ⌝ }
+    ensures { λ r. ⌜ ((l : ℕ) → r ≡ Fault·first (unsupported (member (ascii "recurrenceId") (fieldsIn l (now (text .entry)) at)))) ⌝ }
 {
     match place(text, at, row, RECURRENCE_ID) {
-        Place::At(_) => 8,
-        Place::None => 0,
+        Place::At(i) => First::At(8, i),
+        Place::None => First::None,
     }
 }
 

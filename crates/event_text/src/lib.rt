@@ -1,4 +1,4 @@
-// The event of a text that is past answers 1 to 4: what stands in its own members, and the lowest of 5 to 9 that applies.
+// The event of a text that is past answers 1 to 4: what stands in its own members, and the fault that decides.
 // One walk over the members finds all that are read; a table of the ends of the text's values keeps it short.
 pub mod heads;
 mod judged;
@@ -8,6 +8,7 @@ mod spots;
 mod times;
 pub mod whole;
 
+use fault::First;
 use keywords::Privacy;
 use property::Place;
 
@@ -42,7 +43,7 @@ pub struct Spot {
     pub fault: u32,
 }
 
-// What an occurrence has of its own. Texts are places of opening quotes.
+// What an occurrence has of its own, with the fault of it that decides. Texts are places of opening quotes.
 pub struct Details {
     pub start: u64,
     pub days: u64,
@@ -51,10 +52,10 @@ pub struct Details {
     pub allday: bool,
     pub title: Place,
     pub description: Place,
-    pub fault: u32,
+    pub fault: First,
 }
 
-// An event but for its lists, of which it has the places.
+// An event but for its lists, of which it has the places, with the fault of it that decides.
 pub struct Head {
     pub zone: Place,
     pub privacy: Privacy,
@@ -68,5 +69,5 @@ pub struct Head {
     pub rules: Place,
     pub excluded: Place,
     pub overrides: Place,
-    pub fault: u32,
+    pub fault: First,
 }

@@ -3,8 +3,7 @@ ghost use Prim.Native.Nat.{ℕ};
 ghost use mathlib.Core.Path.{_≡_};
 ghost use Rattle.json_text.specs.Ascii.{ascii};
 ghost use Rattle.event.specs.Properties.{fromLocal, fromSpan, noLength, readStart, readLength};
-ghost use Rattle.event.specs.Reading.{optional};
-ghost use Rattle.event.specs.Rules.{required};
+ghost use Rattle.event.specs.Reading.{optional, required};
 ghost use Rattle.event.specs.Values.{member};
 ghost use Rattle.property.specs.Inner.From.{fieldsIn};
 ghost use Rattle.event_text.specs.Inner.Held.{fromMoment, fromLasting};
@@ -35,7 +34,10 @@ pub(crate) fn start(text: &[u8], at: usize, row: &[usize]) -> Moment
 {
     match place(text, at, row, START) {
         Place::At(i) => moment(read_start(text, i)),
-        Place::None => Moment { value: 0, fault: 6 },
+        Place::None => Moment {
+            value: 0,
+            fault: 26,
+        },
     }
 }
 

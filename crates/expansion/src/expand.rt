@@ -28,7 +28,7 @@ pub fn expand_in(
     ensures { λ r. ⌜ Gives (expandText (zonesOf (now (name .entry)) initial (now (instants .entry)) (now (offsets .entry))) (now (text .entry)) from to (now (buffer .entry))) (r .answer) (r .length) (now (buffer .exit)) ⌝ }
 {
     match open_text(text, ends) {
-        Opening::Refused(answer) => Done { answer, length: 0 },
+        Opening::Refused(answer, _) => Done { answer, length: 0 },
         Opening::Accepted(head) => {
             let answer = call_fault(text, head, name, initial, instants, offsets, from, to);
             if answer != 0 {

@@ -1,5 +1,5 @@
 -- What the readers answer, about the tree of the text: kind and place, members and elements, strings, and look-up.
-use Prim.Native.Nat.{ℕ, zero, suc, _+_}
+use Prim.Native.Nat.{ℕ, zero, suc}
 use mathlib.Core.Bool.{Bool, true, false}
 use mathlib.Core.List.{List, [], _∷_}
 use mathlib.Core.Path.{_≡_, refl}
@@ -10,8 +10,8 @@ use Rattle.json_text.specs.Strings.{stringAt}
 use Rattle.json_walk.specs.Walk.{membersOf, elementsOf}
 use Rattle.json_walk.specs.Strings.{rawAt, same}
 use Rattle.json_walk.specs.declared.Member.{Member}
-use Rattle.json_tree.specs.Tree.{Json, Fields, Items, noField, noItem, objectOf, arrayOf, stringOf, numberOf, endOf, scalarTree, fieldsOf, itemsOf, treeBy, treeAt}
-use Rattle.json_tree.specs.Inner.Kinds.{kindOf, placeOf, kindAt}
+use Rattle.json_tree.specs.Tree.{Json, Fields, Items, objectOf, arrayOf, stringOf, numberOf, placeOf, endOf, scalarTree, fieldsOf, itemsOf, treeBy, treeAt}
+use Rattle.json_tree.specs.Inner.Kinds.{kindOf, kindAt}
 use Rattle.json_tree.specs.Integers.{integerAt}
 use Rattle.json_tree.specs.Finds.{lookUp}
 use Rattle.json_tree.specs.Inner.Members.{findIn, valueFound}

@@ -35,6 +35,16 @@ mutual
     noField : Fields
     field : ℕ → List ℕ → Json → Fields → Fields
 
+-- The place at which a value begins: of a string that of its opening quote.
+abbrev pub placeOf : Json → ℕ
+placeOf (nullAt i) = i
+placeOf (falseAt i) = i
+placeOf (trueAt i) = i
+placeOf (numberOf i n) = i
+placeOf (stringOf i raw) = i
+placeOf (arrayOf i items) = i
+placeOf (objectOf i fields) = i
+
 -- The place after what was read.
 abbrev pub endOf : Read → ℕ
 endOf (To j) = j

@@ -9,12 +9,12 @@ use Rattle.keywords.specs.declared.FreeBusy.the-variants.{Free, Busy, Fa
 use Rattle.keywords.specs.declared.Privacy.{Privacy}
 use Rattle.keywords.specs.declared.Privacy.the-variants.{Public, Private, Secret}
 
--- 01: "`freeBusyStatus`: `free` or `busy`"; another string is a wrong value, 6.
+-- 01: "`freeBusyStatus`: `free` or `busy`"; 02, 4: "unknown word in a closed list .. 24".
 unfoldable pub freeBusyOf : List ℕ → FreeBusy
 freeBusyOf s =
     if same s (ascii "free") then Free else
     if same s (ascii "busy") then Busy else
-    Fault 6
+    Fault 24
 
 -- 01: "`privacy`: `public` (default), `private`, `secret`; any other string counts as private."
 unfoldable pub privacyOf : List ℕ → Privacy

@@ -25,7 +25,7 @@ monthWritten s =
 unfoldable pub monthOf : List ℕ → Named
 monthOf s =
     if leb 1 (monthWritten s) then Number (monthWritten s) else
-    if eqb (length s) 0 then Wrong 6 else
+    if eqb (length s) 0 then Wrong 24 else
     if eqb (byte s (length s - 1)) 0x4C then
-    (if leb 1 (monthWritten (take (length s - 1) s)) then Wrong 8 else Wrong 6)
-    else Wrong 6
+    (if leb 1 (monthWritten (take (length s - 1) s)) then Wrong 8 else Wrong 24)
+    else Wrong 24

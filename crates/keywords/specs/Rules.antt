@@ -9,7 +9,7 @@ use Rattle.keywords.specs.declared.Rate.the-variants.{Daily, Weekly, Mon
 use Rattle.keywords.specs.declared.Named.{Named}
 use Rattle.keywords.specs.declared.Named.the-variants.{Number, Wrong}
 
--- "`frequency` daily, weekly, monthly or yearly (hourly, minutely, secondly: 8; others: 6)"
+-- "`frequency` daily, weekly, monthly or yearly (hourly, minutely, secondly: 8; others: 6)"; 02, 4: "unknown word in a closed list .. 24".
 unfoldable pub frequencyOf : List ℕ → Rate
 frequencyOf s =
     if same s (ascii "daily") then Daily else
@@ -19,9 +19,9 @@ frequencyOf s =
     if same s (ascii "hourly") then Fault 8 else
     if same s (ascii "minutely") then Fault 8 else
     if same s (ascii "secondly") then Fault 8 else
-    Fault 6
+    Fault 24
 
--- "`day` from `mo` to `su`": 0 is Monday; another string is a wrong value, 6.
+-- "`day` from `mo` to `su`": 0 is Monday; another word is 24.
 unfoldable pub weekdayOf : List ℕ → Named
 weekdayOf s =
     if same s (ascii "mo") then Number 0 else
@@ -31,7 +31,7 @@ weekdayOf s =
     if same s (ascii "fr") then Number 4 else
     if same s (ascii "sa") then Number 5 else
     if same s (ascii "su") then Number 6 else
-    Wrong 6
+    Wrong 24
 
 -- "`skip` forward or backward answer 8; `skip` omit is allowed": the fault, 0 where there is none.
 unfoldable pub skipFault : List ℕ → ℕ
@@ -39,7 +39,7 @@ skipFault s =
     if same s (ascii "omit") then 0 else
     if same s (ascii "forward") then 8 else
     if same s (ascii "backward") then 8 else
-    6
+    24
 
 -- "an `rscale` other than `gregorian` .. answer[s] 8"
 unfoldable pub rscaleFault : List ℕ → ℕ

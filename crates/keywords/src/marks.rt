@@ -14,7 +14,7 @@ pub fn free_busy(raw: &[u8]) -> FreeBusy
     if is(raw, b"busy") {
         return FreeBusy::Busy;
     }
-    FreeBusy::Fault(6)
+    FreeBusy::Fault(24)
 }
 
 pub fn privacy(raw: &[u8]) -> Privacy

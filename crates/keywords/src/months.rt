@@ -44,14 +44,14 @@ pub fn month(raw: &[u8]) -> Named
     }
     let n = raw.len();
     if n == 0 {
-        return Named::Wrong(6);
+        return Named::Wrong(24);
     }
     let last = n - 1;
     if byte(raw, last) != 0x4C {
-        return Named::Wrong(6);
+        return Named::Wrong(24);
     }
     if 1 <= written(&raw[..last]) {
         return Named::Wrong(8);
     }
-    Named::Wrong(6)
+    Named::Wrong(24)
 }

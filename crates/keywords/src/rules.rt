@@ -29,7 +29,7 @@ pub fn frequency(raw: &[u8]) -> Rate
     if is(raw, b"secondly") {
         return Rate::Fault(8);
     }
-    Rate::Fault(6)
+    Rate::Fault(24)
 }
 
 pub fn weekday(raw: &[u8]) -> Named
@@ -56,7 +56,7 @@ pub fn weekday(raw: &[u8]) -> Named
     if is(raw, b"su") {
         return Named::Number(6);
     }
-    Named::Wrong(6)
+    Named::Wrong(24)
 }
 
 // The fault of a `skip`, 0 where there is none.
@@ -72,7 +72,7 @@ pub fn skip(raw: &[u8]) -> u32
     if is(raw, b"backward") {
         return 8;
     }
-    6
+    24
 }
 
 // The fault of an `rscale`, 0 where there is none.

@@ -11,7 +11,7 @@ use Rattle.rule.specs.Gives.{endDay}
 use Rattle.rule.specs.Written.{RecurrenceRule}
 use Rattle.event.specs.Event.{eventFault, eventOf}
 use Rattle.event.specs.Overrides.{readOverrides}
-use Rattle.event.specs.Reading.{optional}
+use Rattle.event.specs.Reading.{present}
 use Rattle.event.specs.Rules.{readRules}
 use Rattle.event.specs.Types.{Details, Override}
 use Rattle.override_text.specs.declared.Own.{Own}
@@ -61,10 +61,10 @@ module _ (s : List ℕ) (h : Head) (is : fromHead inner s h ≡ frontOf s) (ok :
   module _ (o : Own) (same : detailsIn s o ≡ fromHead inner s h .details) (ids₀ ids₁ : List ℕ) (gone₀ gone₁ : List Bool) (places₀ places₁ : List ℕ) (n : ℕ)
       (room : (256 ≤ length ids₀) × ((256 ≤ length gone₀) × (256 ≤ length places₀)))
       (filled : (own : Details)
-      → Filled (optional [] (readOverrides own) (valueIn inner s (h .overrides)) .value) (patchesIn s (h .overrides)) ids₀ ids₁ gone₀ gone₁ places₀ places₁ n)
+      → Filled (present [] (readOverrides own) (valueIn inner s (h .overrides)) .value) (patchesIn s (h .overrides)) ids₀ ids₁ gone₀ gone₁ places₀ places₁ n)
     where
       over : List Override
-      over = optional [] (readOverrides mine) (valueIn inner s (h .overrides)) .value
+      over = present [] (readOverrides mine) (valueIn inner s (h .overrides)) .value
 
       stored : Filled over (patchesIn s (h .overrides)) ids₀ ids₁ gone₀ gone₁ places₀ places₁ n
       unfolding over
@@ -125,8 +125,8 @@ module _ (s : List ℕ) (h : Head) (is : fromHead inner s h ≡ frontOf s) (ok :
           subst (λ (d : Details). Small x (timesOf floating d)) (sym (kept-details x)) (small-each floating (eventOf s .details) short (eventOf s .overrides) ranged x b)
 
       pub kept-stands : (limit : ℕ) → limit ≤ endDay → (rules : Tracks) (flags : List Bool) (excluded : Tracks) (excludedFlags : List Bool)
-          → SettledRules false (h .start) limit (optional [] readRules (valueIn inner s (h .rules)) .value) rules flags
-          → SettledRules true (h .start) limit (optional [] readRules (valueIn inner s (h .excluded)) .value) excluded excludedFlags
+          → SettledRules false (h .start) limit (present [] readRules (valueIn inner s (h .rules)) .value) rules flags
+          → SettledRules true (h .start) limit (present [] readRules (valueIn inner s (h .excluded)) .value) excluded excludedFlags
           → Stands (datesOf (eventOf s)) limit (loaded (h .start) rules flags excluded excludedFlags (take n ids₁) (take n gone₁))
       unfolding datesOf
       kept-stands limit within rules flags excluded excludedFlags kept left =

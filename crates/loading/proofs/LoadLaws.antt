@@ -10,7 +10,7 @@ use Rattle.matcher.specs.Inner.Layout.{listSize, listsSize}
 use Rattle.property.specs.Inner.From.{nameIn, valueIn}
 use Rattle.event.specs.Event.{eventOf}
 use Rattle.event.specs.Overrides.{readOverrides}
-use Rattle.event.specs.Reading.{optional}
+use Rattle.event.specs.Reading.{present}
 use Rattle.event.specs.Rules.{readRules}
 use Rattle.event.specs.Types.{Details, Override}
 use Rattle.override_text.specs.declared.Own.{Own}
@@ -82,17 +82,17 @@ module _ (s t : List ℕ) (h : Head) (limit rows ids gone places : ℕ) (p : Loa
   season = kept-season s h (p .taken .head) (p .taken .accepted) limit (p .within)
 
   -- what the loading of the two lists asks for
-  pub rules-need : (optional [] readRules (valueIn inner s (h .rules)) .fault ≡ 0) × Season (h .start) limit
+  pub rules-need : (present [] readRules (valueIn inner s (h .rules)) .faults ≡ []) × Season (h .start) limit
   rules-need = (head-accepted s h (p .taken .head) (p .taken .accepted) .rules, season)
 
-  pub excluded-need : (optional [] readRules (valueIn inner s (h .excluded)) .fault ≡ 0) × Season (h .start) limit
+  pub excluded-need : (present [] readRules (valueIn inner s (h .excluded)) .faults ≡ []) × Season (h .start) limit
   excluded-need = (head-accepted s h (p .taken .head) (p .taken .accepted) .excluded, season)
 
 module _ (s t : List ℕ) (h : Head) (limit rows : ℕ) (ids₀ : List ℕ) (gone₀ : List Bool) (places₀ : List ℕ)
     (p : Loadable s t h limit rows (length ids₀) (length gone₀) (length places₀))
     (o : Own) (own : (text : List ℕ) → detailsIn text o ≡ fromHead inner text h .details) (ids₁ : List ℕ) (gone₁ : List Bool) (places₁ : List ℕ) (n : ℕ)
     (filled : (d : Details)
-    → Filled (optional [] (readOverrides d) (valueIn inner s (h .overrides)) .value) (patchesIn s (h .overrides)) ids₀ ids₁ gone₀ gone₁ places₀ places₁ n) where
+    → Filled (present [] (readOverrides d) (valueIn inner s (h .overrides)) .value) (patchesIn s (h .overrides)) ids₀ ids₁ gone₀ gone₁ places₀ places₁ n) where
   room : (256 ≤ length ids₀) × ((256 ≤ length gone₀) × (256 ≤ length places₀))
   room = (p .ids-room, (p .gone-room, p .places-room))
 
@@ -112,8 +112,8 @@ module _ (s t : List ℕ) (h : Head) (limit rows : ℕ) (ids₀ : List ℕ) (gon
   ids-taken = sym (length-take-le n ids₁ ids-fit)
 
   module _ (rules excluded : Tracks) (first second rows₁ : List Bool) (halves : (length first ≡ listSize) × (length second ≡ listSize)) (parts : rows₁ ≡ first ++ second)
-      (kept : SettledRules false (h .start) limit (optional [] readRules (valueIn inner s (h .rules)) .value) rules first)
-      (left : SettledRules true (h .start) limit (optional [] readRules (valueIn inner s (h .excluded)) .value) excluded second)
+      (kept : SettledRules false (h .start) limit (present [] readRules (valueIn inner s (h .rules)) .value) rules first)
+      (left : SettledRules true (h .start) limit (present [] readRules (valueIn inner s (h .excluded)) .value) excluded second)
     where
       first-rows : first ≡ take listSize rows₁
       first-rows = sym (ap (take listSize) parts ∙ take-at first second listSize (halves .0))

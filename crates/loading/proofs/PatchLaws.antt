@@ -14,7 +14,7 @@ use Rattle.property.specs.declared.Place.{Place}
 use Rattle.property.specs.declared.Place.the-variants as place
 use Rattle.property.proofs.Ranges.{Short}
 use Rattle.event.specs.Overrides.{readOverrides}
-use Rattle.event.specs.Reading.{optional}
+use Rattle.event.specs.Reading.{present}
 use Rattle.event.specs.Types.{Details, Override}
 use Rattle.override_text.specs.Inner.Patched.{patchAt}
 use Rattle.override_text.proofs.ListLaws.{places-many, override-at}
@@ -90,25 +90,25 @@ small-each floating own short (o ∷ os) range x h =
 -- ---- the overrides at a place, which may be none
 
 module _ (s : List ℕ) (own : Details) where
-  pub patches-many : (p : Place) → length (patchesIn s p) ≡ length (optional [] (readOverrides own) (valueIn inner s p) .value)
-  unfolding optional
+  pub patches-many : (p : Place) → length (patchesIn s p) ≡ length (present [] (readOverrides own) (valueIn inner s p) .value)
+  unfolding present
   patches-many place.None = refl
   patches-many (place.At at) = places-many s at 13 own
 
-  pub patches-each : (p : Place) → Patched s own (optional [] (readOverrides own) (valueIn inner s p) .value) (patchesIn s p)
-  unfolding optional
+  pub patches-each : (p : Place) → Patched s own (present [] (readOverrides own) (valueIn inner s p) .value) (patchesIn s p)
+  unfolding present
   patches-each place.None k h d = absurd (omega arith)
   patches-each (place.At at) k h d = override-at s at 13 own k h d
 
   module _ (short : Short (own .length)) where
-    pub patches-range : (p : Place) → optional [] (readOverrides own) (valueIn inner s p) .fault ≡ 0
-        → Ranged (optional [] (readOverrides own) (valueIn inner s p) .value)
-    unfolding optional
+    pub patches-range : (p : Place) → present [] (readOverrides own) (valueIn inner s p) .faults ≡ []
+        → Ranged (present [] (readOverrides own) (valueIn inner s p) .value)
+    unfolding present
     patches-range place.None e k h d = absurd (omega arith)
     patches-range (place.At at) e k h d = read-range own short _ e k h d
 
-  pub patches-most : (p : Place) → optional [] (readOverrides own) (valueIn inner s p) .fault ≡ 0
-      → length (optional [] (readOverrides own) (valueIn inner s p) .value) ≤ 256
-  unfolding optional
+  pub patches-most : (p : Place) → present [] (readOverrides own) (valueIn inner s p) .faults ≡ []
+      → length (present [] (readOverrides own) (valueIn inner s p) .value) ≤ 256
+  unfolding present
   patches-most place.None e = omega arith
   patches-most (place.At at) e = read-most own _ e

@@ -12,6 +12,9 @@ use Rattle.rule.specs.declared.Rule.{Rule}
 use Rattle.rule.specs.Written.{RecurrenceRule}
 use Rattle.rule.specs.Inner.Read.{written, Sized}
 use Rattle.matcher.specs.Inner.Layout.{listSize}
+use Rattle.fault.specs.declared.First.{First}
+use Rattle.fault.specs.declared.First.the-variants.{None}
+use Rattle.fault.specs.Fault.{first}
 use Rattle.event.specs.Rules.{readRule, readRules}
 use Rattle.rule_text.specs.Inner.Parts.{RuleRead}
 use Rattle.rule_text.specs.Inner.Places.{Places, placesAt}
@@ -65,9 +68,10 @@ module _ (excluded : Bool) (start limit : ℕ) (s places : List ℕ) where
           within = season .within;
         }
 
-    module _ (rule : Rule) (fault : ℕ) (read : RuleRead s (getD places i 0) rule fault) where
-      faultless : fault ≡ 0
-      faultless = read .fault 11 ∙ fine .each i h
+    module _ (rule : Rule) (fault : First) (read : RuleRead s (getD places i 0) rule fault) where
+      faultless : fault ≡ None
+      unfolding first
+      faultless = read .fault 11 ∙ ap first (fine .each i h)
 
       pub sized : Sized rule
       sized = read .sized faultless
@@ -98,7 +102,7 @@ module _ (excluded : Bool) (start limit : ℕ) (s places : List ℕ) where
 
 -- ---- the list at a place
 
-module _ (s : List ℕ) (at : ℕ) (none : readRules (treeAt 15 s at) .fault ≡ 0) (before after : List ℕ) (n : ℕ) (stored : Places s at before after n) (size : length before ≡ 8) where
+module _ (s : List ℕ) (at : ℕ) (none : readRules (treeAt 15 s at) .faults ≡ []) (before after : List ℕ) (n : ℕ) (stored : Places s at before after n) (size : length before ≡ 8) where
   pub few-places : n ≤ 8
   few-places = omega (arith, rules-few 14 s at none, stored .count)
 
@@ -114,7 +118,7 @@ module _ (s : List ℕ) (at : ℕ) (none : readRules (treeAt 15 s at) .fault ≡
   pub places-fine : Faultless s (take n after)
   places-fine =
       subst (Faultless s) (sym places-are)
-      (record { few = rules-few 14 s at none; each = λ k h. all-at (λ v. readRule (treeAt 14 s v) .fault ≡ 0) (rules-each 14 s at none) k 0 h })
+      (record { few = rules-few 14 s at none; each = λ k h. all-at (λ v. readRule (treeAt 14 s v) .faults ≡ []) (rules-each 14 s at none) k 0 h })
 
   rules-same : rulesAt s (take n after) ≡ readRules (treeAt 15 s at) .value
   unfolding rulesAt

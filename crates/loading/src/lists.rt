@@ -4,7 +4,7 @@ ghost use mathlib.Core.Path.{_≡_};
 ghost use lib.ListN.{length};
 ghost use Rattle.property.specs.Inner.From.{valueIn};
 ghost use Rattle.event.specs.Overrides.{readOverrides};
-ghost use Rattle.event.specs.Reading.{optional};
+ghost use Rattle.event.specs.Reading.{present};
 ghost use Rattle.event.specs.Rules.{readRules};
 ghost use Rattle.event.specs.Types.{Details};
 ghost use Rattle.override_text.specs.Inner.Lists.{Filled};
@@ -27,8 +27,8 @@ pub(crate) fn load_list(
     limit: u32,
     flags: &mut [bool],
 ) -> Tracks
-    requires { ⌜ ListReady (optional [] readRules (valueIn inner (now text) place) .fault ≡ 0) (now text) (now ends) start limit (length (now flags)) ⌝ }
-    ensures { λ r. ⌜ SettledRules excluded start limit (optional [] readRules (valueIn inner (now (text .entry)) place) .value) r (now (flags .exit)) ⌝ }
+    requires { ⌜ ListReady (present [] readRules (valueIn inner (now text) place) .faults ≡ []) (now text) (now ends) start limit (length (now flags)) ⌝ }
+    ensures { λ r. ⌜ SettledRules excluded start limit (present [] readRules (valueIn inner (now (text .entry)) place) .value) r (now (flags .exit)) ⌝ }
 {
     match place {
         Place::None => no_tracks(),
@@ -46,7 +46,7 @@ pub(crate) fn load_overrides(
     places: &mut [usize],
 ) -> usize
     requires { ⌜ OverridesReady (now text) (now ends) (length (now ids)) (length (now gone)) (length (now places)) ⌝ }
-    ensures { λ r. ⌜ ((own : Details) → Filled (optional [] (readOverrides own) (valueIn inner (now (text .entry)) place) .value) (patchesIn (now (text .entry)) place) (now (ids .entry)) (now (ids .exit)) (now (gone .entry)) (now (gone .exit)) (now (places .entry)) (now (places .exit)) r) ⌝ }
+    ensures { λ r. ⌜ ((own : Details) → Filled (present [] (readOverrides own) (valueIn inner (now (text .entry)) place) .value) (patchesIn (now (text .entry)) place) (now (ids .entry)) (now (ids .exit)) (now (gone .entry)) (now (gone .exit)) (now (places .entry)) (now (places .exit)) r) ⌝ }
 {
     match place {
         Place::None => 0,

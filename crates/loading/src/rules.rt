@@ -2,6 +2,7 @@
 ghost use mathlib.Core.Path.{_≡_};
 ghost use lib.ListN.{length};
 ghost use Rattle.json_tree.specs.Tree.{treeAt};
+ghost use mathlib.Core.List.{[]};
 ghost use Rattle.event.specs.Rules.{readRules};
 ghost use Rattle.loading.specs.Inner.Rules.{ListReady, Faultless, rulesAt, SettledRules};
 use dates::Tracks;
@@ -44,7 +45,7 @@ pub(crate) fn load_rules(
     limit: u32,
     flags: &mut [bool],
 ) -> Tracks
-    requires { ⌜ ListReady (readRules (treeAt 15 (now text) at) .fault ≡ 0) (now text) (now ends) start limit (length (now flags)) ⌝ }
+    requires { ⌜ ListReady (readRules (treeAt 15 (now text) at) .faults ≡ []) (now text) (now ends) start limit (length (now flags)) ⌝ }
     ensures { λ r. ⌜ SettledRules excluded start limit (readRules (treeAt 15 (now (text .entry)) at) .value) r (now (flags .exit)) ⌝ }
 {
     let mut places = [0usize; 8];

@@ -7,7 +7,10 @@ use native.Mathlib.Omega.{arith}
 use lib.Dec.{eqb, ltb}
 use lib.ListN.{length}
 use Rattle.signed.specs.Choose.{if_then_else_}
-use Rattle.fault.specs.Fault.{lower}
+use Rattle.fault.specs.Fault.{faultsAt, lower, first}
+use Rattle.fault.specs.declared.First.{First}
+use Rattle.fault.specs.declared.First.the-variants.{None}
+use Rattle.fault.proofs.Laws.{first-append}
 use Rattle.json_text.specs.Bytes.{byte}
 use Rattle.json_text.specs.Strings.{stringAt}
 use Rattle.json_text.specs.declared.Read.{Read}
@@ -22,8 +25,8 @@ use Rattle.json_walk.specs.declared.MemberStep.{MemberStep}
 use Rattle.json_walk.specs.declared.MemberStep.the-variants.{One, End}
 use Rattle.json_walk.proofs.Walks.{members-end, members-none}
 use Rattle.json_tree.specs.Tree.{Fields, fieldsOf, treeAt, endOf}
-use Rattle.event.specs.Types.{Details, Override}
-use Rattle.event.specs.Reading.{Reading, wrong, limited, atMost}
+use Rattle.event.specs.Types.{Details}
+use Rattle.event.specs.Reading.{Reading, faulty, limited}
 use Rattle.event.specs.Properties.{dateTime}
 use Rattle.event.specs.Overrides.{overrideOf, overridesIn, readOverrides}
 use Rattle.property.specs.Inner.Words.{wordAt}
@@ -35,14 +38,15 @@ use Rattle.override_text.proofs.WalkLaws.{members-next, Left, left-star
 
 -- ---- one override
 
-pub entry-joined : (own : Details) (s : List ℕ) (name value l : ℕ) (id : Reading ℕ) (over : Reading Override) (r : ℕ)
-    → id ≡ dateTime (wordAt s name) → over ≡ patchAt l own (id .value) s value → r ≡ lower (id .fault) (over .fault)
-    → r ≡ overrideOf own (wordAt s name) (treeAt (suc l) s value) .fault
+pub entry-joined : (own : Details) (s : List ℕ) (name value l : ℕ) (id : Reading ℕ) (over n r : First)
+    → id ≡ dateTime (wordAt s name) → over ≡ first (patchAt l own (id .value) s value .faults) → n ≡ first (faultsAt (id .fault) name) → r ≡ lower n over
+    → r ≡ first (overrideOf own name (wordAt s name) (treeAt (suc l) s value) .faults)
 unfolding overrideOf
-entry-joined own s name value l id over r e f g =
+entry-joined own s name value l id over n r e f h g =
     g
-    ∙ ap (λ (o : Reading Override). lower (id .fault) (o .fault)) f
-    ∙ ap (λ (d : Reading ℕ). lower (d .fault) (patchAt l own (d .value) s value .fault)) e
+    ∙ (λ i. lower (h i) (f i))
+    ∙ ap (λ (d : Reading ℕ). lower (first (faultsAt (d .fault) name)) (first (patchAt l own (d .value) s value .faults))) e
+    ∙ sym (first-append _ _)
 
 -- ---- the name of a member of a walk is the string at its place
 
@@ -88,14 +92,16 @@ module _ (s : List ℕ) where
 
 -- ---- the overrides of members: each member's fault, and as many as members
 
-abbrev pub ofEntry : ℕ → Details → List ℕ → Member → ℕ
-ofEntry l own s m = overrideOf own (rawAt s (m .name) (m .stop)) (treeAt (suc l) s (m .value)) .fault
+abbrev pub ofEntry : ℕ → Details → List ℕ → Member → First
+ofEntry l own s m = first (overrideOf own (m .name) (rawAt s (m .name) (m .stop)) (treeAt (suc l) s (m .value)) .faults)
 
 module _ (l : ℕ) (own : Details) (s : List ℕ) where
-  pub entries-lowest : (ms : List Member) → lowest (ofEntry l own s) ms ≡ entriesIn l own s ms .fault
-  unfolding lowest entriesIn overridesIn fieldsOf
+  pub entries-lowest : (ms : List Member) → lowest (ofEntry l own s) ms ≡ first (entriesIn l own s ms .faults)
+  unfolding lowest entriesIn overridesIn fieldsOf first
   entries-lowest [] = refl
-  entries-lowest (m ∷ ms) = ap (λ (n : ℕ). lower (ofEntry l own s m) n) (entries-lowest ms)
+  entries-lowest (m ∷ ms) =
+      ap (lower (ofEntry l own s m)) (entries-lowest ms)
+      ∙ sym (first-append (overrideOf own (m .name) (rawAt s (m .name) (m .stop)) (treeAt (suc l) s (m .value)) .faults) (entriesIn l own s ms .faults))
 
   pub entries-many : (ms : List Member) → length (entriesIn l own s ms .value) ≡ length ms
   unfolding entriesIn overridesIn fieldsOf
@@ -103,24 +109,24 @@ module _ (l : ℕ) (own : Details) (s : List ℕ) where
   entries-many (m ∷ ms) = ap suc (entries-many ms)
 
   -- the fault of them all, by what a walk found and counted
-  pub entries-fault : (ms : List Member) (found count r : ℕ) → found ≡ lowest (ofEntry l own s) ms → count ≡ length ms
-      → r ≡ lower found (if ltb 256 count then 9 else 0) → r ≡ limited 256 (entriesIn l own s ms) .fault
-  unfolding limited atMost
-  entries-fault ms found count r e c g =
-      let a : found ≡ entriesIn l own s ms .fault = e ∙ entries-lowest ms in
+  pub entries-fault : (ms : List Member) (at : ℕ) (found : First) (count : ℕ) (r : First) → found ≡ lowest (ofEntry l own s) ms → count ≡ length ms
+      → r ≡ lower found (first (if ltb 256 count then faultsAt 9 at else [])) → r ≡ first (limited 256 at (entriesIn l own s ms) .faults)
+  unfolding limited
+  entries-fault ms at found count r e c g =
+      let a : found ≡ first (entriesIn l own s ms .faults) = e ∙ entries-lowest ms in
       let b : count ≡ length (entriesIn l own s ms .value) = c ∙ sym (entries-many ms) in
-      g ∙ (λ i. lower (a i) (if ltb 256 (b i) then 9 else 0))
+      g ∙ (λ i. lower (a i) (first (if ltb 256 (b i) then faultsAt 9 at else []))) ∙ sym (first-append _ _)
 
 -- ---- the walk
 
 module _ (own : Details) (s : List ℕ) (at : ℕ) where
-  pub record Walk (found : ℕ) (step : MemberStep) (n : ℕ) : Type 0 where
+  pub record Walk (found : First) (step : MemberStep) (n : ℕ) : Type 0 where
     pub within : n ≤ length s
     pub named : Named s step
     pub counted : length s - n + length (membersFrom n s step) ≡ length (membersOf s at)
     pub faults : (l : ℕ) → Left (ofEntry l own s) s at found step n
 
-  pub walk-start : (step : MemberStep) → step ≡ firstMemberAt s at → Walk 0 step (length s)
+  pub walk-start : (step : MemberStep) → step ≡ firstMemberAt s at → Walk None step (length s)
   unfolding membersOf
   walk-start step e =
       let c : length (membersFrom (length s) s step) ≡ length (membersFrom (length s) s (firstMemberAt s at)) =
@@ -132,9 +138,9 @@ module _ (own : Details) (s : List ℕ) (at : ℕ) where
         faults = λ l. left-start (ofEntry l own s) s at step e;
       }
 
-  module _ (found : ℕ) (step : MemberStep) (n : ℕ) (w : Walk found step n) where
-    pub walk-next : 0 < n → (m : Member) → step ≡ One m → (f : ℕ) → ((l : ℕ) → f ≡ overrideOf own (wordAt s (m .name)) (treeAt (suc l) s (m .value)) .fault)
-        → (joined : ℕ) → joined ≡ lower found f → (next : MemberStep) → next ≡ nextMemberAt s (m .after) → Walk joined next (n - 1)
+  module _ (found : First) (step : MemberStep) (n : ℕ) (w : Walk found step n) where
+    pub walk-next : 0 < n → (m : Member) → step ≡ One m → (f : First) → ((l : ℕ) → f ≡ first (overrideOf own (m .name) (wordAt s (m .name)) (treeAt (suc l) s (m .value)) .faults))
+        → (joined : First) → joined ≡ lower found f → (next : MemberStep) → next ≡ nextMemberAt s (m .after) → Walk joined next (n - 1)
     walk-next h m e f g joined q next p =
         let same : rawAt s (m .name) (m .stop) ≡ wordAt s (m .name) = subst (λ (x : MemberStep). Named s x) e (w .named) in
         let one : length (membersFrom n s step) ≡ suc (length (membersFrom (n - 1) s next)) = ap length (members-next s n h step m e next p) in
@@ -144,30 +150,30 @@ module _ (own : Details) (s : List ℕ) (at : ℕ) where
           counted = omega (arith, one, w .counted, w .within);
           faults =
               λ l. left-next (ofEntry l own s) s at found step n (w .faults l) h m e joined
-              (q ∙ ap (lower found) (g l ∙ ap (λ (raw : List ℕ). overrideOf own raw (treeAt (suc l) s (m .value)) .fault) (sym same))) next p;
+              (q ∙ ap (lower found) (g l ∙ ap (λ (raw : List ℕ). first (overrideOf own (m .name) raw (treeAt (suc l) s (m .value)) .faults)) (sym same))) next p;
         }
 
-    pub walk-end : step ≡ End → (r : ℕ) → r ≡ lower found (if ltb 256 (length s - n) then 9 else 0)
-        → (l : ℕ) → r ≡ limited 256 (entriesIn l own s (membersOf s at)) .fault
+    pub walk-end : step ≡ End → (r : First) → r ≡ lower found (first (if ltb 256 (length s - n) then faultsAt 9 at else []))
+        → (l : ℕ) → r ≡ first (limited 256 at (entriesIn l own s (membersOf s at)) .faults)
     walk-end e r g l =
         let none : length (membersFrom n s step) ≡ 0 = ap length (ap (membersFrom n s) e ∙ members-end n s) in
-        entries-fault l own s (membersOf s at) found (length s - n) r (left-end (ofEntry l own s) s at found step n (w .faults l) e)
+        entries-fault l own s (membersOf s at) at found (length s - n) r (left-end (ofEntry l own s) s at found step n (w .faults l) e)
         (omega (arith, none, w .counted)) g
 
-    pub walk-out : n ≤ 0 → (r : ℕ) → r ≡ lower found (if ltb 256 (length s) then 9 else 0)
-        → (l : ℕ) → r ≡ limited 256 (entriesIn l own s (membersOf s at)) .fault
+    pub walk-out : n ≤ 0 → (r : First) → r ≡ lower found (first (if ltb 256 (length s) then faultsAt 9 at else []))
+        → (l : ℕ) → r ≡ first (limited 256 at (entriesIn l own s (membersOf s at)) .faults)
     walk-out h r g l =
         let none : length (membersFrom n s step) ≡ 0 = ap length (members-none n h s step) in
-        entries-fault l own s (membersOf s at) found (length s) r (left-out (ofEntry l own s) s at found step n (w .faults l) h)
+        entries-fault l own s (membersOf s at) at found (length s) r (left-out (ofEntry l own s) s at found step n (w .faults l) h)
         (omega (arith, none, w .counted)) g
 
 -- ---- the value as a whole
 
 module _ (own : Details) (s : List ℕ) (at : ℕ) where
-  pub overrides-yes : eqb (byte s at) 0x7B ≡ true → (l : ℕ) → limited 256 (entriesIn l own s (membersOf s at)) ≡ readOverrides own (treeAt (suc (suc l)) s at)
+  pub overrides-yes : eqb (byte s at) 0x7B ≡ true → (l : ℕ) → limited 256 at (entriesIn l own s (membersOf s at)) ≡ readOverrides own (treeAt (suc (suc l)) s at)
   unfolding readOverrides entriesIn
-  overrides-yes e l = at-object s at [] (λ (fields : Fields). limited 256 (overridesIn own fields)) e (suc l)
+  overrides-yes e l = at-object s at [] (λ (place : ℕ) (fields : Fields). limited 256 place (overridesIn own fields)) e (suc l)
 
-  pub overrides-no : eqb (byte s at) 0x7B ≡ false → (l : ℕ) → wrong [] 6 ≡ readOverrides own (treeAt (suc (suc l)) s at)
+  pub overrides-no : eqb (byte s at) 0x7B ≡ false → (l : ℕ) → faulty [] 20 at ≡ readOverrides own (treeAt (suc (suc l)) s at)
   unfolding readOverrides
-  overrides-no e l = at-other s at [] (λ (fields : Fields). limited 256 (overridesIn own fields)) e (suc l)
+  overrides-no e l = at-other s at [] (λ (place : ℕ) (fields : Fields). limited 256 place (overridesIn own fields)) e (suc l)

@@ -17,10 +17,10 @@ use Rattle.json_walk.specs.declared.Member.{Member}
 use Rattle.json_walk.specs.declared.MemberStep.{MemberStep}
 use Rattle.json_walk.specs.declared.MemberStep.the-variants.{One, End}
 use Rattle.json_walk.proofs.Walks.{members-end, members-none}
-use Rattle.json_tree.specs.Tree.{Fields, fieldsOf, treeAt}
+use Rattle.json_tree.specs.Tree.{Fields, fieldsOf, treeAt, placeOf}
 use Rattle.event.specs.Types.{Details, Override}
 use Rattle.event.specs.Values.{object}
-use Rattle.event.specs.Reading.{Reading, orWrong, limited}
+use Rattle.event.specs.Reading.{Reading, Judged, inside, limited}
 use Rattle.event.specs.Properties.{dateTime}
 use Rattle.event.specs.Overrides.{overrideOf, overridesIn, patchIn, readOverrides}
 use Rattle.property.specs.Inner.Words.{wordAt}
@@ -85,20 +85,20 @@ abbrev pub idOf : List ℕ → Member → ℕ
 idOf s m = dateTime (rawAt s (m .name) (m .stop)) .value
 
 abbrev pub entryOf : ℕ → Details → List ℕ → Member → Override
-entryOf l own s m = overrideOf own (rawAt s (m .name) (m .stop)) (treeAt (suc l) s (m .value)) .value
+entryOf l own s m = overrideOf own (m .name) (rawAt s (m .name) (m .stop)) (treeAt (suc l) s (m .value)) .value
 
 abbrev pub goneOf : ℕ → Details → List ℕ → Member → Bool
 goneOf l own s m = entryOf l own s m .excluded
 
-same-id : (own : Details) (id : ℕ) (o : Option Fields) → orWrong (record { id = id; excluded = false; details = own }) (patchIn own id) o .value .id ≡ id
-unfolding orWrong patchIn
-same-id own id none = refl
-same-id own id (some fields) = refl
+same-id : (own : Details) (id at : ℕ) (o : Option Fields) → inside (record { id = id; excluded = false; details = own }) at (patchIn own id at) o .value .id ≡ id
+unfolding inside patchIn
+same-id own id at none = refl
+same-id own id at (some fields) = refl
 
 module _ (l : ℕ) (own : Details) (s : List ℕ) where
   entry-id : (m : Member) → entryOf l own s m .id ≡ idOf s m
   unfolding overrideOf
-  entry-id m = same-id own (idOf s m) (object (treeAt (suc l) s (m .value)))
+  entry-id m = let v = treeAt (suc l) s (m .value) in same-id own (idOf s m) (placeOf v) (object v)
 
   pub entries-ids : (ms : List Member) → map (λ (o : Override). o .id) (entriesIn l own s ms .value) ≡ map (idOf s) ms
   unfolding entriesIn overridesIn fieldsOf
@@ -229,7 +229,7 @@ module _ (s : List ℕ) (at : ℕ) (ids₀ ids : List ℕ) (gone₀ gone : List 
   unfolding limited placesAt
   filled-yes e w =
       subst (λ (os : List Override). Filled os (placesAt s at) ids₀ ids gone₀ gone places₀ places r)
-      (ap (λ (x : Reading (List Override)). x .value) (overrides-yes own s at e l))
+      (ap (λ (x : Judged (List Override)). x .value) (overrides-yes own s at e l))
       (rw e w)
 
 pub filled-no : (s : List ℕ) (at : ℕ) (ids : List ℕ) (gone : List Bool) (places : List ℕ) (l : ℕ) (own : Details) → eqb (byte s at) 0x7B ≡ false
@@ -237,7 +237,7 @@ pub filled-no : (s : List ℕ) (at : ℕ) (ids : List ℕ) (gone : List Bool) (p
 unfolding placesAt
 filled-no s at ids gone places l own e =
     subst (λ (os : List Override). Filled os (placesAt s at) ids ids gone gone places places 0)
-    (ap (λ (x : Reading (List Override)). x .value) (overrides-no own s at e l))
+    (ap (λ (x : Judged (List Override)). x .value) (overrides-no own s at e l))
     (rw e (record { count = refl; ids = refl; gone = refl; places = refl }))
 
 -- ---- the override at place k of an accepted value: the patch at that place of the lists, of the id there
@@ -252,10 +252,10 @@ either P s at l own full empty = go (eqb (byte s at) 0x7B) refl
     go : (c : Bool) → eqb (byte s at) 0x7B ≡ c → P (readOverrides own (treeAt (suc (suc l)) s at) .value) (if c then placesOf (membersOf s at) else [])
     go true e =
         subst (λ (os : List Override). P os (placesOf (membersOf s at)))
-        (ap (λ (x : Reading (List Override)). x .value) (overrides-yes own s at e l)) full
+        (ap (λ (x : Judged (List Override)). x .value) (overrides-yes own s at e l)) full
     go false e =
         subst (λ (os : List Override). P os [])
-        (ap (λ (x : Reading (List Override)). x .value) (overrides-no own s at e l)) empty
+        (ap (λ (x : Judged (List Override)). x .value) (overrides-no own s at e l)) empty
 
 module _ (s : List ℕ) (at l : ℕ) (own : Details) where
   pub places-many : length (placesAt s at) ≡ length (readOverrides own (treeAt (suc (suc l)) s at) .value)

@@ -7,7 +7,8 @@ use native.Mathlib.Numerals.{sub-one}
 use native.Mathlib.Omega.{arith}
 use lib.Dec.{eqb}
 use lib.ListN.{length, getD}
-use Rattle.fault.specs.Fault.{lower}
+use Rattle.fault.specs.Fault.{lower, first}
+use Rattle.fault.proofs.Laws.{first-append}
 use Rattle.json_walk.specs.Strings.{bytesAt, rawAt}
 use Rattle.json_walk.specs.Inner.Within.{ahead}
 use Rattle.json_walk.specs.Walk.{firstMemberAt, nextMemberAt, membersFrom, membersOf}
@@ -22,10 +23,12 @@ use Rattle.override_text.specs.Inner.Names.{lowest, ofName, single}
 
 -- ---- the definitions of `event`
 
-pub names-tree : (tree : ℕ → Json) (s : List ℕ) (ms : List Member) → lowest (ofName s) ms ≡ nameFaults (fieldsOf tree s ms)
-unfolding fieldsOf nameFaults lowest
+pub names-tree : (tree : ℕ → Json) (s : List ℕ) (ms : List Member) → lowest (ofName s) ms ≡ first (nameFaults (fieldsOf tree s ms))
+unfolding fieldsOf nameFaults lowest first
 names-tree tree s [] = refl
-names-tree tree s (m ∷ ms) = ap (λ (n : ℕ). lower (nameFault (rawAt s (m .name) (m .stop))) n) (names-tree tree s ms)
+names-tree tree s (m ∷ ms) =
+    ap (lower (ofName s m)) (names-tree tree s ms)
+    ∙ sym (first-append (nameFault (m .name) (rawAt s (m .name) (m .stop))) (nameFaults (fieldsOf tree s ms)))
 
 pub alone-tree : (tree : ℕ → Json) (s : List ℕ) (ms : List Member) → single ms ≡ alone (fieldsOf tree s ms)
 unfolding fieldsOf alone single

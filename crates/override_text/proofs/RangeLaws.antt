@@ -4,18 +4,19 @@ use Prim.Native.Nat.{ℕ, zero, suc, _*_, _≤_, _<_}
 use mathlib.Core.Bool.{Bool, true, false}
 use mathlib.Core.List.{List, [], map}
 use mathlib.Core.Option.{Option, none, some}
-use mathlib.Core.Path.{_≡_, ap, _∙_}
+use mathlib.Core.Path.{_≡_, refl, ap, _∙_}
 use native.Mathlib.Omega.{arith}
 use lib.ListN.{length, getD, take, length-map}
 use lib.Seq.{sets, take-all}
 use Rattle.signed.specs.Choose.{if_then_else_}
-use Rattle.json_tree.specs.Tree.{Json, Fields, noField, field}
+use Rattle.json_tree.specs.Tree.{Json, Fields, noField, field, placeOf}
 use Rattle.event.specs.Types.{Length, Details, Override}
 use Rattle.event.specs.Values.{isNull, object}
-use Rattle.event.specs.Reading.{right, orWrong, limited}
+use Rattle.event.specs.Reading.{right, placed, inside, limited}
 use Rattle.event.specs.Properties.{noLength, dateTime, readLength}
 use Rattle.event.specs.Overrides.{patched, patchedStart, patchIn, overrideOf, overridesIn, readOverrides}
-use Rattle.fault.proofs.Laws.{lower-zero}
+use Rattle.fault.specs.Fault.{faultsAt}
+use Rattle.fault.proofs.Laws.{append-none, all-none, fault-some, none-fault}
 use Rattle.property.proofs.Ranges.{Within, Short, date-range, start-range, length-range}
 use Rattle.override_text.specs.Inner.Lists.{Filled}
 
@@ -44,43 +45,43 @@ length-in own h (some v) = go (isNull v)
     go false = length-range v
 
 module _ (own : Details) (h : Short (own .length)) where
-  patch-range : (id : ℕ) → InYears id → (fields : Fields) → patchIn own id fields .fault ≡ 0 → InRange (patchIn own id fields .value)
-  unfolding patchIn
-  patch-range id i fields e =
-      record { id = i; start = start-in id i _ (lower-zero _ _ e .0); short = length-in (own .length) h _ }
+  patch-range : (id : ℕ) → InYears id → (at : ℕ) (fields : Fields) → patchIn own id at fields .faults ≡ [] → InRange (patchIn own id at fields .value)
+  unfolding patchIn placed
+  patch-range id i at fields e =
+      record { id = i; start = start-in id i _ (none-fault _ _ (all-none _ e .0)); short = length-in (own .length) h _ }
 
-  over-range : (id : ℕ) → InYears id → (o : Option Fields)
-      → orWrong (record { id = id; excluded = false; details = own }) (patchIn own id) o .fault ≡ 0
-      → InRange (orWrong (record { id = id; excluded = false; details = own }) (patchIn own id) o .value)
-  unfolding orWrong
-  over-range id i none e = absurd (omega (arith, e))
-  over-range id i (some fields) e = patch-range id i fields e
+  over-range : (id : ℕ) → InYears id → (at : ℕ) (o : Option Fields)
+      → inside (record { id = id; excluded = false; details = own }) at (patchIn own id at) o .faults ≡ []
+      → InRange (inside (record { id = id; excluded = false; details = own }) at (patchIn own id at) o .value)
+  unfolding inside
+  over-range id i at none e = absurd (fault-some 20 at refl e)
+  over-range id i at (some fields) e = patch-range id i at fields e
 
-  pub override-range : (name : List ℕ) (v : Json) → overrideOf own name v .fault ≡ 0 → InRange (overrideOf own name v .value)
+  pub override-range : (at : ℕ) (name : List ℕ) (v : Json) → overrideOf own at name v .faults ≡ [] → InRange (overrideOf own at name v .value)
   unfolding overrideOf
-  override-range name v e =
-      let parts = lower-zero _ _ e in
-      over-range (dateTime name .value) (date-range name (parts .0)) (object v) (parts .1)
+  override-range at name v e =
+      let parts = append-none (faultsAt (dateTime name .fault) at) _ e in
+      over-range (dateTime name .value) (date-range name (none-fault _ at (parts .0))) (placeOf v) (object v) (parts .1)
 
   -- ---- all of them
 
-  pub overrides-range : (fields : Fields) → overridesIn own fields .fault ≡ 0 → (k : ℕ) → k < length (overridesIn own fields .value) → (d : Override)
+  pub overrides-range : (fields : Fields) → overridesIn own fields .faults ≡ [] → (k : ℕ) → k < length (overridesIn own fields .value) → (d : Override)
       → InRange (getD (overridesIn own fields .value) k d)
   unfolding overridesIn
   overrides-range noField e k p d = absurd (omega arith)
-  overrides-range (field at name v fields) e zero p d = override-range name v (lower-zero _ _ e .0)
-  overrides-range (field at name v fields) e (suc k) p d = overrides-range fields (lower-zero _ _ e .1) k (omega arith) d
+  overrides-range (field at name v fields) e zero p d = override-range at name v (append-none (overrideOf own at name v .faults) (overridesIn own fields .faults) e .0)
+  overrides-range (field at name v fields) e (suc k) p d = overrides-range fields (append-none (overrideOf own at name v .faults) (overridesIn own fields .faults) e .1) k (omega arith) d
 
-  pub read-range : (v : Json) → readOverrides own v .fault ≡ 0 → (k : ℕ) → k < length (readOverrides own v .value) → (d : Override)
+  pub read-range : (v : Json) → readOverrides own v .faults ≡ [] → (k : ℕ) → k < length (readOverrides own v .value) → (d : Override)
       → InRange (getD (readOverrides own v .value) k d)
-  unfolding readOverrides limited orWrong
-  read-range v = go (object v)
+  unfolding readOverrides limited inside
+  read-range v = go (placeOf v) (object v)
     where
-      go : (o : Option Fields) → orWrong [] (λ (fields : Fields). limited 256 (overridesIn own fields)) o .fault ≡ 0
-          → (k : ℕ) → k < length (orWrong [] (λ (fields : Fields). limited 256 (overridesIn own fields)) o .value) → (d : Override)
-          → InRange (getD (orWrong [] (λ (fields : Fields). limited 256 (overridesIn own fields)) o .value) k d)
-      go none e k p d = absurd (omega (arith, e))
-      go (some fields) e k p d = overrides-range fields (lower-zero _ _ e .0) k p d
+      go : (at : ℕ) (o : Option Fields) → inside [] at (λ (fields : Fields). limited 256 at (overridesIn own fields)) o .faults ≡ []
+          → (k : ℕ) → k < length (inside [] at (λ (fields : Fields). limited 256 at (overridesIn own fields)) o .value) → (d : Override)
+          → InRange (getD (inside [] at (λ (fields : Fields). limited 256 at (overridesIn own fields)) o .value) k d)
+      go at none e k p d = absurd (fault-some 20 at refl e)
+      go at (some fields) e k p d = overrides-range fields (append-none (overridesIn own fields .faults) _ e .0) k p d
 
 -- ---- at most 256, so the lists in the slices are those of all overrides
 stored : {A : Type 0} (was vs : List A) (n : ℕ) → length vs ≡ n → n ≤ 256 → sets was 0 (take 256 vs) ≡ sets was 0 vs

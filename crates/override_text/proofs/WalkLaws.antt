@@ -4,6 +4,8 @@ use mathlib.Core.List.{List, [], _∷_}
 use mathlib.Core.Path.{_≡_, sym, ap, _∙_}
 use lib.ListN.{length}
 use Rattle.fault.specs.Fault.{lower}
+use Rattle.fault.specs.declared.First.{First}
+use Rattle.fault.specs.declared.First.the-variants.{None}
 use Rattle.fault.proofs.Laws.{none-lower, lower-none, lower-assoc}
 use Rattle.json_walk.specs.Walk.{firstMemberAt, nextMemberAt, membersFrom, membersOf}
 use Rattle.json_walk.specs.declared.Member.{Member}
@@ -18,21 +20,21 @@ pub members-next : (s : List ℕ) (n : ℕ) → 0 < n → (step : MemberStep) (m
 members-next s n h step m e next p =
     ap (membersFrom n s) e ∙ members-one n h s m ∙ ap (λ (x : MemberStep). m ∷ membersFrom (n - 1) s x) (sym p)
 
-module _ (f : Member → ℕ) (s : List ℕ) (at : ℕ) where
-  abbrev pub Left : ℕ → MemberStep → ℕ → Type 0
+module _ (f : Member → First) (s : List ℕ) (at : ℕ) where
+  abbrev pub Left : First → MemberStep → ℕ → Type 0
   Left found step n = lower found (lowest f (membersFrom n s step)) ≡ lowest f (membersOf s at)
 
-  pub left-start : (step : MemberStep) → step ≡ firstMemberAt s at → Left 0 step (length s)
+  pub left-start : (step : MemberStep) → step ≡ firstMemberAt s at → Left None step (length s)
   unfolding membersOf
   left-start step e = none-lower _ ∙ ap (λ (x : MemberStep). lowest f (membersFrom (length s) s x)) e
 
-  module _ (found : ℕ) (step : MemberStep) (n : ℕ) (w : Left found step n) where
-    pub left-next : 0 < n → (m : Member) → step ≡ One m → (joined : ℕ) → joined ≡ lower found (f m)
+  module _ (found : First) (step : MemberStep) (n : ℕ) (w : Left found step n) where
+    pub left-next : 0 < n → (m : Member) → step ≡ One m → (joined : First) → joined ≡ lower found (f m)
         → (next : MemberStep) → next ≡ nextMemberAt s (m .after) → Left joined next (n - 1)
     unfolding lowest
     left-next h m e joined q next p =
         let rest : List Member = membersFrom (n - 1) s next in
-        ap (λ (j : ℕ). lower j (lowest f rest)) q
+        ap (λ (j : First). lower j (lowest f rest)) q
         ∙ sym (lower-assoc found (f m) (lowest f rest))
         ∙ ap (λ (ms : List Member). lower found (lowest f ms)) (sym (members-next s n h step m e next p))
         ∙ w

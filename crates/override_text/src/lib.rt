@@ -1,6 +1,7 @@
 // `recurrenceOverrides`, read at the place where it stands in a text that is known to be JSON. The text is the store: a patch is its place.
 // The readers are lent a table of the ends of the text's values, by which they pass over what they do not read.
 pub mod entries;
+mod judged;
 pub mod lists;
 mod names;
 mod patched;
@@ -18,7 +19,7 @@ pub struct Own {
     pub description: property::Place,
 }
 
-// An occurrence after its patch, with the lowest fault of the patch.
+// An occurrence after its patch.
 pub struct Patch {
     pub excluded: bool,
     pub start: u64,
@@ -28,7 +29,6 @@ pub struct Patch {
     pub allday: bool,
     pub title: property::Place,
     pub description: property::Place,
-    pub fault: u32,
 }
 
 // Single properties, each with its fault: a date-time, a length, a mark, a text.

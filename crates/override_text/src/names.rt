@@ -1,10 +1,12 @@
 // The names of a patch's members: which of them no patch may have, and whether there is more than one.
 ghost use mathlib.Core.Path.{_≡_};
+ghost use Rattle.fault.specs.Fault.{first as Fault·first};
 ghost use Rattle.json_walk.specs.Walk.{membersOf};
 ghost use Rattle.json_walk.specs.Strings.{bytesAt, rawAt};
 ghost use Rattle.json_ends.specs.Inner.Ends.{Ends};
 ghost use Rattle.event.specs.Overrides.{hasMark, nameFault};
 ghost use Rattle.override_text.specs.Inner.Names.{lowest, ofName, single};
+use fault::First;
 use fault::lower;
 use json_ends::objects::next_member;
 use json_text::bytes::byte;
@@ -40,25 +42,25 @@ fn has_mark(text: &[u8], name: usize, stop: usize) -> bool
     mark_in(text, step(text, name), inside(name, stop))
 }
 
-// The fault of one name.
-fn name_fault(text: &[u8], name: usize, stop: usize) -> u32
-    ensures { λ r. ⌜ r ≡ nameFault (rawAt (now (text .entry)) name stop) ⌝ }
+// The fault of one name, at its opening quote.
+fn name_fault(text: &[u8], name: usize, stop: usize) -> First
+    ensures { λ r. ⌜ r ≡ Fault·first (nameFault name (rawAt (now (text .entry)) name stop)) ⌝ }
 {
     if raw_is(text, name, stop, b"timeZone") {
-        return 8;
+        return First::At(8, name);
     }
     if has_mark(text, name, stop) {
-        return 8;
+        return First::At(8, name);
     }
-    0
+    First::None
 }
 
-// The lowest fault of the names of the object at a place.
-pub(crate) fn names_fault(text: &[u8], ends: &[u32], at: usize) -> u32
+// Of the names of the object at a place, the fault that decides.
+pub(crate) fn names_fault(text: &[u8], ends: &[u32], at: usize) -> First
     requires { ⌜ Ends (now text) (now ends) ⌝ }
     ensures { λ r. ⌜ r ≡ lowest (ofName (now (text .entry))) (membersOf (now (text .entry)) at) ⌝ }
 {
-    let mut found = 0;
+    let mut found = First::None;
     let mut next = first(text, ends, at);
     let mut n = text.len();
     while 0 < n {

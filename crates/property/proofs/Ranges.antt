@@ -1,15 +1,15 @@
 -- The ranges of what is read without a fault: date-times of the years 1601 to 9998 (`until`: to 9999), lengths of at most 366 days.
-use Prim.Native.Nat.{ℕ, zero, suc, _+_, _-_, _*_, _≤_, _<_}
+use Prim.Native.Nat.{ℕ, suc, _+_, _-_, _*_, _≤_, _<_}
 use mathlib.Core.Bool.{Bool, true, false}
 use mathlib.Core.List.{List}
 use mathlib.Core.Option.{Option, none, some}
-use mathlib.Core.Path.{_≡_, refl, sym, _∙_}
+use mathlib.Core.Path.{_≡_, refl, _∙_}
 use native.Mathlib.Omega.{arith}
 use lib.Dec.{eqb, ltb, leb}
 use lib.ListN.{length, take, drop}
 use borrow.Author.Tests.{ltb-false, leb-true}
 use Rattle.gregorian.proofs.DayLaws.{Parts, parts-of, day-above, day-below}
-use Rattle.gregorian.proofs.YearLaws.{first-suc, first-mono, first-cycle, first-zero, cycle-length}
+use Rattle.gregorian.proofs.YearLaws.{first-suc, first-mono, first-cycle, first-zero}
 use Rattle.gregorian.specs.Days.{isDate, dayOf}
 use Rattle.gregorian.specs.Year.{isLeap, yearLength, leapYears, firstOfYear}
 use Rattle.signed.specs.Choose.{if_then_else_}
@@ -27,8 +27,9 @@ use Rattle.duration.specs.declared.Span.the-variants as span
 use Rattle.duration_grammar.specs.Grammar.{isDuration}
 use Rattle.event.specs.Properties.{fromLocal, fromSpan, noLength, dateTime, readStart, readUntil, readLength}
 use Rattle.event.specs.Reading.{Reading, wrong, orWrong}
-use Rattle.event.specs.Types.{Length}
-use Rattle.event.specs.Values.{word}
+use Rattle.event.specs.Types.{Text, Length}
+use Rattle.event.specs.Values.{string, ofWord}
+use Rattle.json_walk.specs.Strings.{slashed}
 
 pub record Within (low high x : ℕ) : Type 0 where
   pub from : low ≤ x
@@ -89,35 +90,43 @@ local-seconds end s e =
     record { from = omega arith; to = omega arith }
 
 -- No fault is 0, so that what has the fault 0 was read.
-pub six-zero : {P : Type 0} → _≡_ {A = ℕ} 6 0 → P
-six-zero e = absurd (omega arith)
+pub some-zero : {P : Type 0} (n : ℕ) → suc n ≡ 0 → P
+some-zero n e = absurd (omega arith)
 
 fraction-fault : {P : Type 0} (s : List ℕ) → fractionFault s ≡ 0 → P
 unfolding fractionFault
 fraction-fault s e = go (eqb (byte s 19) 0x2E) (legalFraction (drop 20 s)) e
   where
-    go : {P : Type 0} (c d : Bool) → _≡_ {A = ℕ} (if c then (if d then 8 else 6) else 6) 0 → P
+    go : {P : Type 0} (c d : Bool) → _≡_ {A = ℕ} (if c then (if d then 8 else 21) else 21) 0 → P
     go true true e = absurd (omega arith)
-    go true false e = six-zero e
-    go false d e = six-zero e
+    go true false e = absurd (omega arith)
+    go false d e = absurd (omega arith)
 
 local-range : (end : ℕ) (s : List ℕ) → fromLocal (localOf end s) .fault ≡ 0
     → Within 31622400 (86400 * firstOfYear (suc (end - 1600))) (fromLocal (localOf end s) .value)
 unfolding localOf
 local-range end s = go (isLocal end s) (eqb (length s) 19) refl
   where
-    go : (c d : Bool) → isLocal end s ≡ c → fromLocal (if c then (if d then local.At (secondsAt s) else local.Fault (fractionFault s)) else local.Fault 6) .fault ≡ 0
-        → Within 31622400 (86400 * firstOfYear (suc (end - 1600))) (fromLocal (if c then (if d then local.At (secondsAt s) else local.Fault (fractionFault s)) else local.Fault 6) .value)
+    go : (c d : Bool) → isLocal end s ≡ c → fromLocal (if c then (if d then local.At (secondsAt s) else local.Fault (fractionFault s)) else local.Fault 21) .fault ≡ 0
+        → Within 31622400 (86400 * firstOfYear (suc (end - 1600))) (fromLocal (if c then (if d then local.At (secondsAt s) else local.Fault (fractionFault s)) else local.Fault 21) .value)
     go true true p e = local-seconds end s p
     go true false p e = fraction-fault s e
-    go false d p e = six-zero e
+    go false d p e = absurd (omega arith)
 
 -- What was read of a word without a fault.
-word-range : {A : Type 0} (P : A → Type 0) (a : A) (f : List ℕ → Reading A) → ((raw : List ℕ) → f raw .fault ≡ 0 → P (f raw .value)) → (w : Option (List ℕ))
-    → orWrong a f w .fault ≡ 0 → P (orWrong a f w .value)
-unfolding orWrong
-word-range P a f h none e = six-zero e
-word-range P a f h (some raw) e = h raw e
+word-range : {A : Type 0} (P : A → Type 0) (a : A) (f : List ℕ → Reading A) → ((raw : List ℕ) → f raw .fault ≡ 0 → P (f raw .value)) → (v : Json)
+    → ofWord a f v .fault ≡ 0 → P (ofWord a f v .value)
+unfolding ofWord orWrong
+word-range P a f h v = go (string v)
+  where
+    pick : (c : Bool) (raw : List ℕ) → (if c then wrong a 26 else f raw) .fault ≡ 0 → P ((if c then wrong a 26 else f raw) .value)
+    pick true raw e = absurd (omega arith)
+    pick false raw e = h raw e
+
+    go : (t : Option Text) → orWrong a 20 (λ (t : Text). if slashed (t .raw) then wrong a 26 else f (t .raw)) t .fault ≡ 0
+        → P (orWrong a 20 (λ (t : Text). if slashed (t .raw) then wrong a 26 else f (t .raw)) t .value)
+    go none e = absurd (omega arith)
+    go (some t) e = pick (slashed (t .raw)) (t .raw) e
 
 -- Days 366 to 3,067,671, and for `until` to 3,068,036.
 pub date-range : (raw : List ℕ) → dateTime raw .fault ≡ 0 → Within (366 * 86400) (3067672 * 86400) (dateTime raw .value)
@@ -128,13 +137,13 @@ date-range raw e =
 
 pub start-range : (v : Json) → readStart v .fault ≡ 0 → Within (366 * 86400) (3067672 * 86400) (readStart v .value)
 unfolding readStart
-start-range v = word-range (λ x. Within (366 * 86400) (3067672 * 86400) x) 0 dateTime date-range (word v)
+start-range v = word-range (λ x. Within (366 * 86400) (3067672 * 86400) x) 0 dateTime date-range v
 
 pub until-range : (v : Json) → readUntil v .fault ≡ 0 → Within (366 * 86400) (3068037 * 86400) (readUntil v .value)
 unfolding readUntil
 until-range v =
     word-range (λ x. Within (366 * 86400) (3068037 * 86400) x) 0 (λ raw. fromLocal (localOf 9999 raw))
-    (λ raw e. let w : Within 31622400 (86400 * firstOfYear 8400) (fromLocal (localOf 9999 raw) .value) = local-range 9999 raw e in record { from = omega arith; to = omega (arith, first-10000) }) (word v)
+    (λ raw e. let w : Within 31622400 (86400 * firstOfYear 8400) (fromLocal (localOf 9999 raw) .value) = local-range 9999 raw e in record { from = omega arith; to = omega (arith, first-10000) }) v
 
 -- A length is at most 366 days of 86,400 seconds; where there is a fault it is 0.
 abbrev pub Short : Length → Type 0
@@ -144,7 +153,7 @@ whole-range : (s : List ℕ) → Short (fromSpan (wholeOf s) .value)
 unfolding wholeOf
 whole-range s = go (ltb limit (86400 * daysOf s + secondsOf 0x53 s)) refl
   where
-    go : (c : Bool) → ltb limit (86400 * daysOf s + secondsOf 0x53 s) ≡ c → Short (fromSpan (if c then span.Fault 6 else span.Of (daysOf s) (secondsOf 0x53 s)) .value)
+    go : (c : Bool) → ltb limit (86400 * daysOf s + secondsOf 0x53 s) ≡ c → Short (fromSpan (if c then span.Fault 22 else span.Of (daysOf s) (secondsOf 0x53 s)) .value)
     go true e = omega arith
     go false e = let h : 86400 * daysOf s + secondsOf 0x53 s ≤ limit = ltb-false _ _ e in omega arith
 
@@ -153,7 +162,7 @@ unfolding fractionOf
 fraction-range s =
     go (legalFraction (take (length s - 1 - (pointAt s + 1)) (drop (pointAt s + 1) s))) (leb limit (86400 * daysOf s + secondsOf 0x2E s))
   where
-    go : (c d : Bool) → Short (fromSpan (if c then (if d then span.Fault 6 else span.Fault 8) else span.Fault 6) .value)
+    go : (c d : Bool) → Short (fromSpan (if c then (if d then span.Fault 22 else span.Fault 8) else span.Fault 22) .value)
     go true true = omega arith
     go true false = omega arith
     go false d = omega arith
@@ -162,15 +171,19 @@ span-range : (s : List ℕ) → Short (fromSpan (lengthOf s) .value)
 unfolding lengthOf
 span-range s = go (isDuration s) (ltb (pointAt s) (length s))
   where
-    go : (c d : Bool) → Short (fromSpan (if c then (if d then fractionOf s else wholeOf s) else span.Fault 6) .value)
+    go : (c d : Bool) → Short (fromSpan (if c then (if d then fractionOf s else wholeOf s) else span.Fault 22) .value)
     go true true = fraction-range s
     go true false = whole-range s
     go false d = omega arith
 
 pub length-range : (v : Json) → Short (readLength v .value)
-unfolding readLength orWrong
-length-range v = go (word v)
+unfolding readLength ofWord orWrong
+length-range v = go (string v)
   where
-    go : (w : Option (List ℕ)) → Short (orWrong noLength (λ raw. fromSpan (lengthOf raw)) w .value)
+    pick : (c : Bool) (raw : List ℕ) → Short ((if c then wrong noLength 26 else fromSpan (lengthOf raw)) .value)
+    pick true raw = omega arith
+    pick false raw = span-range raw
+
+    go : (t : Option Text) → Short (orWrong noLength 20 (λ (t : Text). if slashed (t .raw) then wrong noLength 26 else fromSpan (lengthOf (t .raw))) t .value)
     go none = omega arith
-    go (some raw) = span-range raw
+    go (some t) = pick (slashed (t .raw)) (t .raw)

@@ -1,9 +1,9 @@
 -- A string by its place is the tree's.
-use Prim.Native.Nat.{ℕ, zero, suc, _+_, _-_}
-use mathlib.Core.Bool.{Bool, true, false, not}
+use Prim.Native.Nat.{ℕ, _+_, _-_}
+use mathlib.Core.Bool.{Bool, true, false}
 use mathlib.Core.List.{List, []}
-use mathlib.Core.Option.{Option, none, some}
-use mathlib.Core.Path.{_≡_, refl, ap, sym, _∙_}
+use mathlib.Core.Option.{none, some}
+use mathlib.Core.Path.{_≡_, refl}
 use native.Mathlib.Omega.{arith}
 use lib.Dec.{eqb}
 use borrow.Author.Tests.{eqb-true}
@@ -13,9 +13,8 @@ use Rattle.json_walk.specs.Strings.{bytesAt, rawAt, slashed}
 use Rattle.json_tree.proofs.Trees.{choose, always}
 use Rattle.json_tree.specs.Tree.{treeAt}
 use Rattle.json_tree.specs.Inner.Kinds.{kindAt}
-use Rattle.event.specs.Types.{Text}
-use Rattle.event.specs.Values.{isNull, string, plain, word}
-use Rattle.property.specs.Inner.Words.{wordAt, isWordAt}
+use Rattle.event.specs.Values.{isNull, string}
+use Rattle.property.specs.Inner.Words.{wordAt}
 use Rattle.property.proofs.Shapes.{isStringKind, isNullKind, string-kind, null-kind}
 
 -- What was read to no place has no bytes, and so no backslash.
@@ -56,13 +55,3 @@ null-tree l s i = rw (← (null-letter s i)) (null-kind l s i)
 pub string-text : (l : ℕ) (s : List ℕ) (i : ℕ)
     → string (treeAt l s i) ≡ (if eqb (byte s i) 0x22 then some (record { at = i + 1; raw = wordAt s i }) else none)
 string-text l s i = rw (← (quoted s i)) (string-kind l s i)
-
-pub word-tree : (l : ℕ) (s : List ℕ) (i : ℕ) → word (treeAt l s i) ≡ (if isWordAt s i then some (wordAt s i) else none)
-unfolding word plain isWordAt
-word-tree l s i = rw (string-text l s i) (go (eqb (byte s i) 0x22) (slashed (wordAt s i)) refl)
-  where
-    go : (q c : Bool) → slashed (wordAt s i) ≡ c
-        → plain (if q then some (record { at = i + 1; raw = wordAt s i }) else none) ≡ (if (if q then not (slashed (wordAt s i)) else false) then some (wordAt s i) else none)
-    go true true e = rw e
-    go true false e = rw e
-    go false c e = refl

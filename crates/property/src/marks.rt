@@ -6,8 +6,8 @@ ghost use Rattle.event.specs.Properties.{fromStatus, readBusy, readBoolean, rea
 ghost use Rattle.property.specs.Inner.From.{fromFlag, fromSetting};
 use crate::Flag;
 use crate::Setting;
-use crate::strings::is_word;
 use crate::strings::word;
+use crate::strings::word_fault;
 use json_tree::Kind;
 use json_tree::kinds::kind;
 use keywords::FreeBusy;
@@ -17,8 +17,9 @@ use keywords::marks::privacy;
 pub fn read_busy(text: &[u8], at: usize) -> FreeBusy
     ensures { λ r. ⌜ ((l : ℕ) → fromStatus r ≡ readBusy (treeAt l (now (text .entry)) at)) ⌝ }
 {
-    if !is_word(text, at) {
-        return FreeBusy::Fault(6);
+    let wrong = word_fault(text, at);
+    if wrong != 0 {
+        return FreeBusy::Fault(wrong);
     }
     free_busy(word(text, at))
 }
@@ -29,19 +30,20 @@ pub fn read_boolean(text: &[u8], at: usize) -> Flag
     match kind(text, at) {
         Kind::False => Flag::Is(false),
         Kind::True => Flag::Is(true),
-        Kind::Null => Flag::Fault(6),
-        Kind::Number => Flag::Fault(6),
-        Kind::String => Flag::Fault(6),
-        Kind::Array => Flag::Fault(6),
-        Kind::Object => Flag::Fault(6),
+        Kind::Null => Flag::Fault(20),
+        Kind::Number => Flag::Fault(20),
+        Kind::String => Flag::Fault(20),
+        Kind::Array => Flag::Fault(20),
+        Kind::Object => Flag::Fault(20),
     }
 }
 
 pub fn read_privacy(text: &[u8], at: usize) -> Setting
     ensures { λ r. ⌜ ((l : ℕ) → fromSetting r ≡ readPrivacy (treeAt l (now (text .entry)) at)) ⌝ }
 {
-    if !is_word(text, at) {
-        return Setting::Fault(6);
+    let wrong = word_fault(text, at);
+    if wrong != 0 {
+        return Setting::Fault(wrong);
     }
     Setting::Is(privacy(word(text, at)))
 }

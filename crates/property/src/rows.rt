@@ -1,14 +1,21 @@
 // The members of an object in a row: for each number of a name the place of its value, 0 where there is none. One walk serves all names.
 ghost use mathlib.Core.Path.{_≡_};
-ghost use Prim.Native.Nat.{_+_, _≤_};
+ghost use Prim.Native.Nat.{ℕ, _+_, _≤_};
 ghost use lib.ListN.{length};
 ghost use Rattle.json_ends.specs.Inner.Ends.{Ends};
 ghost use Rattle.json_walk.specs.Walk.{firstMemberAt, membersOf};
 ghost use Rattle.json_tree.specs.Inner.Members.{findIn};
+ghost use Rattle.fault.specs.Fault.{faultsAt, first as Fault·first, lower as Fault·lower};
+ghost use Rattle.event.specs.Reading.{placeIn};
+ghost use Rattle.event.specs.Values.{member};
+ghost use Rattle.property.specs.Inner.From.{fieldsIn};
 ghost use Rattle.property.specs.Inner.Vocabulary.{wordOf};
 ghost use Rattle.property.specs.Inner.Rows.{Blank, RowTo, noted, placed};
 use crate::Place;
 use crate::vocabulary::number_of;
+use fault::First;
+use fault::fault_at;
+use fault::lower;
 use json_ends::objects::first_member;
 use json_ends::objects::next_member;
 use json_walk::MemberStep;
@@ -64,4 +71,33 @@ pub fn place(text: &[u8], at: usize, row: &[usize], w: usize) -> Place
         return Place::None;
     }
     Place::At(i)
+}
+
+// The fault of a member that was judged with a number, 0 being none, joined with others: it stands at its value, or at the object where there is no
+// such member. Most members have none, and then nothing is copied.
+pub fn join_in(text: &[u8], at: usize, row: &[usize], w: usize, number: u32, others: First) -> First
+    requires { ⌜ RowTo (w + 1) (now text) at (now row) ⌝ }
+    ensures { λ r. ⌜ ((l : ℕ) → r ≡ Fault·lower (Fault·first (faultsAt number (placeIn at (member (wordOf w) (fieldsIn l (now (text .entry)) at))))) others) ⌝ }
+{
+    if number == 0 {
+        return others;
+    }
+    match place(text, at, row, w) {
+        Place::At(i) => lower(fault_at(number, i), others),
+        Place::None => lower(fault_at(number, at), others),
+    }
+}
+
+// The fault of a member that was judged with a number, 0 being none: it stands at its value, or at the object where there is no such member.
+pub fn fault_in(text: &[u8], at: usize, row: &[usize], w: usize, number: u32) -> First
+    requires { ⌜ RowTo (w + 1) (now text) at (now row) ⌝ }
+    ensures { λ r. ⌜ ((l : ℕ) → r ≡ Fault·first (faultsAt number (placeIn at (member (wordOf w) (fieldsIn l (now (text .entry)) at))))) ⌝ }
+{
+    if number == 0 {
+        return First::None;
+    }
+    match place(text, at, row, w) {
+        Place::At(i) => fault_at(number, i),
+        Place::None => fault_at(number, at),
+    }
 }

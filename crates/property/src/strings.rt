@@ -1,23 +1,28 @@
 // Strings by their place.
 ghost use mathlib.Core.Path.{_≡_};
-ghost use Rattle.property.specs.Inner.Words.{isWordAt, wordAt};
+ghost use Rattle.property.specs.Inner.Words.{wordFaultAt, wordAt};
 use json_text::Read;
 use json_text::bytes::byte;
 use json_text::strings::string;
 use json_tree::raws::raw;
 use json_walk::strings::has_backslash;
 
-// Is the value at a place a string without a backslash?
-pub fn is_word(text: &[u8], at: usize) -> bool
-    ensures { λ r. ⌜ r ≡ isWordAt (now (text .entry)) at ⌝ }
+// What keeps the value at a place from being a string without a backslash: 20, 26, or 0 for nothing.
+pub fn word_fault(text: &[u8], at: usize) -> u32
+    ensures { λ r. ⌜ r ≡ wordFaultAt (now (text .entry)) at ⌝ }
 {
     if byte(text, at) != 0x22 {
-        return false;
+        return 20;
     }
     match string(text, at) {
-        Read::To(stop) => !has_backslash(text, at, stop),
-        Read::Bad => true,
-        Read::Deep => true,
+        Read::To(stop) => {
+            if has_backslash(text, at, stop) {
+                return 26;
+            }
+            0
+        }
+        Read::Bad => 0,
+        Read::Deep => 0,
     }
 }
 

@@ -13,5 +13,5 @@ pub fn read_text(text: &[u8], at: usize) -> Passage
     if byte(text, at) == 0x22 {
         return Passage::At(at);
     }
-    Passage::Fault(6)
+    Passage::Fault(20)
 }

@@ -1,4 +1,5 @@
 pub mod ReadLaws
+pub mod WordLaws
 pub mod IntegerLaws
 pub mod EntryLaws
 pub mod ListLaws

@@ -2,7 +2,6 @@
 use Prim.Native.Nat.{ℕ, _-_, _≤_, _<_}
 use mathlib.Core.Bool.{Bool, true, false}
 use mathlib.Core.List.{List}
-use mathlib.Core.Option.{Option, none, some}
 use mathlib.Core.Path.{_≡_, refl}
 use native.Mathlib.Omega.{arith}
 use lib.Dec.{eqb, ltb, leb}
@@ -15,10 +14,10 @@ use Rattle.keywords.specs.declared.Named.{Named}
 use Rattle.keywords.specs.declared.Named.the-variants.{Number, Wrong}
 use Rattle.keywords.specs.Months.{monthWritten, monthOf}
 use Rattle.json_tree.specs.Tree.{Json}
-use Rattle.event.specs.Values.{word}
-use Rattle.event.specs.Reading.{orWrong}
+use Rattle.event.specs.Reading.{Reading}
 use Rattle.event.specs.Rules.{fromNamed, readMonth}
 use Rattle.rule_text.specs.Inner.Bounds.{MonthIn}
+use Rattle.rule_text.proofs.WordLaws.{word-holds}
 
 -- Wrong numbers are no fault 0, and a number is a month.
 pub record NamedMonth (x : Named) : Type 0 where
@@ -63,16 +62,11 @@ month-named : (s : List ℕ) → NamedMonth (monthOf s)
 unfolding monthOf
 month-named s =
     written-month s _ _ refl
-    (month-choice (eqb (length s) 0) (Wrong 6) _ (no-month 6 (omega arith))
-    (month-choice (eqb (byte s (length s - 1)) 0x4C) _ (Wrong 6)
-    (month-choice (leb 1 (monthWritten (take (length s - 1) s))) (Wrong 8) (Wrong 6) (no-month 8 (omega arith)) (no-month 6 (omega arith)))
-    (no-month 6 (omega arith))))
-
-month-word : (w : Option (List ℕ)) → orWrong 0 (λ raw. fromNamed (monthOf raw)) w .fault ≡ 0 → MonthIn (orWrong 0 (λ raw. fromNamed (monthOf raw)) w .value)
-unfolding orWrong
-month-word none e = absurd (omega arith)
-month-word (some raw) e = month-named raw .month e
+    (month-choice (eqb (length s) 0) (Wrong 24) _ (no-month 24 (omega arith))
+    (month-choice (eqb (byte s (length s - 1)) 0x4C) _ (Wrong 24)
+    (month-choice (leb 1 (monthWritten (take (length s - 1) s))) (Wrong 8) (Wrong 24) (no-month 8 (omega arith)) (no-month 24 (omega arith)))
+    (no-month 24 (omega arith))))
 
 pub month-in : (v : Json) → readMonth v .fault ≡ 0 → MonthIn (readMonth v .value)
 unfolding readMonth
-month-in v e = month-word (word v) e
+month-in v = word-holds (λ (r : Reading ℕ). r .fault ≡ 0 → MonthIn (r .value)) 0 (λ raw. fromNamed (monthOf raw)) (λ e. absurd (omega arith)) (λ e. absurd (omega arith)) (λ raw. month-named raw .month) v

@@ -4,7 +4,7 @@ use mathlib.Core.Path.{_≡_, refl}
 use native.Mathlib.Omega.{arith}
 use Rattle.json_tree.specs.Tree.{Json}
 use Rattle.event.specs.Properties.{readUntil}
-use Rattle.event.specs.Rules.{maybe}
+use Rattle.event.specs.Reading.{maybe}
 use Rattle.property.proofs.Ranges.{until-range}
 use Rattle.rule_text.specs.Inner.Bounds.{Given, TimeIn}
 

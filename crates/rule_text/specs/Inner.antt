@@ -4,3 +4,4 @@ pub mod Members
 pub mod Parts
 pub mod Places
 pub mod Reads
+pub mod Types

@@ -11,6 +11,7 @@ ghost use Rattle.rule_text.specs.Inner.Reads.{entriesAt};
 ghost use Rattle.rule_text.specs.Inner.Lists.{isSome, DayReads, DayEntries};
 use crate::DayRead;
 use crate::DaysListed;
+use crate::Object;
 use crate::entries::put;
 use crate::entries::put_name;
 use crate::members::day_in;
@@ -18,12 +19,18 @@ use crate::members::nth_in;
 use crate::members::type_in;
 use crate::spelled::fault_of;
 use crate::spelled::number_of;
+use fault::First;
 use fault::lower;
 use json_ends::arrays::first_element;
 use json_ends::arrays::next_element;
 use json_text::bytes::byte;
 use json_walk::ElementStep;
+use property::rows::fault_in;
 use property::rows::fill;
+use property::rows::join_in;
+use property::vocabulary::DAY;
+use property::vocabulary::NTH;
+use property::vocabulary::TYPE;
 use signed::negative_part;
 use signed::positive_part;
 
@@ -36,18 +43,20 @@ fn read_nday(text: &[u8], ends: &[u32], at: usize) -> DayRead
         return DayRead {
             weekday: 0,
             nth: 0,
-            fault: 6,
+            fault: First::At(20, at),
         };
     }
     let mut row = [0usize; 3];
     fill(text, ends, at, &mut row);
     let day = day_in(text, at, &row);
     let nth = nth_in(text, at, &row);
-    let others = lower(fault_of(day), nth.fault);
+    let kind = type_in(text, at, &row, Object::Day);
+    let place = fault_in(text, at, &row, NTH, nth.fault);
+    let others = join_in(text, at, &row, DAY, fault_of(day), place);
     DayRead {
         weekday: number_of(day),
         nth: nth.value,
-        fault: lower(type_in(text, at, &row, b"NDay"), others),
+        fault: join_in(text, at, &row, TYPE, kind, others),
     }
 }
 
@@ -78,7 +87,7 @@ pub(crate) fn day_entries(
     let mut n = text.len();
     let mut count = 0;
     let mut nth = false;
-    let mut fault = 0;
+    let mut fault = First::None;
     while 0 < n {
         match step {
             ElementStep::Next(e) => {
@@ -86,7 +95,8 @@ pub(crate) fn day_entries(
                 put_name(weekdays, count, one.weekday);
                 put(nths, count, one.nth);
                 nth = or_nth(nth, one.nth);
-                fault = lower(fault, one.fault);
+                let f = one.fault;
+                fault = lower(fault, f);
                 step = next_element(text, ends, e.after);
             }
             ElementStep::Stop => return DaysListed { count, nth, fault },

@@ -6,6 +6,8 @@ ghost use Rattle.rule_text.specs.Inner.Parts.{EndsRead};
 use crate::Ending;
 use crate::numbers::count;
 use date_time::DateTime;
+use fault::First;
+use fault::fault_at;
 use fault::lower;
 use property::Place;
 use property::dates::read_until;
@@ -43,15 +45,16 @@ pub(crate) fn read_ends(text: &[u8], at: usize, row: &[usize]) -> Ending
             let n = count(text, c);
             match until {
                 Place::At(u) => {
-                    let x = until_fault(read_until(text, u));
+                    let x = fault_at(until_fault(read_until(text, u)), u);
+                    let y = fault_at(n.fault, c);
                     Ending {
                         end: End::Never,
-                        fault: lower(x, lower(n.fault, 7)),
+                        fault: lower(x, lower(y, First::At(7, at))),
                     }
                 }
                 Place::None => Ending {
                     end: End::Count(n.value),
-                    fault: n.fault,
+                    fault: fault_at(n.fault, c),
                 },
             }
         }
@@ -60,12 +63,12 @@ pub(crate) fn read_ends(text: &[u8], at: usize, row: &[usize]) -> Ending
                 let x = read_until(text, u);
                 Ending {
                     end: End::Until(until_time(x)),
-                    fault: until_fault(x),
+                    fault: fault_at(until_fault(x), u),
                 }
             }
             Place::None => Ending {
                 end: End::Never,
-                fault: 0,
+                fault: First::None,
             },
         },
     }

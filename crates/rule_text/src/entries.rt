@@ -3,6 +3,7 @@ ghost use mathlib.Core.Path.{_≡_};
 ghost use Prim.Native.Nat.{_<_};
 ghost use lib.ListN.{length, set};
 ghost use Rattle.json_ends.specs.Inner.Ends.{Ends};
+ghost use Rattle.event.specs.Reading.{entry};
 ghost use Rattle.event.specs.Rules.{readSigned, readMonth};
 ghost use Rattle.rule_text.specs.Inner.Reads.{entriesAt, Entries};
 use crate::Listed;
@@ -10,7 +11,8 @@ use crate::numbers::signed_up_to;
 use crate::spelled::fault_of;
 use crate::spelled::number_of;
 use crate::spelled::read_month;
-use fault::lower;
+use fault::First;
+use fault::join_at;
 use json_ends::arrays::first_element;
 use json_ends::arrays::next_element;
 use json_walk::ElementStep;
@@ -42,18 +44,18 @@ pub(crate) fn signed_entries(
     list: &mut [i64],
 ) -> Listed
     requires { ⌜ (at < length (now text)) × Ends (now text) (now ends) ⌝ }
-    ensures { λ r. ⌜ Entries (λ l. entriesAt (readSigned most) l (now (text .entry)) at) (now (list .entry)) (now (list .exit)) (r .count) (r .fault) ⌝ }
+    ensures { λ r. ⌜ Entries (λ l. entriesAt (entry (readSigned most)) l (now (text .entry)) at) (now (list .entry)) (now (list .exit)) (r .count) (r .fault) ⌝ }
 {
     let mut step = first_element(text, ends, at);
     let mut n = text.len();
     let mut count = 0;
-    let mut fault = 0;
+    let mut fault = First::None;
     while 0 < n {
         match step {
             ElementStep::Next(e) => {
                 let one = signed_up_to(text, e.value, most);
                 put(list, count, one.value);
-                fault = lower(fault, one.fault);
+                fault = join_at(fault, one.fault, e.value);
                 step = next_element(text, ends, e.after);
             }
             ElementStep::Stop => return Listed { count, fault },
@@ -66,18 +68,18 @@ pub(crate) fn signed_entries(
 
 pub(crate) fn month_entries(text: &[u8], ends: &[u32], at: usize, list: &mut [u32]) -> Listed
     requires { ⌜ (at < length (now text)) × Ends (now text) (now ends) ⌝ }
-    ensures { λ r. ⌜ Entries (λ l. entriesAt readMonth l (now (text .entry)) at) (now (list .entry)) (now (list .exit)) (r .count) (r .fault) ⌝ }
+    ensures { λ r. ⌜ Entries (λ l. entriesAt (entry readMonth) l (now (text .entry)) at) (now (list .entry)) (now (list .exit)) (r .count) (r .fault) ⌝ }
 {
     let mut step = first_element(text, ends, at);
     let mut n = text.len();
     let mut count = 0;
-    let mut fault = 0;
+    let mut fault = First::None;
     while 0 < n {
         match step {
             ElementStep::Next(e) => {
                 let one = read_month(text, e.value);
                 put_name(list, count, number_of(one));
-                fault = lower(fault, fault_of(one));
+                fault = join_at(fault, fault_of(one), e.value);
                 step = next_element(text, ends, e.after);
             }
             ElementStep::Stop => return Listed { count, fault },

@@ -4,14 +4,20 @@ ghost use Rattle.property.specs.Inner.Rows.{RowTo};
 ghost use Rattle.event.specs.Rules.{fromRate};
 ghost use Rattle.rule_text.specs.Inner.Parts.{HeadRead};
 use crate::Head;
+use crate::Object;
 use crate::members::first_in;
 use crate::members::frequency_in;
 use crate::members::interval_in;
 use crate::members::type_in;
 use crate::spelled::fault_of;
 use crate::spelled::number_of;
-use fault::lower;
 use keywords::Rate;
+use property::rows::fault_in;
+use property::rows::join_in;
+use property::vocabulary::FIRST_DAY;
+use property::vocabulary::FREQUENCY;
+use property::vocabulary::INTERVAL;
+use property::vocabulary::TYPE;
 use rule::Frequency;
 
 fn frequency_of(x: Rate) -> Frequency
@@ -45,12 +51,14 @@ pub(crate) fn read_head(text: &[u8], at: usize, row: &[usize]) -> Head
     let rate = frequency_in(text, at, row);
     let interval = interval_in(text, at, row);
     let first = first_in(text, at, row);
-    let week = lower(interval.fault, fault_of(first));
-    let rest = lower(rate_fault(rate), week);
+    let kind = type_in(text, at, row, Object::Rule);
+    let week = fault_in(text, at, row, FIRST_DAY, fault_of(first));
+    let step = join_in(text, at, row, INTERVAL, interval.fault, week);
+    let often = join_in(text, at, row, FREQUENCY, rate_fault(rate), step);
     Head {
         frequency: frequency_of(rate),
         interval: interval.value,
         first: number_of(first),
-        fault: lower(type_in(text, at, row, b"RecurrenceRule"), rest),
+        fault: join_in(text, at, row, TYPE, kind, often),
     }
 }

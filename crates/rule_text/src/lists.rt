@@ -7,6 +7,7 @@ ghost use Rattle.property.specs.Inner.Vocabulary.{wordOf};
 ghost use Rattle.json_walk.specs.Walk.{membersOf};
 ghost use Rattle.json_tree.specs.Inner.Members.{findIn};
 ghost use Rattle.json_text.specs.Ascii.{ascii};
+ghost use Rattle.event.specs.Reading.{entry};
 ghost use Rattle.event.specs.Rules.{readSigned, readMonth, readNDay, byList};
 ghost use Rattle.rule_text.specs.Inner.Members.{memberAt};
 ghost use Rattle.rule_text.specs.Inner.Reads.{Entries};
@@ -17,6 +18,7 @@ use crate::Place;
 use crate::days::day_entries;
 use crate::entries::month_entries;
 use crate::entries::signed_entries;
+use fault::First;
 use fault::lower;
 use json_text::bytes::byte;
 use property::rows::place;
@@ -29,25 +31,25 @@ fn list_in(text: &[u8], at: usize, row: &[usize], word: usize) -> Place
     ensures { λ r. ⌜ Placed (now (text .entry)) (placed (findIn (now (text .entry)) (wordOf word) (membersOf (now (text .entry)) at))) r ⌝ }
 {
     match place(text, at, row, word) {
-        property::Place::At(i) => {
-            if byte(text, i) == 0x5B {
-                return Place::At(i);
+        property::Place::At(value) => {
+            if byte(text, value) == 0x5B {
+                return Place::At(value);
             }
-            Place::Wrong
+            Place::Wrong(value)
         }
         property::Place::None => Place::Absent,
     }
 }
 
-// The fault of a list with so many entries, whose own lowest fault is given.
-fn list_fault(count: usize, fault: u32) -> u32
-    ensures { λ r. ⌜ r ≡ listFault count fault ⌝ }
+// The fault of a list with so many entries at a place, of whose entries' own the one that decides is given.
+fn list_fault(count: usize, at: usize, fault: First) -> First
+    ensures { λ r. ⌜ r ≡ listFault count at fault ⌝ }
 {
     if count == 0 {
-        return 6;
+        return First::At(25, at);
     }
     if 64 < count {
-        return lower(fault, 9);
+        return lower(fault, First::At(9, at));
     }
     fault
 }
@@ -63,18 +65,25 @@ pub(crate) fn signed_list(
     list: &mut [i64],
 ) -> Listed
     requires { ⌜ Ends (now text) (now ends) × RowTo (word + 1) (now text) at (now row) ⌝ }
-    ensures { λ r. ⌜ Entries (λ l. byList (readSigned most) (memberAt (suc l) (now (text .entry)) at (wordOf word))) (now (list .entry)) (now (list .exit)) (r .count) (r .fault) ⌝ }
+    ensures { λ r. ⌜ Entries (λ l. byList (entry (readSigned most)) (memberAt (suc l) (now (text .entry)) at (wordOf word))) (now (list .entry)) (now (list .exit)) (r .count) (r .fault) ⌝ }
 {
     match list_in(text, at, row, word) {
         Place::At(i) => {
             let all = signed_entries(text, ends, i, most, list);
+            let f = all.fault;
             Listed {
                 count: all.count,
-                fault: list_fault(all.count, all.fault),
+                fault: list_fault(all.count, i, f),
             }
         }
-        Place::Absent => Listed { count: 0, fault: 0 },
-        Place::Wrong => Listed { count: 0, fault: 6 },
+        Place::Absent => Listed {
+            count: 0,
+            fault: First::None,
+        },
+        Place::Wrong(i) => Listed {
+            count: 0,
+            fault: First::At(20, i),
+        },
     }
 }
 
@@ -87,18 +96,25 @@ pub(crate) fn month_list(
     list: &mut [u32],
 ) -> Listed
     requires { ⌜ Ends (now text) (now ends) × RowTo 34 (now text) at (now row) ⌝ }
-    ensures { λ r. ⌜ Entries (λ l. byList readMonth (memberAt (suc l) (now (text .entry)) at (ascii "byMonth"))) (now (list .entry)) (now (list .exit)) (r .count) (r .fault) ⌝ }
+    ensures { λ r. ⌜ Entries (λ l. byList (entry readMonth) (memberAt (suc l) (now (text .entry)) at (ascii "byMonth"))) (now (list .entry)) (now (list .exit)) (r .count) (r .fault) ⌝ }
 {
     match list_in(text, at, row, BY_MONTH) {
         Place::At(i) => {
-            let all = month_entries(text, ends, i, list);
+            let months = month_entries(text, ends, i, list);
+            let f = months.fault;
             Listed {
-                count: all.count,
-                fault: list_fault(all.count, all.fault),
+                count: months.count,
+                fault: list_fault(months.count, i, f),
             }
         }
-        Place::Absent => Listed { count: 0, fault: 0 },
-        Place::Wrong => Listed { count: 0, fault: 6 },
+        Place::Absent => Listed {
+            count: 0,
+            fault: First::None,
+        },
+        Place::Wrong(i) => Listed {
+            count: 0,
+            fault: First::At(20, i),
+        },
     }
 }
 
@@ -116,22 +132,23 @@ pub(crate) fn day_list(
 {
     match list_in(text, at, row, BY_DAY) {
         Place::At(i) => {
-            let all = day_entries(text, ends, i, weekdays, nths);
+            let days = day_entries(text, ends, i, weekdays, nths);
+            let f = days.fault;
             DaysListed {
-                count: all.count,
-                nth: all.nth,
-                fault: list_fault(all.count, all.fault),
+                count: days.count,
+                nth: days.nth,
+                fault: list_fault(days.count, i, f),
             }
         }
         Place::Absent => DaysListed {
             count: 0,
             nth: false,
-            fault: 0,
+            fault: First::None,
         },
-        Place::Wrong => DaysListed {
+        Place::Wrong(i) => DaysListed {
             count: 0,
             nth: false,
-            fault: 6,
+            fault: First::At(20, i),
         },
     }
 }

@@ -4,14 +4,17 @@ ghost use mathlib.Core.Bool.{true};
 ghost use mathlib.Core.Path.{_≡_};
 ghost use Rattle.rule.specs.declared.Frequency.the-variants.{Yearly};
 ghost use Rattle.rule.specs.Inner.Read.{nthFrom};
+ghost use Rattle.fault.specs.Fault.{first, lower as Fault·lower};
 ghost use Rattle.json_text.specs.Ascii.{ascii};
-ghost use Rattle.event.specs.Reading.{optional, unsupported};
-ghost use Rattle.event.specs.Rules.{typed, required, fromRate, fromNamed, readFrequency, readCount, readWeekday, readNth, readScale, readSkip};
+ghost use Rattle.event.specs.Reading.{optional, required, unsupported};
+ghost use Rattle.event.specs.Rules.{fromRate, fromNamed, readFrequency, readCount, readWeekday, readNth, readScale, readSkip, readType};
 ghost use Rattle.rule_text.specs.Inner.Members.{memberAt};
 ghost use Rattle.rule_text.specs.Inner.Reads.{Reads};
+ghost use Rattle.rule_text.specs.Inner.Types.{typeOf};
 ghost use Rattle.property.specs.Inner.Rows.{RowTo};
 ghost use Rattle.property.specs.Inner.Vocabulary.{wordOf};
 use crate::Number;
+use crate::Object;
 use crate::Signed;
 use crate::numbers::count;
 use crate::numbers::signed_up_to;
@@ -20,6 +23,8 @@ use crate::spelled::read_scale;
 use crate::spelled::read_skip;
 use crate::spelled::read_type;
 use crate::spelled::read_weekday;
+use fault::First;
+use fault::lower;
 use keywords::Named;
 use keywords::Rate;
 use property::Place;
@@ -34,13 +39,13 @@ use property::vocabulary::SKIP;
 use property::vocabulary::TYPE;
 
 // The fault of the `@type`.
-pub(crate) fn type_in(text: &[u8], at: usize, row: &[usize], name: &[u8]) -> u32
+pub(crate) fn type_in(text: &[u8], at: usize, row: &[usize], object: Object) -> u32
     requires { ⌜ RowTo 3 (now text) at (now row) ⌝ }
-    ensures { λ r. ⌜ ((l : ℕ) → r ≡ typed (now (name .entry)) (memberAt l (now (text .entry)) at (ascii "@type"))) ⌝ }
+    ensures { λ r. ⌜ ((l : ℕ) → r ≡ required true (readType (typeOf object)) (memberAt l (now (text .entry)) at (ascii "@type")) .fault) ⌝ }
 {
     match place(text, at, row, TYPE) {
-        Place::At(i) => read_type(text, i, name),
-        Place::None => 6,
+        Place::At(i) => read_type(text, i, object),
+        Place::None => 26,
     }
 }
 
@@ -50,7 +55,7 @@ pub(crate) fn frequency_in(text: &[u8], at: usize, row: &[usize]) -> Rate
 {
     match place(text, at, row, FREQUENCY) {
         Place::At(i) => read_frequency(text, i),
-        Place::None => Rate::Fault(6),
+        Place::None => Rate::Fault(26),
     }
 }
 
@@ -80,7 +85,7 @@ pub(crate) fn day_in(text: &[u8], at: usize, row: &[usize]) -> Named
 {
     match place(text, at, row, DAY) {
         Place::At(i) => read_weekday(text, i),
-        Place::None => Named::Wrong(6),
+        Place::None => Named::Wrong(26),
     }
 }
 
@@ -115,13 +120,19 @@ pub(crate) fn skip_in(text: &[u8], at: usize, row: &[usize]) -> u32
     }
 }
 
-// The fault of a member that is unsupported as a whole.
-pub(crate) fn unsupported_in(text: &[u8], at: usize, row: &[usize], word: usize) -> u32
+// The fault of a member that is unsupported as a whole, joined with others.
+pub(crate) fn unsupported_in(
+    text: &[u8],
+    at: usize,
+    row: &[usize],
+    word: usize,
+    others: First,
+) -> First
     requires { ⌜ RowTo (word + 1) (now text) at (now row) ⌝ }
-    ensures { λ r. ⌜ ((l : ℕ) → r ≡ unsupported (memberAt l (now (text .entry)) at (wordOf word))) ⌝ }
+    ensures { λ r. ⌜ ((l : ℕ) → r ≡ Fault·lower (first (unsupported (memberAt l (now (text .entry)) at (wordOf word)))) others) ⌝ }
 {
     match place(text, at, row, word) {
-        Place::At(i) => 8,
-        Place::None => 0,
+        Place::At(i) => lower(First::At(8, i), others),
+        Place::None => others,
     }
 }

@@ -2,10 +2,10 @@
 ghost use Prim.Native.Nat.{_<_};
 ghost use mathlib.Core.Path.{_≡_};
 ghost use lib.ListN.{length, set};
+ghost use Rattle.fault.specs.declared.First.the-variants.{None};
 ghost use Rattle.json_ends.specs.Inner.Ends.{Ends};
 ghost use Rattle.rule_text.specs.Inner.Reads.{entriesAt, Entries};
 ghost use Rattle.rule_text.specs.Inner.Places.{readPlace, Places};
-use crate::Listed;
 use json_ends::arrays::first_element;
 use json_ends::arrays::next_element;
 use json_text::bytes::byte;
@@ -22,7 +22,7 @@ fn put_place(list: &mut [usize], at: usize, entry: usize)
 
 fn place_entries(text: &[u8], ends: &[u32], at: usize, list: &mut [usize]) -> usize
     requires { ⌜ (at < length (now text)) × Ends (now text) (now ends) ⌝ }
-    ensures { λ r. ⌜ Entries (λ l. entriesAt readPlace l (now (text .entry)) at) (now (list .entry)) (now (list .exit)) r 0 ⌝ }
+    ensures { λ r. ⌜ Entries (λ l. entriesAt readPlace l (now (text .entry)) at) (now (list .entry)) (now (list .exit)) r None ⌝ }
 {
     let mut step = first_element(text, ends, at);
     let mut n = text.len();

@@ -2,6 +2,7 @@
 ghost use Prim.Native.Nat.{ℕ, suc, _<_};
 ghost use mathlib.Core.Path.{_≡_};
 ghost use lib.ListN.{length};
+ghost use Rattle.fault.specs.Fault.{first};
 ghost use Rattle.json_ends.specs.Inner.Ends.{Ends};
 ghost use Rattle.json_tree.specs.Tree.{treeAt};
 ghost use Rattle.property.specs.Inner.Rows.{RowTo};
@@ -20,6 +21,7 @@ use crate::heads::read_head;
 use crate::others::join;
 use crate::others::nth_fault;
 use crate::others::other_fault;
+use fault::First;
 use fault::lower;
 use json_ends::arrays::first_element;
 use json_ends::arrays::next_element;
@@ -65,18 +67,15 @@ fn rule_by(text: &[u8], ends: &[u32], at: usize, row: &[usize]) -> Read
     let positions = numbers(text, ends, at, row, BY_SET_POSITION, 366);
     let ending = read_ends(text, at, row);
     let frequency = head.frequency;
-    let nth = nth_fault(frequency, days.any);
+    let nth = nth_fault(at, frequency, days.any);
     let other = other_fault(text, at, row);
-    let fault = join(
-        head.fault,
-        days.fault,
-        dates.fault,
-        year.fault,
-        positions.fault,
-        ending.fault,
-        nth,
-        other,
-    );
+    let h = head.fault;
+    let d = days.fault;
+    let m = dates.fault;
+    let y = year.fault;
+    let p = positions.fault;
+    let e = ending.fault;
+    let fault = join(h, d, m, y, p, e, nth, other);
     let named = days.weekdays;
     let nths = days.nths;
     let datelist = dates.list;
@@ -119,13 +118,13 @@ pub fn read_rule(text: &[u8], ends: &[u32], at: usize) -> Read
     if byte(text, at) != 0x7B {
         return Read {
             rule: stand_in(),
-            fault: 6,
+            fault: First::At(20, at),
         };
     }
     rule_in(text, ends, at)
 }
 
-// All rules of the array at a place: how many, and the lowest fault in them.
+// All rules of the array at a place: how many, and the fault that decides in them.
 fn rule_entries(text: &[u8], ends: &[u32], at: usize) -> Listed
     requires { ⌜ (at < length (now text)) × Ends (now text) (now ends) ⌝ }
     ensures { λ r. ⌜ Tally (λ l. entriesAt readRule (suc (suc (suc l))) (now (text .entry)) at) (r .count) (r .fault) ⌝ }
@@ -133,12 +132,13 @@ fn rule_entries(text: &[u8], ends: &[u32], at: usize) -> Listed
     let mut step = first_element(text, ends, at);
     let mut n = text.len();
     let mut count = 0;
-    let mut fault = 0;
+    let mut fault = First::None;
     while 0 < n {
         match step {
             ElementStep::Next(e) => {
                 let one = read_rule(text, ends, e.value);
-                fault = lower(fault, one.fault);
+                let f = one.fault;
+                fault = lower(fault, f);
                 step = next_element(text, ends, e.after);
             }
             ElementStep::Stop => return Listed { count, fault },
@@ -149,23 +149,25 @@ fn rule_entries(text: &[u8], ends: &[u32], at: usize) -> Listed
     Listed { count, fault }
 }
 
-fn limit(count: usize, fault: u32) -> u32
-    ensures { λ r. ⌜ r ≡ rulesFault count fault ⌝ }
+// The fault of a list with so many rules at a place, of whose rules' own the one that decides is given.
+fn limit(count: usize, at: usize, fault: First) -> First
+    ensures { λ r. ⌜ r ≡ rulesFault count at fault ⌝ }
 {
     if 8 < count {
-        return lower(fault, 9);
+        return lower(fault, First::At(9, at));
     }
     fault
 }
 
 // The fault of a list of rules.
-pub fn rules_fault(text: &[u8], ends: &[u32], at: usize) -> u32
+pub fn rules_fault(text: &[u8], ends: &[u32], at: usize) -> First
     requires { ⌜ Ends (now text) (now ends) ⌝ }
-    ensures { λ r. ⌜ ((l : ℕ) → r ≡ readRules (treeAt (suc (suc (suc (suc l)))) (now (text .entry)) at) .fault) ⌝ }
+    ensures { λ r. ⌜ ((l : ℕ) → r ≡ first (readRules (treeAt (suc (suc (suc (suc l)))) (now (text .entry)) at) .faults)) ⌝ }
 {
     if byte(text, at) != 0x5B {
-        return 6;
+        return First::At(20, at);
     }
     let all = rule_entries(text, ends, at);
-    limit(all.count, all.fault)
+    let f = all.fault;
+    limit(all.count, at, f)
 }

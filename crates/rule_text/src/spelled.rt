@@ -1,20 +1,23 @@
-// The words of a rule: a string with a backslash is none of them.
+// The words of a rule: a value that is no string, and a string with a backslash, is none of them.
 ghost use Prim.Native.Nat.{ℕ};
-ghost use mathlib.Core.Option.{some};
 ghost use mathlib.Core.Path.{_≡_};
+ghost use Rattle.json_walk.specs.Strings.{same};
 ghost use Rattle.json_tree.specs.Tree.{treeAt};
-ghost use Rattle.event.specs.Rules.{typed, fromRate, fromNamed, readFrequency, readWeekday, readMonth, readScale, readSkip};
+ghost use Rattle.event.specs.Rules.{fromRate, fromNamed, readFrequency, readWeekday, readMonth, readScale, readSkip, readType};
+ghost use Rattle.rule_text.specs.Inner.Types.{typeOf};
+use crate::Object;
 use json_text::bytes::byte;
 use keywords::Named;
 use keywords::Rate;
-use property::strings::is_word;
 use property::strings::word;
+use property::strings::word_fault;
 
 pub(crate) fn read_frequency(text: &[u8], at: usize) -> Rate
     ensures { λ r. ⌜ ((l : ℕ) → fromRate r ≡ readFrequency (treeAt l (now (text .entry)) at)) ⌝ }
 {
-    if !is_word(text, at) {
-        return Rate::Fault(6);
+    let wrong = word_fault(text, at);
+    if wrong != 0 {
+        return Rate::Fault(wrong);
     }
     keywords::rules::frequency(word(text, at))
 }
@@ -22,8 +25,9 @@ pub(crate) fn read_frequency(text: &[u8], at: usize) -> Rate
 pub(crate) fn read_weekday(text: &[u8], at: usize) -> Named
     ensures { λ r. ⌜ ((l : ℕ) → fromNamed r ≡ readWeekday (treeAt l (now (text .entry)) at)) ⌝ }
 {
-    if !is_word(text, at) {
-        return Named::Wrong(6);
+    let wrong = word_fault(text, at);
+    if wrong != 0 {
+        return Named::Wrong(wrong);
     }
     keywords::rules::weekday(word(text, at))
 }
@@ -31,8 +35,9 @@ pub(crate) fn read_weekday(text: &[u8], at: usize) -> Named
 pub(crate) fn read_month(text: &[u8], at: usize) -> Named
     ensures { λ r. ⌜ ((l : ℕ) → fromNamed r ≡ readMonth (treeAt l (now (text .entry)) at)) ⌝ }
 {
-    if !is_word(text, at) {
-        return Named::Wrong(6);
+    let wrong = word_fault(text, at);
+    if wrong != 0 {
+        return Named::Wrong(wrong);
     }
     keywords::months::month(word(text, at))
 }
@@ -41,8 +46,9 @@ pub(crate) fn read_month(text: &[u8], at: usize) -> Named
 pub(crate) fn read_scale(text: &[u8], at: usize) -> u32
     ensures { λ r. ⌜ ((l : ℕ) → r ≡ readScale (treeAt l (now (text .entry)) at) .fault) ⌝ }
 {
-    if !is_word(text, at) {
-        return 6;
+    let wrong = word_fault(text, at);
+    if wrong != 0 {
+        return wrong;
     }
     keywords::rules::rscale(word(text, at))
 }
@@ -51,23 +57,38 @@ pub(crate) fn read_scale(text: &[u8], at: usize) -> u32
 pub(crate) fn read_skip(text: &[u8], at: usize) -> u32
     ensures { λ r. ⌜ ((l : ℕ) → r ≡ readSkip (treeAt l (now (text .entry)) at) .fault) ⌝ }
 {
-    if !is_word(text, at) {
-        return 6;
+    let wrong = word_fault(text, at);
+    if wrong != 0 {
+        return wrong;
     }
     keywords::rules::skip(word(text, at))
 }
 
-// The fault of an `@type` that must be this one.
-pub(crate) fn read_type(text: &[u8], at: usize, name: &[u8]) -> u32
-    ensures { λ r. ⌜ ((l : ℕ) → r ≡ typed (now (name .entry)) (some (treeAt l (now (text .entry)) at))) ⌝ }
+// Is this the `@type` of such an object?
+fn is_type(raw: &[u8], object: Object) -> bool
+    ensures { λ r. ⌜ r ≡ same (now (raw .entry)) (typeOf object) ⌝ }
+{
+    match object {
+        Object::Rule => keywords::is(raw, b"RecurrenceRule"),
+        Object::Day => keywords::is(raw, b"NDay"),
+    }
+}
+
+// The fault of an `@type`. The right one has no backslash, and is not looked through for one.
+pub(crate) fn read_type(text: &[u8], at: usize, object: Object) -> u32
+    ensures { λ r. ⌜ ((l : ℕ) → r ≡ readType (typeOf object) (treeAt l (now (text .entry)) at) .fault) ⌝ }
 {
     if byte(text, at) != 0x22 {
-        return 6;
+        return 20;
     }
-    if keywords::is(word(text, at), name) {
+    if is_type(word(text, at), object) {
         return 0;
     }
-    6
+    let wrong = word_fault(text, at);
+    if wrong != 0 {
+        return wrong;
+    }
+    24
 }
 
 // What a name that was read stands for, and its fault.

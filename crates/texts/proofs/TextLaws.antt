@@ -5,7 +5,6 @@ use mathlib.Core.List.{List}
 use mathlib.Core.Path.{_≡_, ap, _∙_}
 use Rattle.signed.specs.Choose.{if_then_else_}
 use Rattle.event.specs.Types.{Details, Override}
-use Rattle.event.specs.Reading.{Reading}
 use Rattle.property.specs.Inner.From.{textIn}
 use Rattle.property.specs.declared.Place.{Place}
 use Rattle.override_text.specs.declared.Own.{Own}
@@ -24,11 +23,11 @@ module _ (s : List ℕ) (title : Bool) (first second r : Place) (is : r ≡ (if 
       go true = p
       go false = q
 
-module _ (s : List ℕ) (title : Bool) (own : Details) (at id : ℕ) (p : Patch) (e : overrideIn s id p ≡ patchAt 13 own id s at) (r : Place) where
+module _ (s : List ℕ) (title : Bool) (own : Details) (at id : ℕ) (p : Patch) (e : overrideIn s id p ≡ patchAt 13 own id s at .value) (r : Place) where
   pub patch-text : r ≡ (if title then p .title else p .description) → textIn s r ≡ chosen title (patchDetails own s at id)
   patch-text is =
       choice s title (p .title) (p .description) r is (patchDetails own s at id)
-      (ap (λ (o : Reading Override). o .value .details .title) e) (ap (λ (o : Reading Override). o .value .details .description) e)
+      (ap (λ (o : Override). o .details .title) e) (ap (λ (o : Override). o .details .description) e)
 
 module _ (s : List ℕ) (title : Bool) (o : Own) (x : ℕ) (d : Details) (e : withStart (detailsIn s o) x ≡ d) (r : Place) where
   pub own-text : r ≡ (if title then o .title else o .description) → textIn s r ≡ chosen title d

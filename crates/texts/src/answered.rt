@@ -41,7 +41,7 @@ fn told_in(text: &[u8], ends: &mut [u32], title: bool, date: i64) -> Told
     ensures { λ r. ⌜ Placed (length (now (text .entry))) (textOf (chosen title) (now (text .entry)) date) (toldShown r) ⌝ }
 {
     match open_text(text, ends) {
-        Opening::Refused(answer) => refused(answer),
+        Opening::Refused(answer, _) => refused(answer),
         Opening::Accepted(head) => told_of(look_up(text, ends, head, title, date)),
     }
 }

@@ -9,7 +9,6 @@ use lib.ListN.{length, getD, drop, drop-of-length-le}
 use lib.Seq.{drop-cons}
 use borrow.Author.Tests.{eq-eqb, ne-eqb}
 use Rattle.event.specs.Types.{Details, Override}
-use Rattle.event.specs.Reading.{Reading}
 use Rattle.call_definitions.specs.Occurrence.{withStart}
 use Rattle.override_text.specs.declared.Patch.{Patch}
 use Rattle.override_text.specs.declared.Own.{Own}
@@ -20,11 +19,11 @@ use Rattle.writer.specs.Inner.Details.{patchDetails, detailsBy, Passed, 
 
 -- ---- a patch that was read
 
-pub patch-times : (s : List ℕ) (own : Details) (at id : ℕ) (p : Patch) (floating : Bool) → overrideIn s id p ≡ patchAt 13 own id s at
+pub patch-times : (s : List ℕ) (own : Details) (at id : ℕ) (p : Patch) (floating : Bool) → overrideIn s id p ≡ patchAt 13 own id s at .value
     → record { start = p .start; days = p .days; seconds = p .seconds; busy = p .busy; allday = p .allday; floating = floating }
     ≡ patchTimes floating own s at id
 unfolding patchTimes timesOf
-patch-times s own at id p floating e = ap (λ (r : Reading Override). timesOf floating (r .value .details)) e
+patch-times s own at id p floating e = ap (λ (r : Override). timesOf floating (r .details)) e
 
 -- ---- the loop
 

@@ -1,18 +1,20 @@
 -- The definitions' event but for its lists: they stand as values of the tree, and are read apart.
 use Prim.Native.Nat.{ℕ}
-use mathlib.Core.Bool.{Bool, true, false}
-use mathlib.Core.List.{List, []}
+use mathlib.Core.Bool.{true}
+use mathlib.Core.List.{List, [], _∷_}
 use mathlib.Core.Option.{Option, none, some}
-use Rattle.fault.specs.Fault.{lower}
-use Rattle.json_tree.specs.Tree.{Json, Fields, noField, textTree}
+use lib.ListN.{length}
+use Rattle.fault.specs.Fault.{Fault, allOf, first}
+use Rattle.fault.specs.declared.First.{First}
+use Rattle.json_tree.specs.Tree.{Json, Fields, noField, placeOf, textTree}
 use Rattle.keywords.specs.declared.Privacy.{Privacy}
 use Rattle.keywords.specs.declared.Privacy.the-variants.{Public}
 use Rattle.json_text.specs.Ascii.{ascii}
 use Rattle.event.specs.Event.{detailsIn}
 use Rattle.event.specs.Properties.{readUid, readUpdated, readZone, readPrivacy}
-use Rattle.event.specs.Reading.{optional, unsupported}
+use Rattle.event.specs.Reading.{optional, required, placed, present, unsupported}
 use Rattle.event.specs.Overrides.{readOverrides}
-use Rattle.event.specs.Rules.{required, readRules}
+use Rattle.event.specs.Rules.{readRules}
 use Rattle.event.specs.Types.{Details, Event}
 use Rattle.event.specs.Values.{object, member}
 
@@ -23,16 +25,17 @@ pub record Front : Type 0 where
   pub rules : Option Json
   pub excludedRules : Option Json
   pub overrides : Option Json
-  -- the lowest fault of 6 to 9 in all that is read but the three lists
-  pub fault : ℕ
+  -- the fault that decides in all that is read but the three lists
+  pub fault : First
 
-unfoldable pub frontIn : Fields → Front
-frontIn fields =
-    let uid = required [] readUid (member (ascii "uid") fields) in
-    let updated = required true readUpdated (member (ascii "updated") fields) in
-    let zone = optional none readZone (member (ascii "timeZone") fields) in
-    let privacy = optional Public readPrivacy (member (ascii "privacy") fields) in
-    let details = detailsIn fields in
+-- The object stands at `at`.
+unfoldable pub frontIn : ℕ → Fields → Front
+frontIn at fields =
+    let uid = placed at (required [] readUid) (member (ascii "uid") fields) in
+    let updated = placed at (required true readUpdated) (member (ascii "updated") fields) in
+    let zone = placed at (optional none readZone) (member (ascii "timeZone") fields) in
+    let privacy = placed at (optional Public readPrivacy) (member (ascii "privacy") fields) in
+    let details = detailsIn at fields in
     record {
       zone = zone .value;
       privacy = privacy .value;
@@ -41,17 +44,17 @@ frontIn fields =
       excludedRules = member (ascii "excludedRecurrenceRules") fields;
       overrides = member (ascii "recurrenceOverrides") fields;
       fault =
-          lower (uid .fault) (lower (updated .fault) (lower (zone .fault) (lower (privacy .fault) (lower (details .fault)
-          (unsupported (member (ascii "recurrenceId") fields))))));
+          first (allOf (uid .faults ∷ updated .faults ∷ zone .faults ∷ privacy .faults ∷ details .faults
+          ∷ unsupported (member (ascii "recurrenceId") fields) ∷ []));
     }
 
--- The members of a text's value: a value that is no object has none.
-abbrev pub fieldsFrom : Option Fields → Fields
-fieldsFrom none = noField
-fieldsFrom (some fields) = fields
+-- The front of a text's value: a value that is no object is read as one without members at the end of the text.
+abbrev pub frontFrom : List ℕ → Option Fields → Front
+frontFrom s none = frontIn (length s) noField
+frontFrom s (some fields) = frontIn (placeOf (textTree s)) fields
 
 unfoldable pub frontOf : List ℕ → Front
-frontOf s = frontIn (fieldsFrom (object (textTree s)))
+frontOf s = frontFrom s (object (textTree s))
 
 -- The levels of a value that stands in the text's object.
 abbrev pub inner : ℕ
@@ -64,15 +67,15 @@ eventWith f =
       zone = f .zone;
       privacy = f .privacy;
       details = f .details;
-      rules = optional [] readRules (f .rules) .value;
-      excludedRules = optional [] readRules (f .excludedRules) .value;
-      overrides = optional [] (readOverrides (f .details)) (f .overrides) .value;
+      rules = present [] readRules (f .rules) .value;
+      excludedRules = present [] readRules (f .excludedRules) .value;
+      overrides = present [] (readOverrides (f .details)) (f .overrides) .value;
     }
 
--- The fault of the three lists, the front's being known.
-unfoldable pub listsFault : Front → ℕ
-listsFault f =
-    let rules = optional [] readRules (f .rules) .fault in
-    let excluded = optional [] readRules (f .excludedRules) .fault in
-    let overrides = optional [] (readOverrides (f .details)) (f .overrides) .fault in
-    lower rules (lower excluded overrides)
+-- The faults of the three lists.
+unfoldable pub listsFaults : Front → List Fault
+listsFaults f =
+    let rules = present [] readRules (f .rules) .faults in
+    let excluded = present [] readRules (f .excludedRules) .faults in
+    let overrides = present [] (readOverrides (f .details)) (f .overrides) .faults in
+    allOf (rules ∷ excluded ∷ overrides ∷ [])

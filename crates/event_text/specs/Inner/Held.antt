@@ -8,6 +8,7 @@ use Rattle.property.specs.Inner.From.{textIn, nameIn, valueIn}
 use Rattle.event.specs.Types
 use Rattle.event.specs.Types.{Text, Length}
 use Rattle.event.specs.Reading.{Reading}
+use Rattle.event.specs.Inner.Decided.{Decided}
 use Rattle.event_text.specs.declared.Moment.{Moment}
 use Rattle.event_text.specs.declared.Lasting.{Lasting}
 use Rattle.event_text.specs.declared.Mark.{Mark}
@@ -48,7 +49,7 @@ detailsOf s r =
       description = textIn s (r .description);
     }
 
-abbrev pub fromDetails : List ℕ → Details → Reading Types.Details
+abbrev pub fromDetails : List ℕ → Details → Decided Types.Details
 fromDetails s r = record { value = detailsOf s r; fault = r .fault }
 
 -- A head, whose lists are values of the tree with so many levels.

@@ -17,15 +17,6 @@ kindOf (stringOf i raw) = kind.String
 kindOf (arrayOf i items) = kind.Array
 kindOf (objectOf i fields) = kind.Object
 
-abbrev pub placeOf : Json → ℕ
-placeOf (nullAt i) = i
-placeOf (falseAt i) = i
-placeOf (trueAt i) = i
-placeOf (numberOf i n) = i
-placeOf (stringOf i raw) = i
-placeOf (arrayOf i items) = i
-placeOf (objectOf i fields) = i
-
 -- The kind of the value at a place, by its first byte.
 unfoldable pub kindAt : List ℕ → ℕ → Kind
 kindAt s i =

@@ -1,7 +1,7 @@
 -- The rules of a list, settled.
 use Prim.Native.Nat.{ℕ, _/_, _<_, _≤_}
 use mathlib.Core.Bool.{Bool}
-use mathlib.Core.List.{List, map}
+use mathlib.Core.List.{List, map, []}
 use mathlib.Core.Path.{_≡_}
 use lib.ListN.{length, getD}
 use Rattle.json_ends.specs.Inner.Ends.{Ends}
@@ -34,7 +34,7 @@ rulesAt s places = map (λ v. readRule (treeAt 14 s v) .value) places
 -- At most eight rules, each read without a fault.
 pub record Faultless (s places : List ℕ) : Type 0 where
   pub few : length places ≤ 8
-  pub each : (k : ℕ) → k < length places → readRule (treeAt 14 s (getD places k 0)) .fault ≡ 0
+  pub each : (k : ℕ) → k < length places → readRule (treeAt 14 s (getD places k 0)) .faults ≡ []
 
 pub record SettledRules (excluded : Bool) (start limit : ℕ) (rules : List RecurrenceRule) (ts : Tracks) (flags : List Bool) : Type 0 where
   pub settles : Settles excluded start limit rules (tracksOf ts) flags

@@ -1,4 +1,4 @@
--- What the code's structs mean: the definitions' readings and details, with the texts that stand at the places.
+-- What the code's structs mean: the definitions' readings and details, with the texts that stand at the places, and the fault that decides.
 use Prim.Native.Nat.{ℕ}
 use mathlib.Core.Bool.{Bool}
 use mathlib.Core.List.{List}
@@ -39,20 +39,17 @@ detailsIn s o =
       description = textIn s (o .description);
     }
 
-abbrev pub overrideIn : List ℕ → ℕ → Patch → Reading Override
+abbrev pub overrideIn : List ℕ → ℕ → Patch → Override
 overrideIn s id p =
     record {
-      value = record {
-        id = id;
-        excluded = p .excluded;
-        details = record {
-          start = p .start;
-          length = span (p .days) (p .seconds);
-          busy = p .busy;
-          allDay = p .allday;
-          title = textIn s (p .title);
-          description = textIn s (p .description);
-        };
+      id = id;
+      excluded = p .excluded;
+      details = record {
+        start = p .start;
+        length = span (p .days) (p .seconds);
+        busy = p .busy;
+        allDay = p .allday;
+        title = textIn s (p .title);
+        description = textIn s (p .description);
       };
-      fault = p .fault;
     }

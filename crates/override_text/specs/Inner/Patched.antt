@@ -3,11 +3,11 @@ use Prim.Native.Nat.{ℕ, suc}
 use mathlib.Core.Bool.{Bool, true, false}
 use mathlib.Core.List.{List}
 use mathlib.Core.Option.{Option, none}
-use Rattle.json_tree.specs.Tree.{treeAt}
+use Rattle.json_tree.specs.Tree.{Json, placeOf, treeAt}
 use Rattle.json_text.specs.Ascii.{ascii}
 use Rattle.event.specs.Types.{Text, Length, Details, Override}
 use Rattle.event.specs.Values.{member, object}
-use Rattle.event.specs.Reading.{Reading, orWrong}
+use Rattle.event.specs.Reading.{Reading, Judged, inside}
 use Rattle.event.specs.Properties.{noLength, readLength, readBusy, readBoolean, readText}
 use Rattle.event.specs.Overrides.{patched, patchedStart, patchIn}
 use Rattle.property.specs.Inner.From.{fieldsIn}
@@ -27,6 +27,9 @@ flagIn l name own s at = patched own false readBoolean (member name (fieldsIn l 
 abbrev pub textFor : ℕ → List ℕ → Option Text → List ℕ → ℕ → Reading (Option Text)
 textFor l name own s at = patched own none readText (member name (fieldsIn l s at))
 
--- "patch objects": what an override has of the value at a place.
-abbrev pub patchAt : ℕ → Details → ℕ → List ℕ → ℕ → Reading Override
-patchAt l own id s at = orWrong (record { id = id; excluded = false; details = own }) (patchIn own id) (object (treeAt (suc l) s at))
+-- "patch objects": what an override has of a value, and of the one at a place.
+abbrev pub patchOf : Details → ℕ → Json → Judged Override
+patchOf own id v = inside (record { id = id; excluded = false; details = own }) (placeOf v) (patchIn own id (placeOf v)) (object v)
+
+abbrev pub patchAt : ℕ → Details → ℕ → List ℕ → ℕ → Judged Override
+patchAt l own id s at = patchOf own id (treeAt (suc l) s at)

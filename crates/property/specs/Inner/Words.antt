@@ -1,6 +1,5 @@
 -- Strings by their place in a text.
 use Prim.Native.Nat.{ℕ}
-use mathlib.Core.Bool.{Bool, true, false, not}
 use mathlib.Core.List.{List}
 use lib.Dec.{eqb, ltb}
 use lib.ListN.{length}
@@ -14,10 +13,10 @@ use Rattle.json_tree.specs.Tree.{endOf}
 unfoldable pub wordAt : List ℕ → ℕ → List ℕ
 wordAt s i = rawAt s i (endOf (stringAt s i))
 
--- 01: "A read string other than `title` and `description` that has a backslash answers 6." Is it a string without one?
-unfoldable pub isWordAt : List ℕ → ℕ → Bool
-isWordAt s i = if eqb (byte s i) 0x22 then not (slashed (wordAt s i)) else false
+-- What keeps a value from being a string without a backslash: 20, it is no string; 26, it has one; 0, nothing.
+unfoldable pub wordFaultAt : List ℕ → ℕ → ℕ
+wordFaultAt s i = if eqb (byte s i) 0x22 then (if slashed (wordAt s i) then 26 else 0) else 20
 
--- 01: "`uid`: at least one byte."
-unfoldable pub isFilledAt : List ℕ → ℕ → Bool
-isFilledAt s i = if isWordAt s i then ltb 0 (length (wordAt s i)) else false
+-- 01: "`uid`: at least one byte." 26 where it has none.
+unfoldable pub filledFaultAt : List ℕ → ℕ → ℕ
+filledFaultAt s i = if eqb (wordFaultAt s i) 0 then (if ltb 0 (length (wordAt s i)) then 0 else 26) else wordFaultAt s i

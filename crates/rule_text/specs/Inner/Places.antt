@@ -6,13 +6,14 @@ use lib.Dec.{eqb, ltb}
 use lib.ListN.{length}
 use lib.Seq.{sets}
 use Rattle.signed.specs.Choose.{if_then_else_}
-use Rattle.fault.specs.Fault.{lower}
+use Rattle.fault.specs.Fault.{lower, first}
+use Rattle.fault.specs.declared.First.{First}
+use Rattle.fault.specs.declared.First.the-variants.{At}
 use Rattle.json_text.specs.Bytes.{byte}
 use Rattle.json_walk.specs.Walk.{elementsOf}
 use Rattle.json_walk.specs.declared.Element.{Element}
-use Rattle.json_tree.specs.Tree.{Json}
-use Rattle.json_tree.specs.Inner.Kinds.{placeOf}
-use Rattle.event.specs.Reading.{Reading, right}
+use Rattle.json_tree.specs.Tree.{Json, placeOf}
+use Rattle.event.specs.Reading.{Judged, fine}
 
 abbrev pub valueOf : Element → ℕ
 valueOf e = e .value
@@ -25,15 +26,15 @@ pub record Places (s : List ℕ) (i : ℕ) (before after : List ℕ) (m : ℕ) :
   pub list : after ≡ sets before 0 (placesAt s i)
   pub count : m ≡ length (placesAt s i)
 
--- The place of a value, as a reading.
-abbrev pub readPlace : Json → Reading ℕ
-readPlace v = right (placeOf v)
+-- The place of a value, as a reading without faults.
+abbrev pub readPlace : Json → Judged ℕ
+readPlace v = fine (placeOf v)
 
--- The entries of a list counted, with their lowest fault.
-pub record Tally {A : Type 0} (tree : ℕ → Reading (List A)) (m n : ℕ) : Type 0 where
+-- The entries of a list counted, with the fault that decides.
+pub record Tally {A : Type 0} (tree : ℕ → Judged (List A)) (m : ℕ) (n : First) : Type 0 where
   pub count : (l : ℕ) → m ≡ length (tree l .value)
-  pub fault : (l : ℕ) → n ≡ tree l .fault
+  pub fault : (l : ℕ) → n ≡ first (tree l .faults)
 
--- 9: "over 8 rules in either list"
-unfoldable pub rulesFault : ℕ → ℕ → ℕ
-rulesFault m n = if ltb 8 m then lower n 9 else n
+-- 9: "over 8 rules in either list", which stands at a place.
+unfoldable pub rulesFault : ℕ → ℕ → First → First
+rulesFault m at n = if ltb 8 m then lower n (At 9 at) else n

@@ -1,5 +1,6 @@
 -- `event_text::whole::lists_fault` meets its contract.
-use Rattle.event_text.specs.Inner.Front.{listsFault}
+use Rattle.fault.proofs.Laws.{first-all}
+use Rattle.event_text.specs.Inner.Front.{listsFaults}
 use borrow.Author.Needs.{needs}
 use Rattle.event_text.proofs.whole.lists_fault.Statement.{statement}
 use Rattle.event_text.proofs.whole.lists_fault.Tie as tie
@@ -20,8 +21,8 @@ lower-requires-2 : tie.Need-lower-requires-2
 lower-requires-2 c κs = search needs
 
 returns : tie.Need-returns
-unfolding listsFault
-returns c = rw (← (c .before .before .before .before .rules-at .ensures), ← (c .before .before .before .rules-at2 .ensures), ← (c .before .before .overrides-at .ensures), ← (c .before .lower .ensures)) (c .lower2 .ensures)
+unfolding listsFaults
+returns c = rw (first-all, ← (c .before .before .before .before .rules-at .ensures), ← (c .before .before .before .rules-at2 .ensures), ← (c .before .before .overrides-at .ensures), ← (c .before .lower .ensures)) (c .lower2 .ensures)
 
 pub lists-fault-spec : {M : Type 1} → statement M
 lists-fault-spec = tie.close (tie.spec rules-at-requires rules-at-requires-2 overrides-at-requires lower-requires lower-requires-2 returns)

@@ -1,5 +1,6 @@
 -- `event_text::whole::overrides_at` meets its contract.
-use Rattle.event.specs.Reading.{optional}
+use Rattle.fault.specs.Fault.{first}
+use Rattle.event.specs.Reading.{present}
 use borrow.Author.Needs.{needs}
 use Rattle.event_text.proofs.whole.overrides_at.Statement.{statement}
 use Rattle.event_text.proofs.whole.overrides_at.Tie as tie
@@ -17,11 +18,11 @@ overrides-fault-requires : tie.Need-overrides-fault-requires
 overrides-fault-requires c κs = search needs
 
 returns : tie.Need-returns
-unfolding optional
+unfolding present first
 returns c = rw (c .enum-told .given .1)
 
 returns-2 : tie.Need-returns-2
-unfolding optional
+unfolding present
 returns-2 c = rw (← (c .before .before .before .before .own-of .ensures (c .before .before .before .before .before .before .before .args .text .now)), c .before .before .overrides .given .1) (c .overrides-fault .ensures 13)
 
 pub overrides-at-spec : {M : Type 1} → statement M

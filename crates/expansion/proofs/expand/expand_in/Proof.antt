@@ -65,7 +65,7 @@ same-length-4 c = search needs
 
 returns-3 : tie.Need-returns-3
 returns-3 c =
-    text-refused _ _ _ _ _ _ (was-refused _ _ _ (c .before .before .before .before .before .open-text .ensures) _ (c .before .answer .given .1))
+    text-refused _ _ _ _ _ _ (was-refused _ _ _ (c .before .before .before .before .before .open-text .ensures) _ _ (c .before .answer .given .1))
 
 same-length-5 : tie.Need-same-length-5
 same-length-5 c = search needs

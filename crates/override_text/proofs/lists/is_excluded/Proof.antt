@@ -3,7 +3,7 @@ use mathlib.Core.Bool.{Bool}
 use mathlib.Core.Path.{_∙_, sym, ap}
 use borrow.Author.Tests.{eq-eqb, ne-eqb}
 use Rattle.event.specs.Types.{Override}
-use Rattle.event.specs.Reading.{Reading}
+use Rattle.event.specs.Reading.{Reading, Judged, placed}
 use Rattle.event.specs.Overrides.{patchIn}
 use Rattle.override_text.proofs.PatchLaws.{patch-yes, patch-no}
 use Rattle.property.proofs.RowLaws.{zeros}
@@ -28,15 +28,15 @@ flag-requires : tie.Need-flag-requires
 flag-requires c κs = search needs
 
 returns : tie.Need-returns
-unfolding patchIn wordOf vocabulary
+unfolding patchIn placed wordOf vocabulary
 returns c =
     λ l own id. ap (λ (q : Reading Bool). q .value) (c .flag .ensures l)
-    ∙ ap (λ (q : Reading Override). q .value .excluded)
+    ∙ ap (λ (q : Judged Override). q .value .excluded)
     (patch-yes _ _ own id (eq-eqb _ _ (sym (c .before .before .before .before .before .before .byte .ensures .is) ∙ c .before .before .before .before .before .if1 .taken)) l)
 
 returns-2 : tie.Need-returns-2
 returns-2 c =
-    λ l own id. ap (λ (q : Reading Override). q .value .excluded)
+    λ l own id. ap (λ (q : Judged Override). q .value .excluded)
     (patch-no _ _ own id (ne-eqb _ _ (λ e. c .if1 .left (c .before .byte .ensures .is ∙ e))) l)
 
 pub is-excluded-spec : {M : Type 1} → statement M

@@ -1,4 +1,5 @@
 -- `override_text::names::name_fault` meets its contract: the definition's tests in its order.
+use Rattle.fault.specs.Fault.{faultsAt, lower, first}
 use Rattle.event.specs.Overrides.{nameFault}
 use Rattle.json_walk.specs.Strings.{rawAt}
 use borrow.Author.Needs.{needs}
@@ -12,7 +13,7 @@ raw-is-requires : tie.Need-raw-is-requires
 raw-is-requires c κs = search needs
 
 returns : tie.Need-returns
-unfolding nameFault rawAt
+unfolding nameFault rawAt first faultsAt lower
 returns c = rw (
   ← (c .before .raw-is .ensures),
   c .if1 .taken,
@@ -22,7 +23,7 @@ has-mark-requires : tie.Need-has-mark-requires
 has-mark-requires c κs = search needs
 
 returns-2 : tie.Need-returns-2
-unfolding nameFault rawAt
+unfolding nameFault rawAt first faultsAt lower
 returns-2 c =
     rw (
       ← (c .before .before .before .raw-is .ensures),
@@ -32,7 +33,7 @@ returns-2 c =
     )
 
 returns-3 : tie.Need-returns-3
-unfolding nameFault rawAt
+unfolding nameFault rawAt first
 returns-3 c =
     rw (
       ← (c .before .before .before .raw-is .ensures),

@@ -1,6 +1,5 @@
 -- `override_text::names::names_fault` meets its contract: what was found and what is left make the whole.
 use mathlib.Core.Path.{_∙_, ap}
-use Prim.Native.Nat.{ℕ}
 use Rattle.fault.specs.Fault.{lower}
 use Rattle.override_text.specs.Inner.Names.{ofName}
 use Rattle.override_text.proofs.WalkLaws.{Left, left-start, left-next, left-end, left-out}
@@ -50,7 +49,7 @@ loop-again c =
     (c .before .before .before .before .before .before .before .loop .inv)
     (c .before .before .before .before .before .before .loop-test .taken) _
     (c .before .before .before .before .next .given .1) _
-    (c .before .lower .ensures ∙ ap (λ (n : ℕ). lower (c .before .before .before .before .before .before .before .loop .found) n) (c .before .before .name-fault .ensures))
+    (c .before .lower .ensures ∙ ap (lower (c .before .before .before .before .before .before .before .loop .found)) (c .before .before .name-fault .ensures))
     _ (c .next-member .ensures)
 
 returns-2 : tie.Need-returns-2 Inv-loop μ-loop

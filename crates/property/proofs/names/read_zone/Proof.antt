@@ -1,5 +1,6 @@
 -- `property::names::read_zone` meets its contract.
 use Rattle.event.specs.Properties.{readZone}
+use borrow.Author.Tests.{eq-eqb, ne-eqb}
 use Rattle.property.proofs.Readings.{zone-read}
 use borrow.Author.Needs.{needs}
 use Rattle.property.proofs.names.read_zone.Statement.{statement}
@@ -12,17 +13,16 @@ returns : tie.Need-returns
 unfolding readZone
 returns c = λ l. rw (← (c .before .is-null .ensures l), c .if1 .taken)
 
-is-filled-requires : tie.Need-is-filled-requires
-is-filled-requires c κs = search needs
+filled-fault-requires : tie.Need-filled-fault-requires
+filled-fault-requires c κs = search needs
 
 returns-2 : tie.Need-returns-2
 unfolding readZone
-returns-2 c = λ l. rw (← (c .before .before .before .is-null .ensures l), c .before .before .if1 .left, zone-read l, ← (c .before .is-filled .ensures), c .if2 .taken)
+returns-2 c = λ l. rw (← (c .before .before .before .is-null .ensures l), c .before .before .if1 .left, zone-read l, ← (c .before .filled-fault .ensures), ne-eqb _ _ (c .if2 .taken))
 
 returns-3 : tie.Need-returns-3
 unfolding readZone
-returns-3 c = λ l. rw (← (c .before .before .before .is-null .ensures l), c .before .before .if1 .left, zone-read l, ← (c .before .is-filled .ensures), c .if2 .left)
+returns-3 c = λ l. rw (← (c .before .before .before .is-null .ensures l), c .before .before .if1 .left, zone-read l, ← (c .before .filled-fault .ensures), eq-eqb _ _ (c .if2 .left))
 
 pub read-zone-spec : {M : Type 1} → statement M
-read-zone-spec =
-    tie.close (tie.spec is-null-requires returns is-filled-requires returns-2 returns-3)
+read-zone-spec = tie.close (tie.spec is-null-requires returns filled-fault-requires returns-2 returns-3)

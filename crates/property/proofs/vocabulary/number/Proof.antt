@@ -1,5 +1,4 @@
 -- `property::vocabulary::number` meets its contract.
-use Rattle.event.specs.Values.{plain, word}
 use Rattle.json_value.specs.Values.{arrayOf, objectOf}
 use Rattle.json_walk.specs.Strings.{rawAt}
 use Rattle.property.specs.Inner.Vocabulary.{numbered}
@@ -11,14 +10,14 @@ raw-is-requires : tie.Need-raw-is-requires
 raw-is-requires c κs = search needs
 
 returns : tie.Need-returns
-unfolding arrayOf numbered objectOf plain rawAt word
+unfolding arrayOf numbered objectOf rawAt
 returns c = rw (
   ← (c .before .raw-is .ensures),
   c .if1 .taken,
 )
 
 returns-2 : tie.Need-returns-2
-unfolding arrayOf numbered objectOf plain rawAt word
+unfolding arrayOf numbered objectOf rawAt
 returns-2 c = rw (
   ← (c .before .raw-is .ensures),
   c .if1 .left,

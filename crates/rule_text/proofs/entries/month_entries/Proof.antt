@@ -1,12 +1,11 @@
 -- `rule_text::entries::month_entries` meets its contract.
-use Rattle.rule_text.proofs.EntryLaws.{Counting, Storing, rest-stop, rest-none, counting-goes-on, storing-goes-on, counting-starts, storing-starts, entries-end}
+use Rattle.rule_text.proofs.EntryLaws.{entry-fault, entry-value, Counting, Storing, rest-stop, rest-none, counting-goes-on, storing-goes-on, counting-starts, storing-starts, entries-end}
 use Rattle.event.specs.Rules.{readMonth}
-use Rattle.event.specs.Reading.{Reading}
+use Rattle.event.specs.Reading.{Reading, entry}
 use Rattle.json_tree.specs.Tree.{treeAt}
 use Rattle.json_walk.specs.Walk.{elementsOf}
-use mathlib.Core.Path.{ap, _∙_}
+use mathlib.Core.Path.{refl, ap, _∙_}
 use Prim.Native.Nat.{ℕ}
--- `rule_text::entries::month_entries` meets its contract.
 use Rattle.rule_text.specs.Inner.Reads.{entriesAt}
 use borrow.Author.Needs.{needs}
 use Rattle.rule_text.proofs.entries.month_entries.Statement.{statement}
@@ -14,8 +13,8 @@ use Rattle.rule_text.proofs.entries.month_entries.Tie as tie
 
 abbrev Inv-loop : tie.InvT-loop
 Inv-loop text ends at list₀ step₀ n₀ count₀ fault₀ list step n count fault =
-    Counting readMonth (λ l v. treeAt l text v) text (λ l. entriesAt readMonth l text at) step n count fault
-    × Storing (λ m. m) readMonth (λ l v. treeAt l text v) text (λ l. entriesAt readMonth l text at) list₀ list step n count
+    Counting (entry readMonth) (λ l v. treeAt l text v) text (λ l. entriesAt (entry readMonth) l text at) step n count fault
+    × Storing (λ m. m) (entry readMonth) (λ l v. treeAt l text v) text (λ l. entriesAt (entry readMonth) l text at) list₀ list step n count
 
 abbrev μ-loop : tie.MeasureT-loop
 μ-loop text ends at list₀ step₀ n₀ count₀ fault₀ list step n count fault = n
@@ -43,8 +42,8 @@ put-name-requires c κs = search needs
 fault-of-requires : tie.Need-fault-of-requires Inv-loop μ-loop
 fault-of-requires c κs = search needs
 
-lower-requires : tie.Need-lower-requires Inv-loop μ-loop
-lower-requires c κs = search needs
+join-at-requires : tie.Need-join-at-requires Inv-loop μ-loop
+join-at-requires c κs = search needs
 
 next-element-requires : tie.Need-next-element-requires Inv-loop μ-loop
 next-element-requires c κs = search needs
@@ -71,8 +70,8 @@ loop-less c = search needs
 
 loop-again : tie.Need-loop-again Inv-loop μ-loop
 loop-again c = (
-  counting-goes-on _ _ _ _ (c .before .before .before .before .before .before .before .before .before .before .step .given .1) (c .before .before .before .before .before .before .before .before .before .before .before .before .loop-test .taken) (c .before .before .before .before .before .before .before .before .before .before .before .before .before .loop .inv .0) (c .next-element .ensures) (c .before .lower .ensures) (λ l. c .before .before .fault-of .ensures ∙ ap (λ (r : Reading ℕ). r .fault) (c .before .before .before .before .before .before .before .before .read-month .ensures l)),
-  storing-goes-on _ _ _ _ _ (c .before .before .before .before .before .before .before .before .before .before .step .given .1) (c .before .before .before .before .before .before .before .before .before .before .before .before .loop-test .taken) (c .before .before .before .before .before .before .before .before .before .before .before .before .before .loop .inv .1) (c .next-element .ensures) (c .before .before .before .before .before .put-name .ensures) (λ l. c .before .before .before .before .before .before .number-of .ensures ∙ ap (λ (r : Reading ℕ). r .value) (c .before .before .before .before .before .before .before .before .read-month .ensures l)),
+  counting-goes-on _ _ _ _ (c .before .before .before .before .before .before .before .before .before .before .step .given .1) (c .before .before .before .before .before .before .before .before .before .before .before .before .loop-test .taken) (c .before .before .before .before .before .before .before .before .before .before .before .before .before .loop .inv .0) (c .next-element .ensures) (c .before .join-at .ensures) (entry-fault _ _ _ _ (λ l. c .before .before .fault-of .ensures ∙ ap (λ (r : Reading ℕ). r .fault) (c .before .before .before .before .before .before .before .before .read-month .ensures l)) refl),
+  storing-goes-on _ _ _ _ _ (c .before .before .before .before .before .before .before .before .before .before .step .given .1) (c .before .before .before .before .before .before .before .before .before .before .before .before .loop-test .taken) (c .before .before .before .before .before .before .before .before .before .before .before .before .before .loop .inv .1) (c .next-element .ensures) (c .before .before .before .before .before .put-name .ensures) (entry-value _ _ _ (λ l. c .before .before .before .before .before .before .number-of .ensures ∙ ap (λ (r : Reading ℕ). r .value) (c .before .before .before .before .before .before .before .before .read-month .ensures l))),
 )
 
 same-length-2 : tie.Need-same-length-2 Inv-loop μ-loop
@@ -84,4 +83,4 @@ returns-2 c =
     entries-end _ _ _ _ _ _ _ _ _ _ (c .before .loop .inv .0) (c .before .loop .inv .1) (rest-none _ _ _ _ (c .loop-test .left) _)
 
 pub month-entries-spec : {M : Type 1} → statement M
-month-entries-spec = tie.close (tie.spec Inv-loop μ-loop first-element-requires loop-holds enum-known-step read-month-requires number-of-requires put-name-requires fault-of-requires lower-requires next-element-requires enum-told same-length returns add-count sub-n loop-less loop-again same-length-2 returns-2)
+month-entries-spec = tie.close (tie.spec Inv-loop μ-loop first-element-requires loop-holds enum-known-step read-month-requires number-of-requires put-name-requires fault-of-requires join-at-requires next-element-requires enum-told same-length returns add-count sub-n loop-less loop-again same-length-2 returns-2)

@@ -1,6 +1,8 @@
 -- `rule_text::entries::signed_entries` meets its contract.
+use mathlib.Core.Path.{refl}
 use Rattle.signed.proofs.Parts.{back}
-use Rattle.rule_text.proofs.EntryLaws.{Counting, Storing, rest-stop, rest-none, counting-goes-on, storing-goes-on, counting-starts, storing-starts, entries-end}
+use Rattle.rule_text.proofs.EntryLaws.{entry-fault, entry-value, Counting, Storing, rest-stop, rest-none, counting-goes-on, storing-goes-on, counting-starts, storing-starts, entries-end}
+use Rattle.event.specs.Reading.{entry}
 use Rattle.event.specs.Rules.{readSigned}
 use Rattle.json_tree.specs.Tree.{treeAt}
 use Rattle.json_walk.specs.Walk.{elementsOf}
@@ -11,8 +13,8 @@ use Rattle.rule_text.proofs.entries.signed_entries.Tie as tie
 
 abbrev Inv-loop : tie.InvT-loop
 Inv-loop text ends at most list₀ step₀ n₀ count₀ fault₀ list step n count fault =
-    Counting (readSigned most) (λ l v. treeAt l text v) text (λ l. entriesAt (readSigned most) l text at) step n count fault
-    × Storing (λ z. z) (readSigned most) (λ l v. treeAt l text v) text (λ l. entriesAt (readSigned most) l text at) list₀ list step n count
+    Counting (entry (readSigned most)) (λ l v. treeAt l text v) text (λ l. entriesAt (entry (readSigned most)) l text at) step n count fault
+    × Storing (λ z. z) (entry (readSigned most)) (λ l v. treeAt l text v) text (λ l. entriesAt (entry (readSigned most)) l text at) list₀ list step n count
 
 abbrev μ-loop : tie.MeasureT-loop
 μ-loop text ends at most list₀ step₀ n₀ count₀ fault₀ list step n count fault = n
@@ -34,8 +36,8 @@ signed-up-to-requires c κs = search needs
 put-requires : tie.Need-put-requires Inv-loop μ-loop
 put-requires c κs = search needs
 
-lower-requires : tie.Need-lower-requires Inv-loop μ-loop
-lower-requires c κs = search needs
+join-at-requires : tie.Need-join-at-requires Inv-loop μ-loop
+join-at-requires c κs = search needs
 
 next-element-requires : tie.Need-next-element-requires Inv-loop μ-loop
 next-element-requires c κs = search needs
@@ -62,8 +64,8 @@ loop-less c = search needs
 
 loop-again : tie.Need-loop-again Inv-loop μ-loop
 loop-again c = (
-  counting-goes-on _ _ _ _ (c .before .before .before .before .before .before .before .before .step .given .1) (c .before .before .before .before .before .before .before .before .before .before .loop-test .taken) (c .before .before .before .before .before .before .before .before .before .before .before .loop .inv .0) (c .next-element .ensures) (c .before .lower .ensures) (c .before .before .before .before .before .before .signed-up-to .ensures .fault),
-  storing-goes-on _ _ _ _ _ (c .before .before .before .before .before .before .before .before .step .given .1) (c .before .before .before .before .before .before .before .before .before .before .loop-test .taken) (c .before .before .before .before .before .before .before .before .before .before .before .loop .inv .1) (c .next-element .ensures) (c .before .before .before .put .ensures) (λ l. rw (back (c .before .before .before .before .before .before .signed-up-to .result .value) (c .before .before .before .before .struct-told .given .0 .1)) (c .before .before .before .before .before .before .signed-up-to .ensures .value l)),
+  counting-goes-on _ _ _ _ (c .before .before .before .before .before .before .before .before .step .given .1) (c .before .before .before .before .before .before .before .before .before .before .loop-test .taken) (c .before .before .before .before .before .before .before .before .before .before .before .loop .inv .0) (c .next-element .ensures) (c .before .join-at .ensures) (entry-fault _ _ _ _ (c .before .before .before .before .before .before .signed-up-to .ensures .fault) refl),
+  storing-goes-on _ _ _ _ _ (c .before .before .before .before .before .before .before .before .step .given .1) (c .before .before .before .before .before .before .before .before .before .before .loop-test .taken) (c .before .before .before .before .before .before .before .before .before .before .before .loop .inv .1) (c .next-element .ensures) (c .before .before .before .put .ensures) (entry-value _ _ _ (λ l. rw (back (c .before .before .before .before .before .before .signed-up-to .result .value) (c .before .before .before .before .struct-told .given .0 .1)) (c .before .before .before .before .before .before .signed-up-to .ensures .value l))),
 )
 
 same-length-2 : tie.Need-same-length-2 Inv-loop μ-loop
@@ -76,23 +78,4 @@ returns-2 c =
 
 pub signed-entries-spec : {M : Type 1} → statement M
 signed-entries-spec =
-    tie.close
-    (tie.spec
-    Inv-loop
-    μ-loop
-    first-element-requires
-    loop-holds
-    enum-known-step
-    signed-up-to-requires
-    put-requires
-    lower-requires
-    next-element-requires
-    enum-told
-    same-length
-    returns
-    add-count
-    sub-n
-    loop-less
-    loop-again
-    same-length-2
-    returns-2)
+    tie.close (tie.spec Inv-loop μ-loop first-element-requires loop-holds enum-known-step signed-up-to-requires put-requires join-at-requires next-element-requires enum-told same-length returns add-count sub-n loop-less loop-again same-length-2 returns-2)

@@ -1,5 +1,5 @@
 -- `rule_text::lists::month_list` meets its contract.
-use Rattle.rule_text.proofs.ListLaws.{by-place, at-within, entries-same, entries-limited, entries-none, entries-length}
+use Rattle.rule_text.proofs.ListLaws.{by-place, at-within, entries-same, entries-limited, entries-absent, entries-wrong, entries-length}
 use Rattle.property.specs.Inner.Vocabulary.{vocabulary, wordOf}
 use Rattle.json_text.specs.Ascii.{ascii}
 use borrow.Author.Needs.{needs}
@@ -22,8 +22,8 @@ list-fault-requires c κs = search needs
 enum-told : tie.Need-enum-told
 enum-told c = search needs
 
-enum-told-2 : tie.Need-enum-told-2
-enum-told-2 c = search needs
+enum-known-i-2 : tie.Need-enum-known-i-2
+enum-known-i-2 c = search needs
 
 same-length : tie.Need-same-length
 same-length c =
@@ -32,17 +32,17 @@ same-length c =
 returns : tie.Need-returns
 unfolding wordOf vocabulary
 returns c =
-    entries-same (entries-limited _ _ (c .before .before .before .month-entries .ensures) (c .list-fault .ensures)) (λ l. rw (by-place _ _ _ _ (ascii "byMonth"), ← (c .before .before .before .before .before .before .before .before .list-in .ensures .is), c .before .before .before .before .before .before .i .given .1))
+    entries-same (entries-limited _ _ _ (c .before .before .before .month-entries .ensures) (c .list-fault .ensures)) (λ l. rw (by-place _ _ _ _ (ascii "byMonth"), ← (c .before .before .before .before .before .before .before .before .list-in .ensures .is), c .before .before .before .before .before .before .i .given .1))
 
 returns-2 : tie.Need-returns-2
 unfolding wordOf vocabulary
 returns-2 c =
-    entries-same entries-none (λ l. rw (by-place _ _ _ _ (ascii "byMonth"), ← (c .before .before .list-in .ensures .is), c .enum-told .given .1))
+    entries-same entries-absent (λ l. rw (by-place _ _ _ _ (ascii "byMonth"), ← (c .before .before .list-in .ensures .is), c .enum-told .given .1))
 
 returns-3 : tie.Need-returns-3
 unfolding wordOf vocabulary
 returns-3 c =
-    entries-same entries-none (λ l. rw (by-place _ _ _ _ (ascii "byMonth"), ← (c .before .before .list-in .ensures .is), c .enum-told2 .given .1))
+    entries-same entries-wrong (λ l. rw (by-place _ _ _ _ (ascii "byMonth"), ← (c .before .before .before .list-in .ensures .is), c .before .i2 .given .1))
 
 pub month-list-spec : {M : Type 1} → statement M
-month-list-spec = tie.close (tie.spec list-in-requires enum-known-i month-entries-requires list-fault-requires enum-told enum-told-2 same-length returns returns-2 returns-3)
+month-list-spec = tie.close (tie.spec list-in-requires enum-known-i month-entries-requires list-fault-requires enum-told enum-known-i-2 same-length returns returns-2 returns-3)

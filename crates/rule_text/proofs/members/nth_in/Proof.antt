@@ -1,5 +1,6 @@
 -- `rule_text::members::nth_in` meets its contract.
 use Rattle.rule_text.proofs.IntegerLaws.{nth-read}
+use Rattle.event.specs.Reading.{maybe}
 use Rattle.event.specs.Rules.{readNth}
 use Rattle.rule.specs.Inner.Read.{nthFrom}
 use native.Mathlib.Omega.{arith}
@@ -24,12 +25,12 @@ enum-told : tie.Need-enum-told
 enum-told c = search needs
 
 returns : tie.Need-returns
-unfolding readNth wordOf vocabulary
+unfolding readNth maybe wordOf vocabulary
 returns c =
     record { value = λ l. rw (here _ (ascii "nthOfPeriod") _ _ (c .before .before .before .before .place .ensures) _ (c .before .before .i .given .1) l) (ap nthFrom (c .signed-up-to .ensures .value l) ∙ nth-read 53 (omega arith) _); fault = λ l. rw (here _ (ascii "nthOfPeriod") _ _ (c .before .before .before .before .place .ensures) _ (c .before .before .i .given .1) l) (c .signed-up-to .ensures .fault l) }
 
 returns-2 : tie.Need-returns-2
-unfolding readNth nthFrom wordOf vocabulary
+unfolding readNth maybe nthFrom wordOf vocabulary
 returns-2 c =
     record { value = λ l. rw (missing _ (ascii "nthOfPeriod") _ _ (c .before .before .place .ensures) (c .enum-told .given .1) l); fault = λ l. rw (missing _ (ascii "nthOfPeriod") _ _ (c .before .before .place .ensures) (c .enum-told .given .1) l) }
 

@@ -1,6 +1,5 @@
 -- `rule_text::members::type_in` meets its contract.
-use Rattle.event.specs.Values.{isType}
-use Rattle.event.specs.Rules.{typed}
+use Rattle.event.specs.Reading.{required}
 use Rattle.property.proofs.RowLaws.{here, missing}
 use Rattle.property.specs.Inner.Vocabulary.{vocabulary, wordOf}
 use Rattle.json_text.specs.Ascii.{ascii}
@@ -21,12 +20,12 @@ enum-told : tie.Need-enum-told
 enum-told c = search needs
 
 returns : tie.Need-returns
-unfolding wordOf vocabulary
+unfolding required wordOf vocabulary
 returns c =
     λ l. rw (here _ (ascii "@type") _ _ (c .before .before .before .before .place .ensures) _ (c .before .before .i .given .1) l) (c .read-type .ensures l)
 
 returns-2 : tie.Need-returns-2
-unfolding typed isType wordOf vocabulary
+unfolding required wordOf vocabulary
 returns-2 c =
     λ l. rw (missing _ (ascii "@type") _ _ (c .before .before .place .ensures) (c .enum-told .given .1) l)
 

@@ -34,25 +34,17 @@ difference-requires-2 c κs = search needs
 enum-told : tie.Need-enum-told
 enum-told c = search needs
 
+no-integer-requires : tie.Need-no-integer-requires
+no-integer-requires c κs = search needs
+
 returns-4 : tie.Need-returns-4
 returns-4 c =
     reads-by (λ l. signed-at _ l _ _) (rw (← (c .before .before .before .before .before .before .before .integer .ensures), c .before .before .before .before .before .below .given .1, ne-eqb _ _ (c .before .before .before .if1 .left), le-ltb _ _ (c .before .before .if2 .left), c .before .if3 .left, ← (c .difference2 .ensures), back (c .difference2 .result) (c .difference2 .ok)))
 
 returns-5 : tie.Need-returns-5
 returns-5 c =
-    reads-by (λ l. signed-at _ l _ _) (rw (← (c .before .before .integer .ensures), c .enum-told .given .1))
+    reads-by (λ l. signed-at _ l _ _) (rw (← (c .before .before .before .integer .ensures), c .before .enum-told .given .1, ← (c .no-integer .ensures)))
 
 pub signed-up-to-spec : {M : Type 1} → statement M
 signed-up-to-spec =
-    tie.close
-    (tie.spec
-    integer-requires
-    enum-known-below
-    returns
-    returns-2
-    difference-requires
-    returns-3
-    difference-requires-2
-    enum-told
-    returns-4
-    returns-5)
+    tie.close (tie.spec integer-requires enum-known-below returns returns-2 difference-requires returns-3 difference-requires-2 enum-told no-integer-requires returns-4 returns-5)

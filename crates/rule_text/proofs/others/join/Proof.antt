@@ -1,5 +1,4 @@
 -- `rule_text::others::join` meets its contract.
-use Rattle.fault.specs.Fault.{lower}
 use Rattle.rule_text.specs.Inner.Parts.{joined}
 -- `rule_text::others::join` meets its contract.
 use borrow.Author.Needs.{needs}

@@ -1,14 +1,13 @@
 -- `rule_text::others::nth_fault` meets its contract.
 use Rattle.rule_text.proofs.RuleLaws.{nth-none}
 use borrow.Author.Tests.{not-true, not-false}
--- `rule_text::others::nth_fault` meets its contract.
 use borrow.Author.Needs.{needs}
 use Rattle.rule_text.proofs.others.nth_fault.Statement.{statement}
 use Rattle.rule_text.proofs.others.nth_fault.Tie as tie
 
 returns : tie.Need-returns
 returns c =
-    nth-none (c .before .args .frequency) (c .before .args .any) (not-true (c .before .args .any) (c .if1 .taken))
+    nth-none _ (c .before .args .frequency) (c .before .args .any) (not-true (c .before .args .any) (c .if1 .taken))
 
 enum-told : tie.Need-enum-told
 enum-told c = search needs

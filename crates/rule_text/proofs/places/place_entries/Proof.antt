@@ -2,11 +2,12 @@
 use Rattle.rule_text.proofs.EntryLaws.{Counting, Storing, rest-stop, rest-none, counting-goes-on, storing-goes-on, counting-starts, storing-starts, entries-end}
 use Rattle.rule_text.specs.Inner.Places.{readPlace}
 use Rattle.json_tree.proofs.Trees.{place-tree}
+use Rattle.fault.specs.Fault.{first}
+use Rattle.fault.specs.declared.First.the-variants.{None}
 use Rattle.fault.proofs.Laws.{none-lower}
 use mathlib.Core.Path.{refl, sym}
 use Rattle.json_tree.specs.Tree.{treeAt}
 use Rattle.json_walk.specs.Walk.{elementsOf}
--- `rule_text::places::place_entries` meets its contract.
 use Rattle.rule_text.specs.Inner.Reads.{entriesAt}
 use borrow.Author.Needs.{needs}
 use Rattle.rule_text.proofs.places.place_entries.Statement.{statement}
@@ -14,7 +15,7 @@ use Rattle.rule_text.proofs.places.place_entries.Tie as tie
 
 abbrev Inv-loop : tie.InvT-loop
 Inv-loop text ends at list₀ step₀ n₀ count₀ list step n count =
-    Counting readPlace (λ l v. treeAt l text v) text (λ l. entriesAt readPlace l text at) step n count 0
+    Counting readPlace (λ l v. treeAt l text v) text (λ l. entriesAt readPlace l text at) step n count None
     × Storing (λ m. m) readPlace (λ l v. treeAt l text v) text (λ l. entriesAt readPlace l text at) list₀ list step n count
 
 abbrev μ-loop : tie.MeasureT-loop
@@ -58,8 +59,9 @@ loop-less : tie.Need-loop-less Inv-loop μ-loop
 loop-less c = search needs
 
 loop-again : tie.Need-loop-again Inv-loop μ-loop
+unfolding first
 loop-again c = (
-  counting-goes-on _ _ _ _ (c .before .before .before .before .before .before .step .given .1) (c .before .before .before .before .before .before .before .before .loop-test .taken) (c .before .before .before .before .before .before .before .before .before .loop .inv .0) (c .next-element .ensures) (sym (none-lower 0)) (λ l. refl),
+  counting-goes-on _ _ _ _ (c .before .before .before .before .before .before .step .given .1) (c .before .before .before .before .before .before .before .before .loop-test .taken) (c .before .before .before .before .before .before .before .before .before .loop .inv .0) (c .next-element .ensures) (sym (none-lower None)) (λ l. refl),
   storing-goes-on _ _ _ _ _ (c .before .before .before .before .before .before .step .given .1) (c .before .before .before .before .before .before .before .before .loop-test .taken) (c .before .before .before .before .before .before .before .before .before .loop .inv .1) (c .next-element .ensures) (c .before .before .before .put-place .ensures) (λ l. sym (place-tree l _ _)),
 )
 

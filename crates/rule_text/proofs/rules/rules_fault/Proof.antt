@@ -1,7 +1,8 @@
 -- `rule_text::rules::rules_fault` meets its contract.
 use Rattle.rule_text.proofs.PlaceLaws.{rules-not, rules-fault-is}
+use Rattle.fault.proofs.Laws.{fault-here}
 use borrow.Author.Tests.{eq-eqb, ne-eqb}
--- `rule_text::rules::rules_fault` meets its contract.
+use mathlib.Core.Path.{refl, sym}
 use borrow.Author.Needs.{needs}
 use Rattle.rule_text.proofs.rules.rules_fault.Statement.{statement}
 use Rattle.rule_text.proofs.rules.rules_fault.Tie as tie
@@ -11,7 +12,7 @@ byte-requires c κs = search needs
 
 returns : tie.Need-returns
 returns c =
-    λ l. rw (rules-not _ (c .before .before .before .before .args .text .now) (c .before .before .before .before .args .at) (rw (← (c .before .byte .ensures .is)) (ne-eqb _ _ (c .if1 .taken))))
+    λ l. rw (rules-not _ (c .before .before .before .before .args .text .now) (c .before .before .before .before .args .at) (rw (← (c .before .byte .ensures .is)) (ne-eqb _ _ (c .if1 .taken)))) (sym (fault-here 20 _ refl))
 
 rule-entries-requires : tie.Need-rule-entries-requires
 rule-entries-requires c κs = search needs

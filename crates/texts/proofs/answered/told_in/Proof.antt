@@ -29,7 +29,7 @@ same-length c = search needs
 returns : tie.Need-returns
 returns c =
     let q = c .before .before .before .before .before .before .before .before .before .before in
-    refused-placed _ (q .args .title) _ (q .fits .date) _ (was-refused _ _ _ (c .before .before .before .before .before .before .open-text .ensures) _ (c .before .before .answer .given .1)) _ (c .refused .ensures)
+    refused-placed _ (q .args .title) _ (q .fits .date) _ (was-refused _ _ _ (c .before .before .before .before .before .before .open-text .ensures) _ _ (c .before .before .answer .given .1)) _ (c .refused .ensures)
 
 same-length-2 : tie.Need-same-length-2
 same-length-2 c = search needs
