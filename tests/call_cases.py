@@ -4,6 +4,7 @@ import json
 from typing import NamedTuple
 
 from call_times import ZONES
+from event_cases import marked
 
 
 class Case(NamedTuple):
@@ -17,9 +18,10 @@ class Case(NamedTuple):
     bytes: str = None
     # UTC start and end of each record, found by hand
     times: list = None
-    # a text that is spelled otherwise, and the answer that 01 gives for it
+    # a text that is spelled otherwise, the answer that 01 gives for it, and the place that was found by hand
     text: str = None
     answer: int = None
+    place: int = None
 
 
 def dates(text, time='09:00:00'):
@@ -351,7 +353,7 @@ def lengths():
             yield Case(in_zone(zone, start, length), widest, zone=zone, times=[(first, last)])
     # "The limit of 366 days stays, still counted with 86,400."
     for length in ('P367D', 'P366DT1S', 'P52W2DT1S', 'P365DT24H1S', 'PT8784H1S'):
-        yield Case(in_zone(0, '2020-11-01T00:00:00', length), widest, answer=6)
+        yield Case(in_zone(0, '2020-11-01T00:00:00', length), widest, answer=22)
     # floating: a day has 24 hours
     for start, length, first, last in (
             ('2020-10-31T12:00:00', 'P1D', '2020-10-31T12:00:00', '2020-11-01T12:00:00'),
@@ -401,8 +403,45 @@ def patched_lengths():
         ('2021-03-14T07:30:00', '2021-03-15T07:30:00'), ('2020-11-01T03:00:00', '2020-11-02T04:00:00')])
 
 
+# 1 to 4 carry no place: texts with a wrong value, too. A byte that is no UTF-8 is written as a lone surrogate.
+WRONG = '{"@type":"Event","uid":"","updated":1,"start":"x"'
+WRONG_TEXTS = [
+    (1, WRONG + '}' + ' ' * (65537 - len(WRONG) - 1)), (2, WRONG + ',"x":' + '[' * 16 + ']' * 16 + '}'), (2, WRONG + ',"x":' + '[' * 16),
+    (3, ''), (3, ' '), (3, WRONG), (3, WRONG + '}}'), (3, WRONG + ',}'), (3, WRONG + ',"x":"\\ud800"}'), (3, WRONG + ',"x":"\udcff"}'),
+    (3, WRONG + ',"uid":01}'), (4, WRONG + ',"uid":"a"}'), (4, WRONG + ',"\\u0061":1}'), (4, WRONG + ',"x":[{"a":1,"a":2}]}'),
+    (4, WRONG[:1] + '"recurrenceOverrides":{"2024-02-02T10:00:0\\u0030":{}},' + WRONG[1:] + '}'), (5, '[]'), (5, '1'), (5, '{}'),
+    (5, '{"@type":"Event","uid":"","updated":1}'), (5, WRONG.replace('Event', 'Even\\u0074') + '}')]
+
+
+def filled(size, end):
+    """An event of a size, with a long string and then the end, which begins with a wrong value, and its place."""
+    made = json.dumps(plain(), separators=(',', ':'))[:-1] + ',"x":"ééé'
+    name = '","title": '
+    return made + 'a' * (size - len((made + name + end).encode())) + name + end, size - len(end)
+
+
+def places():
+    """Request 4: the call for places, and that the call for the table answers the same."""
+    widest = window(*WIDE)
+    for number, place, text in marked():
+        yield Case(json.loads(text) if number == 0 else None, widest, text=text, answer=number, place=place)
+    # a wrong value near the end of a long text
+    for size, value in ((2047, '1}'), (2048, '1}'), (2049, '1}'), (2048, '[""],"recurrenceId":1}'), (2049, 'null}'), (65536, 'null}')):
+        text, place = filled(size, value)
+        yield Case(None, widest, text=text, answer=20, place=place)
+    for number, text in WRONG_TEXTS:
+        yield Case(None, widest, text=text, answer=number)
+    # privacy: the place is the uploader's to see
+    for privacy in ('public', 'private', 'secret', 'whatever'):
+        made = plain(privacy=privacy, freeBusyStatus='x')
+        yield Case(made, widest, answer=24, place=len(json.dumps(made, separators=(',', ':'))) - len('"x"}'))
+        yield Case(plain(privacy=privacy, timeZone='Europe/London'), widest, place=0)
+        yield Case(plain(privacy=privacy), widest, 11, answer=13, place=0)
+
+
 def cases():
     for made, span, printed in dated():
         yield Case(made, span, printed=printed)
     yield from whole()
     yield from lengths()
+    yield from places()

@@ -2,16 +2,17 @@
 """What crates/call_vectors must print: `python3 tests/call_vectors.py > crates/call_vectors/stdout`.
 
 Its input: `python3 tests/call_vectors.py texts > crates/call_vectors/stdin`. Each case is an event's text, the number of a zone table, a window and
-the length of a buffer; what is printed is what the whole call gives. The recurrence ids are found here from document 01's six numbered rules by going
-through all days of every period, with Python's datetime, the table from 01's "The sheet and the words", and UTC in call_times.py; nothing is shared
-with the proved code. Where a case names the dates that its document prints, the times that were found by hand, or the answer, they are compared
-first."""
+the length of a buffer; what is printed is what two whole calls give, the one for places and the one for the table. The recurrence ids are found here
+from document 01's six numbered rules by going through all days of every period, with Python's datetime, the table from 01's "The sheet and the
+words", UTC in call_times.py, and what is wrong with a text, and where, in event_vectors.py; nothing is shared with the proved code. Where a case
+names the dates that its document prints, the times or the place that were found by hand, or the answer, they are compared first."""
 import datetime
 import json
 import struct
 import sys
 
 import call_times
+import event_vectors
 
 DAYS = ['mo', 'tu', 'we', 'th', 'fr', 'sa', 'su']
 ONE = datetime.timedelta(days=1)
@@ -172,8 +173,17 @@ def table(event, window, zone):
     return records + struct.pack('<HHII', 28, 1, len(found), 28 * len(found))
 
 
+def text_of(case):
+    return case.text if case.text is not None else json.dumps(case.event, separators=(',', ':'))
+
+
+def located(case):
+    """The answer for the text, and the place. 1 to 4 are said by the case: "only a call of the uploader's own, on one text, gives the place"."""
+    return (case.answer, 0) if case.answer in (1, 2, 3, 4) else event_vectors.read_event(text_of(case))[:2]
+
+
 def outcome(case):
-    """The answer and the bytes: 12, 13 or 0. What is wrong with a text is said by the case."""
+    """The answer and the bytes for a text that is accepted: 12, 13 or 0."""
     zone = call_times.ZONES[case.zone]
     if case.event.get('privacy') != 'secret' and case.event.get('timeZone') not in (None, zone.name):
         return 12, b''
@@ -201,8 +211,17 @@ def instant(time):
 
 
 def expected(case):
-    if case.answer is not None:
-        return line(case.answer, b'')
+    number, place = located(case)
+    if case.place is not None and place != case.place:
+        sys.exit(f'another place was found by hand: {place} {text_of(case)}')
+    answer, made = (number, b'') if number != 0 else table_of(case)
+    if case.answer is not None and answer != case.answer:
+        sys.exit(f'another answer was found by hand: {answer} {text_of(case)}')
+    return f'{number} {place} {line(answer, made)}'
+
+
+def table_of(case):
+    """The outcome, compared with what the case has of it."""
     if case.printed is not None and ids(case.event, case.window) != case.printed:
         sys.exit(f'the document prints other dates: {case.event}')
     answer, made = outcome(case)
@@ -210,14 +229,14 @@ def expected(case):
         sys.exit(f'the document prints other bytes: {case.event}')
     if case.times is not None and times_in(made) != [(instant(start), instant(end)) for start, end in case.times]:
         sys.exit(f'other times were found by hand: {case.event}')
-    return line(answer, made)
+    return answer, made
 
 
 if __name__ == '__main__':
     from call_cases import cases
     for case in cases():
         if sys.argv[1:] == ['texts']:
-            text = case.text if case.text is not None else json.dumps(case.event, separators=(',', ':'))
-            sys.stdout.write(f'{case.zone} {from_1600(case.window[0])} {from_1600(case.window[1])} {case.room} {text}\x1e')
+            made = f'{case.zone} {from_1600(case.window[0])} {from_1600(case.window[1])} {case.room} {text_of(case)}\x1e'
+            sys.stdout.buffer.write(made.encode('utf-8', 'surrogateescape'))
         else:
             print(expected(case))

@@ -1,8 +1,9 @@
-"""The texts of crates/event_vectors: for every property each kind of wrong value, each limit from both sides, combinations in which the lower
-number must win, spellings that mean the same."""
+"""The texts of crates/event_vectors: for every property each kind of wrong value, each limit from both sides, combinations of wrong values in both
+orders, spellings that mean the same. Some have the place marked at which the fault that decides begins."""
 
 BASE = {'@type': '"Event"', 'uid': '"a"', 'updated': '"2020-01-01T00:00:00Z"', 'start': '"2024-01-31T09:30:00"'}
 RULE = {'@type': '"RecurrenceRule"', 'frequency': '"monthly"'}
+NDAY = {'@type': '"NDay"', 'day': '"mo"'}
 KINDS = ['null', 'false', 'true', '0', '-1', '1.5', '1e2', '""', '"x"', '"a\\\\b"', '"\\u0061"', '[]', '{}', '["x"]', '{"x":1}']
 
 
@@ -31,7 +32,7 @@ def with_rule(*rules):
 
 
 def nday(day='"mo"', **more):
-    return obj({'@type': '"NDay"', 'day': day, **more})
+    return obj({**NDAY, 'day': day, **more})
 
 
 def override(name, **patch):
@@ -59,7 +60,7 @@ def top():
     for name in BASE:
         yield without(name)
         for kind in KINDS:
-            yield without(name, **{name: kind})
+            yield event(**{name: kind})
     yield event(ATtype='"event"')
     yield event(ATtype='"Even\\u0074"')
     yield event(ATtype='"Task"', start='1')
@@ -101,7 +102,7 @@ def rules():
         for name in ('byMonthDay', 'byMonth', 'bySetPosition', 'byDay'):
             yield with_rule(rule(**{name: arr([kind])}))
         for name in ('@type', 'day', 'nthOfPeriod', 'other'):
-            yield with_rule(rule(byDay=arr([obj({'@type': '"NDay"', 'day': '"mo"', name: kind})])))
+            yield with_rule(rule(byDay=arr([obj({**NDAY, name: kind})])))
     yield with_rule(obj({'frequency': '"daily"'}))
     yield with_rule(obj({'@type': '"RecurrenceRule"'}))
     for frequency in ('daily', 'weekly', 'monthly', 'yearly', 'hourly', 'minutely', 'secondly', 'Daily', 'dail', 'dailyy', 'fortnightly'):
@@ -193,6 +194,242 @@ def overrides():
     yield event(**own, recurrenceOverrides=obj({day: obj({n: 'null' for n in ('duration', 'freeBusyStatus', 'showWithoutTime', 'title', 'description', 'excluded')})}))
 
 
+# ---- places
+
+DAY = '2024-02-02T10:00:00'
+MARK = '¦'
+
+# The number, and a text with a mark before the value that decides, or none for 7 to 9. `EVENT` stands for the members that an event must have.
+EVENT = '"@type":"Event","uid":"a","updated":"2020-01-01T00:00:00Z","start":"2024-01-31T09:30:00"'
+RULE_IS = '"@type":"RecurrenceRule","frequency":"monthly"'
+MARKED = [
+    (0, '{EVENT}'),
+    (5, '{"@type":"Task","uid":"","updated":"","start":""}'),
+    # every number, at the top
+    (20, '{EVENT,"title":¦1}'),
+    (20, '{EVENT,"title":¦null}'),
+    (20, '{EVENT,"showWithoutTime":¦"true"}'),
+    (20, '{EVENT,"recurrenceRules":¦{}}'),
+    (20, '{EVENT,"recurrenceOverrides":¦[]}'),
+    (21, '{"@type":"Event","uid":"a","updated":"2020-01-01T00:00:00Z","start":¦"2023-02-29T00:00:00"}'),
+    (21, '{"@type":"Event","uid":"a","updated":¦"2020-01-01T00:00:00","start":"2024-01-31T09:30:00"}'),
+    (21, '{"@type":"Event","uid":"a","updated":"2020-01-01T00:00:00Z","start":¦"2024-01-31T09:30:00.50"}'),
+    (8, '{"@type":"Event","uid":"a","updated":"2020-01-01T00:00:00Z","start":"2024-01-31T09:30:00.5"}'),
+    (22, '{EVENT,"duration":¦"P"}'),
+    (22, '{EVENT,"duration":¦"P367D"}'),
+    (24, '{EVENT,"freeBusyStatus":¦"tentative"}'),
+    (26, '{EVENT,"timeZone":¦""}'),
+    (26, '{"@type":"Event","uid":¦"","updated":"2020-01-01T00:00:00Z","start":"2024-01-31T09:30:00"}'),
+    (26, '{EVENT,"privacy":¦"publi\\u0063"}'),
+    # and in a rule
+    (20, '{EVENT,"recurrenceRules":[¦1]}'),
+    (20, '{EVENT,"recurrenceRules":[{RULE_IS,"byDay":[¦"mo"]}]}'),
+    (20, '{EVENT,"recurrenceRules":[{RULE_IS,"byMonth":[¦2]}]}'),
+    (20, '{EVENT,"recurrenceRules":[{RULE_IS,"interval":¦"\\u0031"}]}'),
+    (21, '{EVENT,"recurrenceRules":[{RULE_IS,"until":¦"2024"}]}'),
+    (23, '{EVENT,"recurrenceRules":[{RULE_IS,"interval":¦0}]}'),
+    (23, '{EVENT,"recurrenceRules":[{RULE_IS,"count":¦1.0}]}'),
+    (23, '{EVENT,"recurrenceRules":[{RULE_IS,"count":¦1e3}]}'),
+    (23, '{EVENT,"recurrenceRules":[{RULE_IS,"bySetPosition":[1, ¦-367]}]}'),
+    (24, '{EVENT,"recurrenceRules":[{"@type":¦"Rule","frequency":"monthly"}]}'),
+    (24, '{EVENT,"recurrenceRules":[{RULE_IS,"byMonth":["1",¦"13"]}]}'),
+    (24, '{EVENT,"recurrenceRules":[{RULE_IS,"byDay":[{"@type":¦"Day","day":"mo"}]}]}'),
+    (24, '{EVENT,"recurrenceRules":[{RULE_IS,"byDay":[{"@type":"NDay","day":¦"MO"}]}]}'),
+    (24, '{EVENT,"recurrenceRules":[{RULE_IS,"skip":¦"omits"}]}'),
+    (25, '{EVENT,"recurrenceRules":[{RULE_IS,"byDay":¦[]}]}'),
+    (25, '{EVENT,"recurrenceRules":[{RULE_IS,"byMonthDay": ¦[ ] }]}'),
+    (26, '{EVENT,"recurrenceRules":[{RULE_IS,"rscale":¦"gregoria\\u006e"}]}'),
+    (8, '{EVENT,"recurrenceRules":[{RULE_IS,"rscale":"hebrew"}]}'),
+    # "a missing member counts at its object"
+    (26, '{EVENT,"recurrenceRules":[¦{}]}'),
+    (26, '{EVENT,"recurrenceRules":[{RULE_IS}, ¦{"@type":"RecurrenceRule"}]}'),
+    (26, '{EVENT,"recurrenceRules":[{RULE_IS}],"excludedRecurrenceRules":[ ¦{"frequency":"daily"}]}'),
+    (26, '{EVENT,"recurrenceRules":[ ¦{"interval":0,"frequency":"x"}]}'),
+    (26, '{EVENT,"recurrenceRules":[{RULE_IS,"byDay":[{"@type":"NDay","day":"mo"},¦{"@type":"NDay"}]}]}'),
+    (26, '{EVENT,"recurrenceRules":[{RULE_IS,"byDay":[{"@type":"NDay","day":"mo"},¦{"nthOfPeriod":0,"day":"x"}]}]}'),
+    (26, '{EVENT,"recurrenceRules":[¦{"byDay":[{}]}]}'),
+    (23, '{EVENT,"recurrenceRules":[{RULE_IS,"interval":¦0},{}]}'),
+    # "an override name being a value too"
+    (21, '{EVENT,"recurrenceOverrides":{¦"x":{}}}'),
+    (21, '{EVENT,"recurrenceOverrides":{¦"":1}}'),
+    (21, '{EVENT,"recurrenceOverrides":{"2024-02-02T10:00:00":{}, ¦"2024-02-30T10:00:00":{"title":1}}}'),
+    (20, '{EVENT,"recurrenceOverrides":{"2024-02-02T10:00:00":{"title":¦1}, "2024-02-30T10:00:00":{}}}'),
+    (20, '{EVENT,"recurrenceOverrides":{"2024-02-02T10:00:00.5":¦1}}'),
+    (20, '{EVENT,"recurrenceOverrides":{"2024-02-02T10:00:00":{"timeZone":"a","start":¦null}}}'),
+    (8, '{EVENT,"recurrenceOverrides":{"2024-02-02T10:00:00.5":{}}}'),
+    # "The earliest place decides, then the lowest number": bytes are counted, white space and all
+    (26, '{"uid":¦"","start":"x","@type":"Event","updated":1}'),
+    (20, '{"updated":¦1,"start":"x","@type":"Event","uid":""}'),
+    (21, '{"start":¦"x","@type":"Event","uid":"","updated":1}'),
+    (22, ' \t\r\n{ EVENT ,\n"title" : "é€𐍈" , "é€" : "𐍈" , "duration" :\r\n ¦"PT" , "privacy" : 1 }'),
+    (24, '{"x":{"start":1,"y":[{}]},EVENT,"description":"\\"\\\\\\u00e9","freeBusyStatus":¦"é"}'),
+    # 7 to 9 carry no place and come after 20 to 26, wherever they stand
+    (7, '{EVENT,"recurrenceRules":[{RULE_IS,"count":1,"until":"2024-01-01T00:00:00"}]}'),
+    (20, '{EVENT,"recurrenceRules":[{RULE_IS,"count":1,"until":"2024-01-01T00:00:00"}],"title":¦1}'),
+    (20, '{EVENT,"recurrenceId":1,"title":¦1}'),
+    (20, '{EVENT,"title":¦1,"recurrenceId":1}'),
+    (7, '{EVENT,"recurrenceId":1,"recurrenceOverrides":{"2024-02-02T10:00:00":{"excluded":true,"a":1}}}'),
+]
+
+
+def marked():
+    """The number, the place and the text of each case that has a mark."""
+    for number, text in MARKED:
+        text = text.replace('EVENT', EVENT).replace('RULE_IS', RULE_IS)
+        before, _, after = text.partition(MARK)
+        yield number, len(before.encode()) if after else 0, before + after
+
+
+# Members by the number that they answer, at the top, in a rule, in an entry of `byDay` and in a patch.
+NINTH = arr([rule()] * 9)
+WRONG_TOP = [
+    (20, 'title', '1'), (20, 'recurrenceOverrides', '[]'), (20, 'recurrenceRules', '[null]'), (21, 'start', '"x"'), (21, 'updated', '"x"'),
+    (22, 'duration', '"P"'), (23, 'recurrenceRules', arr([rule(interval='0')])), (24, 'freeBusyStatus', '"x"'),
+    (25, 'excludedRecurrenceRules', arr([rule(byMonth='[]')])), (26, 'uid', '""'), (26, 'excludedRecurrenceRules', '[{}]'),
+    (21, 'recurrenceOverrides', '{"x":{}}'), (7, 'recurrenceOverrides', obj({DAY: '{"excluded":true,"a":1}'})), (8, 'recurrenceId', '1'),
+    (9, 'excludedRecurrenceRules', NINTH)]
+WRONG_RULE = [
+    (20, 'rscale', '1'), (20, 'byDay', '{}'), (21, 'until', '"x"'), (23, 'interval', '0'), (23, 'bySetPosition', '[1,0]'), (24, 'firstDayOfWeek', '"x"'),
+    (24, 'frequency', '"x"'), (25, 'byMonth', '[]'), (26, 'skip', '"omi\\u0074"'), (26, 'byDay', '[{}]'), (8, 'byYearDay', '1'), (8, 'frequency', '"hourly"'),
+    (9, 'byMonthDay', arr(['5'] * 65))]
+WRONG_NDAY = [(20, 'day', '1'), (24, 'day', '"x"'), (24, '@type', '"x"'), (26, '@type', '"NDa\\u0079"'), (23, 'nthOfPeriod', '0'), (20, 'nthOfPeriod', '"1"'),
+              (7, 'nthOfPeriod', '1')]
+WRONG_PATCH = [
+    (20, 'title', '1'), (20, 'start', 'null'), (20, 'showWithoutTime', '"x"'), (20, 'excluded', '1'), (21, 'start', '"x"'), (22, 'duration', '"P"'),
+    (24, 'freeBusyStatus', '"x"'), (26, 'freeBusyStatus', '"\\u0062usy"'), (26, 'duration', '"P1\\u0044"'), (7, 'excluded', 'true'), (8, 'timeZone', 'null'),
+    (8, 'a/b', '1'), (8, 'start', '"2024-01-01T00:00:00.5"')]
+
+
+def pairs(wrong):
+    """Two members each, in both orders."""
+    for _, name, value in wrong:
+        for _, other, more in wrong:
+            if name != other:
+                yield {name: value, other: more}
+
+
+def last(members, base):
+    """The base's members, then others, which may stand for some of the base."""
+    return obj({**{n: v for n, v in base.items() if n not in members}, **members})
+
+
+def alone():
+    """The number, and a text in which one member answers it."""
+    for number, name, value in WRONG_TOP:
+        yield number, last({name: value}, BASE)
+    for number, name, value in WRONG_RULE:
+        yield number, with_rule(rule(count='5'), last({name: value}, RULE))
+    for number, name, value in WRONG_NDAY:
+        yield number, with_rule(rule(frequency='"weekly"', byDay=arr([nday(), last({name: value}, NDAY)])))
+    for number, name, value in WRONG_PATCH:
+        yield number, event(recurrenceOverrides=obj({DAY: '{}', '2024-02-03T10:00:00': last({name: value}, {'description': '"d"'})}))
+
+
+def in_both_orders():
+    for members in pairs(WRONG_TOP):
+        yield last(members, BASE)
+        yield obj({**members, **{n: v for n, v in BASE.items() if n not in members}})
+    for members in pairs(WRONG_RULE):
+        yield with_rule(last(members, RULE))
+    for members in pairs(WRONG_NDAY):
+        yield with_rule(rule(frequency='"weekly"', byDay=arr([nday(), last(members, NDAY)])))
+    for members in pairs(WRONG_PATCH):
+        yield event(recurrenceOverrides=obj({DAY: obj(members)}))
+    # a patch's member, or its name, beside those of another
+    for _, name, value in WRONG_PATCH:
+        for other in ('x', '2024-02-03T10:00:00.5', '2024-02-03T10:00:00.50'):
+            yield event(recurrenceOverrides=obj({DAY: obj({name: value}), other: '{}'}))
+            yield event(recurrenceOverrides=obj({other: obj({name: value})}))
+            yield event(recurrenceOverrides=obj({other: '{}', DAY: obj({name: value})}))
+            yield event(recurrenceOverrides=obj({other: '1', DAY: obj({name: value})}))
+
+
+# Every string that is read, in a text; `STRING` stands for it, and a right value is named.
+STRINGS = [
+    ('2024-01-31T09:30:00', event(start='STRING')), ('2020-01-01T00:00:00Z', event(updated='STRING')), ('a', event(uid='STRING')),
+    ('PT1H', event(duration='STRING')), ('free', event(freeBusyStatus='STRING')), ('secret', event(privacy='STRING')), ('x', event(timeZone='STRING')),
+    ('RecurrenceRule', with_rule(rule(**{'@type': 'STRING'}))), ('daily', with_rule(rule(frequency='STRING'))),
+    ('2024-01-31T09:30:00', with_rule(rule(until='STRING'))), ('mo', with_rule(rule(firstDayOfWeek='STRING'))),
+    ('1', with_rule(rule(byMonth='["2",STRING,"0"]'))), ('gregorian', with_rule(rule(rscale='STRING'))), ('omit', with_rule(rule(skip='STRING'))),
+    ('NDay', with_rule(rule(byDay=arr([nday(**{'@type': 'STRING'})])))), ('su', with_rule(rule(byDay=arr([nday(), nday('STRING')])))),
+    ('2024-01-31T09:30:00', override(DAY, start='STRING')), ('P1D', override(DAY, duration='STRING')), ('busy', override(DAY, freeBusyStatus='STRING')),
+    # strings with any bytes, and what is no string
+    ('a', event(title='STRING')), ('a', event(description='STRING')), ('a', override(DAY, title='STRING')), ('a', override(DAY, description='STRING')),
+    ('1', with_rule(rule(interval='STRING'))), ('1', with_rule(rule(count='STRING'))), ('1', with_rule(rule(byMonthDay='[2,STRING]'))),
+    ('1', with_rule(rule(bySetPosition='[STRING]'))), ('1', with_rule(rule(byDay=arr([nday(nthOfPeriod='STRING')])))),
+    ('a', event(showWithoutTime='STRING')), ('a', override(DAY, excluded='STRING')), ('Event', event(ATtype='STRING')), ('a', event(other='STRING'))]
+
+
+def backslashes():
+    """"26, which a wrong backslash always is"."""
+    for right, text in STRINGS:
+        escaped = f'\\u{ord(right[0]):04x}{right[1:]}'
+        for string in (right, escaped, right + '\\n', '\\/', 'x\\\\', '\\"' + right, right + '.5\\t', 'é', 'x'):
+            yield text.replace('STRING', f'"{string}"')
+
+
+def spaced(text, by):
+    """White space around every token, all of it before a value counted."""
+    made, inside, escape = by, False, False
+    for c in text:
+        made += c if inside or c not in '{}[]:,' else by + c + by
+        if escape or c == '\\':
+            escape = not escape
+        elif c == '"':
+            inside = not inside
+    return made + by
+
+
+def moved():
+    """Places after white space, after characters of two to four bytes and after members that are not read."""
+    for _, text in alone():
+        yield text
+        yield spaced(text, ' ')
+        yield spaced(text, '\r\n\t ')
+        yield '{"é€𐍈":["𐍈",{"start":1,"é":{}}],' + text[1:]
+        yield text[:-1] + ',"title2":"\\\\é","é":"é"}'
+    for name in ('byDay', 'byMonthDay', 'byMonth', 'bySetPosition'):
+        for other in ('byDay', 'byMonthDay', 'byMonth', 'bySetPosition'):
+            yield with_rule(rule(**{name: '[]', other: '[]'}))
+            yield with_rule(rule(**{name: '[]', other: '[true]'}))
+            yield with_rule(rule(**{other: '[]'}), rule(**{name: '1'}))
+
+
+class Draw:
+    """The same numbers on every machine."""
+    def __init__(self, seed):
+        self.state = seed
+
+    def below(self, n):
+        self.state = (self.state * 6364136223846793005 + 1442695040888963407) % 2 ** 64
+        return (self.state >> 33) % n
+
+    def order(self, items):
+        items = list(items)
+        return [items.pop(self.below(len(items))) for _ in range(len(items))]
+
+
+def drawn():
+    """Several wrong members of all kinds in one text, the members of each object in any order."""
+    draw = Draw(4)
+
+    def some(base, wrong, most):
+        picked = dict((name, value) for _, name, value in (wrong[draw.below(len(wrong))] for _ in range(draw.below(most + 1))))
+        return obj(dict(draw.order({**base, **picked}.items())))
+
+    for _ in range(250):
+        days = arr([some(NDAY, WRONG_NDAY, 1) for _ in range(1 + draw.below(2))])
+        rules = [some({**RULE, 'byDay': days} if draw.below(2) else RULE, WRONG_RULE, 2) for _ in range(draw.below(3))]
+        dates = draw.order([DAY, '2024-02-03T10:00:00', 'é', '2024-02-04T10:00:00.5'])[:draw.below(3)]
+        patches = {date: some({'title': '"t"'}, WRONG_PATCH, 2) for date in dates}
+        members = {'recurrenceRules': arr(rules), 'recurrenceOverrides': obj(patches), 'title': '"é"'}
+        yield spaced(some({**BASE, **members}, WRONG_TOP, 1), ' ' * draw.below(2))
+
+
 def cases():
     for part in (top, rules, limits, overrides):
+        yield from part()
+    for _, _, text in marked():
+        yield text
+    for part in (in_both_orders, backslashes, moved, drawn):
         yield from part()

@@ -1,8 +1,8 @@
 #!/usr/bin/env python3
 """What crates/values_vectors must print: `python3 tests/values_vectors.py > crates/values_vectors/stdout`.
 
-Reads the cases from crates/values_vectors/stdin and finds the answers anew from 01, "Reading the event", with regular expressions,
-Python's datetime and unbounded integers. It shares nothing with the proved code."""
+Reads the cases from crates/values_vectors/stdin and finds the answers anew from 01, "Reading the event", and request 4's numbers, with regular
+expressions, Python's datetime and unbounded integers. It shares nothing with the proved code."""
 import datetime
 import pathlib
 import re
@@ -25,12 +25,12 @@ def moment(parts):
 def local(text, last):
     found = re.fullmatch(STAMP + r"(?:\.([0-9]*))?", text)
     if not found:
-        return "fault 6"
+        return "fault 21"
     when = moment(found.groups()[:6])
     if when is None or not 1601 <= int(found[1]) <= last:
-        return "fault 6"
+        return "fault 21"
     if found[7] is not None:
-        return "fault 8" if LEGAL.fullmatch(found[7]) else "fault 6"
+        return "fault 8" if LEGAL.fullmatch(found[7]) else "fault 21"
     since = when - datetime.datetime(1600, 1, 1)
     return str(since.days * DAY + since.seconds)
 
@@ -49,7 +49,7 @@ DURATION = re.compile(r"P(?:(?:(?P<w>[0-9]+)W)?(?:(?P<d>[0-9]+)D)?)" + TIME + "?
 def span(text):
     found = DURATION.fullmatch(text)
     if not found or len(text) == 1:
-        return "fault 6"
+        return "fault 22"
 
     def of(*names):
         return next((found[name] for name in names if found[name] is not None), None)
@@ -62,8 +62,8 @@ def span(text):
     fraction = of("f1", "f2", "f3")
     total = DAY * days + seconds
     if fraction is not None:
-        return "fault 8" if LEGAL.fullmatch(fraction) and total < 366 * DAY else "fault 6"
-    return "fault 6" if total > 366 * DAY else f"{days} days {seconds}"
+        return "fault 8" if LEGAL.fullmatch(fraction) and total < 366 * DAY else "fault 22"
+    return "fault 22" if total > 366 * DAY else f"{days} days {seconds}"
 
 
 def among(names, text, first=0):
@@ -74,12 +74,15 @@ MONTHS = [str(k) for k in range(1, 13)]
 
 
 def month(text):
-    return among(MONTHS, text, 1) or ("fault 8" if text[-1:] == "L" and text[:-1] in MONTHS else "fault 6")
+    return among(MONTHS, text, 1) or ("fault 8" if text[-1:] == "L" and text[:-1] in MONTHS else "fault 24")
 
 
 def join(text):
-    faults = [int(c) for c in text if c != "0"]
-    return f"fault {min(faults, default=0)}"
+    """Request 4: "The order against the other numbers is that of 6", "The earliest place decides, then the lowest number". A fault is written with
+    two digits for its number, 00 for none, and one for its place, which only 20 to 26 carry."""
+    faults = [(int(part[:2]), int(part[2])) for part in text.split() if part[:2] != "00"]
+    number, place = min(faults, key=lambda f: (6 if f[0] >= 20 else f[0], f[1], f[0]), default=(0, 0))
+    return f"fault {number} at {place if number >= 20 else 0}"
 
 
 READERS = {
@@ -88,15 +91,15 @@ READERS = {
     "z": utc,
     "d": span,
     "j": join,
-    "b": lambda t: among(["free", "busy"], t) or "fault 6",
+    "b": lambda t: among(["free", "busy"], t) or "fault 24",
     "p": lambda t: among(["public", "private", "secret"], t) or "1",
     "E": lambda t: str(int(t == "Event")),
     "R": lambda t: str(int(t == "RecurrenceRule")),
     "N": lambda t: str(int(t == "NDay")),
-    "f": lambda t: among(["daily", "weekly", "monthly", "yearly"], t, 1) or ("fault 8" if t in ("hourly", "minutely", "secondly") else "fault 6"),
-    "w": lambda t: among(["mo", "tu", "we", "th", "fr", "sa", "su"], t) or "fault 6",
+    "f": lambda t: among(["daily", "weekly", "monthly", "yearly"], t, 1) or ("fault 8" if t in ("hourly", "minutely", "secondly") else "fault 24"),
+    "w": lambda t: among(["mo", "tu", "we", "th", "fr", "sa", "su"], t) or "fault 24",
     "m": month,
-    "k": lambda t: "fault 0" if t == "omit" else "fault 8" if t in ("forward", "backward") else "fault 6",
+    "k": lambda t: "fault 0" if t == "omit" else "fault 8" if t in ("forward", "backward") else "fault 24",
     "r": lambda t: "fault 0" if t == "gregorian" else "fault 8",
 }
 

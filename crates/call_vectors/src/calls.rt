@@ -8,6 +8,17 @@ use crate::zones;
 use crate::zones::Zone;
 use record::window::since_1970;
 use smocurant::by_numbers::smocurant_expand;
+use smocurant::places::smocurant_locate;
+
+// The answer for a text alone, and the place. The call writes the place, whatever stood there.
+fn locate(text: &[u8]) {
+    let mut place: u64 = 999999;
+    let answer = smocurant_locate(text, &mut place);
+    number(answer as u64);
+    say(b" ");
+    number(place);
+    say(b" ");
+}
 
 // How many bytes from a place on are not what they were: 0.
 fn changed(buffer: &[u8], from: usize) -> u64
@@ -108,6 +119,7 @@ fn run_in(zone_number: u64, text: &[u8], from: u64, to: u64, buffer: &mut [u8])
 pub(crate) fn call(text: &[u8], zone_number: u64, from: u64, to: u64, room: u64)
     requires { ⌜ (from < 2 ^ 60) × (to < 2 ^ 60) ⌝ }
 {
+    locate(text);
     let mut buffer = [0u8; 8192];
     let end = room_of(room);
     run_in(zone_number, text, from, to, &mut buffer[..end]);

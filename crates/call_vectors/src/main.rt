@@ -1,6 +1,7 @@
-// Reads the cases of its input and writes what the whole call gives for each: the answer, the length, the table in hexadecimal digits, and how
-// many bytes of the buffer changed that are none of the table's. A case is four numbers, each with a space after it (the zone table's number, the
-// window's ends as seconds from 1600, the buffer's length), and an event's text with byte 0x1E after it.
+// Reads the cases of its input and writes what the whole calls give for each: the answer and the place of the call for places, then of the call for
+// the table the answer, the length, the table in hexadecimal digits, and how many bytes of the buffer changed that are none of the table's. A case
+// is four numbers, each with a space after it (the zone table's number, the window's ends as seconds from 1600, the buffer's length), and an event's
+// text with byte 0x1E after it.
 ghost use Prim.Native.Nat.{_≤_, _<_};
 ghost use lib.ListN.{length};
 
@@ -51,7 +52,7 @@ fn read_all(all: &[u8]) {
 }
 
 fn main() {
-    let mut input = [0u8; 262144];
+    let mut input = [0u8; 524288];
     let n = io::read_full(0, &mut input);
     read_all(&input[..n]);
 }

@@ -1,4 +1,4 @@
-// An event on the output: the number, and what was read.
+// An event on the output: the number, its place, and what was read.
 ghost use Rattle.json_ends.specs.Inner.Ends.{Ends};
 use crate::print::mark;
 use crate::print::number;
@@ -113,8 +113,11 @@ fn judged(text: &[u8], ends: &[u32])
     requires { ⌜ Ends (now text) (now ends) ⌝ }
 {
     let head = event_text::heads::head(text, ends);
-    let answer = event_text::whole::event_fault(text, ends, head);
+    let first = event_text::whole::event_first(text, ends, head);
+    let answer = fault::number_of(first);
     number(answer as u64);
+    say(b" ");
+    number(fault::place_of(first) as u64);
     say(b"\n");
     if answer == 0 {
         accepted(text, ends, head);

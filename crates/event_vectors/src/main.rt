@@ -1,5 +1,5 @@
-// Reads the event texts of its input, each with byte 0x1E after it, and writes for each the lowest of 5 to 9 that applies or 0, and what is
-// read of an accepted event. The input comes in blocks of 262,144 bytes; a text does not go over from one to the next.
+// Reads the event texts of its input, each with byte 0x1E after it, and writes for each the number that is given and its place, each 0 where there
+// is none, and what is read of an accepted event. The input comes in blocks of 262,144 bytes; a text does not go over from one to the next.
 ghost use Prim.Native.Nat.{_≤_};
 ghost use lib.ListN.{length};
 

@@ -97,8 +97,8 @@ fn line(kind: &[u8], text: &[u8], ends: &[u32], at: usize)
     requires { ⌜ Ends (now text) (now ends) ⌝ }
 {
     let read = rule_text::rules::read_rule(text, ends, at);
-    let fault = read.fault;
-    if fault == 0 {
+    let first = read.fault;
+    if fault::number_of(first) == 0 {
         let rule = read.rule;
         say(kind);
         let rate = rule.frequency;

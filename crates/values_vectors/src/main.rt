@@ -1,10 +1,10 @@
 // Runs the cases of stdin, one to a line, against the proved readers of values, and prints a line for each. A case is a letter for the
 // reader, a space, and the string that is read. What must be printed is found anew by tests/values_vectors.py.
-ghost use mathlib.Core.Path.{_≡_};
-ghost use Prim.Native.Nat.{_≤_};
+ghost use Prim.Native.Nat.{_≤_, _<_};
 ghost use lib.ListN.{length};
 use date_time::DateTime;
 use duration::Span;
+use fault::First;
 use json_text::bytes::byte;
 use keywords::FreeBusy;
 use keywords::Named;
@@ -127,7 +127,23 @@ fn word(kind: u8, raw: &[u8]) {
     rule_word(kind, raw);
 }
 
-// Date-times and durations, the join of two faults of one digit each, and words.
+// A fault in three digits at a place of the line: two for its number, 00 for none, and one for its place.
+fn fault_in(raw: &[u8], at: usize) -> First
+    requires { ⌜ at < 100 ⌝ }
+{
+    let place = digits::digit(byte(raw, at + 2));
+    fault::fault_at(digits::two(raw, at), place as usize)
+}
+
+// The one of two faults that decides.
+fn join(raw: &[u8]) {
+    let decided = fault::lower(fault_in(raw, 0), fault_in(raw, 4));
+    fault(fault::number_of(decided));
+    io::write_all(STDOUT_FILENO, b" at ");
+    number(fault::place_of(decided) as u64);
+}
+
+// Date-times and durations, the join of two faults, and words.
 fn value(kind: u8, raw: &[u8]) {
     if kind == b's' {
         date_time(date_time::local::local(raw, 9998));
@@ -146,9 +162,7 @@ fn value(kind: u8, raw: &[u8]) {
         return;
     }
     if kind == b'j' {
-        let a = digits::digit(byte(raw, 0));
-        let b = digits::digit(byte(raw, 1));
-        fault(fault::lower(a, b));
+        join(raw);
         return;
     }
     word(kind, raw);

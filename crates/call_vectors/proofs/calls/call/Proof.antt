@@ -1,8 +1,12 @@
+-- `calls::call` meets its contract.
 use lib.Seq.{length-take-le}
 use mathlib.Core.Path.{sym}
 use borrow.Author.Needs.{needs}
 use Rattle.call_vectors.proofs.calls.call.Statement.{statement}
 use Rattle.call_vectors.proofs.calls.call.Tie as tie
+
+locate-requires : tie.Need-locate-requires
+locate-requires c κs = search needs
 
 room-of-requires : tie.Need-room-of-requires
 room-of-requires c κs = search needs
@@ -22,4 +26,4 @@ returns c = search needs
 pub call-spec : {M : Type 1} → statement M
 call-spec =
     tie.close
-    (tie.spec room-of-requires array-borrow-prefix-buffer slice-aggregate-run-in run-in-requires returns)
+    (tie.spec locate-requires room-of-requires array-borrow-prefix-buffer slice-aggregate-run-in run-in-requires returns)
