@@ -1,5 +1,6 @@
 //! The events that a command is given: where they are, their zones, and their occurrences in a window.
 
+use crate::complaint::{Complaint, ShowLine};
 use crate::failure::Failure;
 use crate::inputs::{self, Source};
 use crate::options::Common;
@@ -13,27 +14,20 @@ pub struct Events {
     pub unreadable: usize,
     zones: Vec<ZoneTable>,
     window: Window,
+    show: ShowLine,
 }
 
 impl Events {
     /// Finds the files, and reads the tables of the zones.
-    pub fn find(common: &Common, window: Window) -> Result<Events, Failure> {
-        let mut events = Events { sources: Vec::new(), unreadable: 0, zones: zones(common, window)?, window };
-        for word in &common.events {
-            match inputs::sources(word) {
-                Ok(found) => events.sources.extend(found),
-                Err(complaint) => {
-                    events.unreadable += 1;
-                    eprintln!("smocurant: {complaint}");
-                }
-            }
-        }
-        Ok(events)
+    pub fn find(common: &Common, window: Window, show: ShowLine) -> Result<Events, Failure> {
+        let zones = zones(common, window)?;
+        let (sources, unreadable) = inputs::all_sources(&common.events);
+        Ok(Events { sources, unreadable, zones, window, show })
     }
 
     /// The text and the table of an event. A zone that is not the event's gives way to the next.
-    pub fn occurrences(&self, source: &Source) -> Result<(Vec<u8>, Table<'static>), String> {
-        let text = source.text().map_err(|error| format!("cannot be read: {error}"))?;
+    pub fn occurrences(&self, source: &Source) -> Result<(Vec<u8>, Table<'static>), Complaint> {
+        let text = source.text().map_err(|error| Complaint::new(format!("cannot be read: {error}")))?;
         let mut answer = Err(Status::OtherZone);
         for zone in &self.zones {
             answer = smocurant::expand_to_vec(&text, zone, self.window);
@@ -43,10 +37,8 @@ impl Events {
         }
         match answer {
             Ok(table) => Ok((text, table)),
-            Err(status) => {
-                let hint = if status == Status::OtherZone { " Name its zone by --zone." } else { "" };
-                Err(format!("refused with {}: {}{hint}", status.number(), status.sentence()))
-            }
+            Err(Status::OtherZone) => Err(Complaint::refused(Status::OtherZone, " Name its zone by --zone.")),
+            Err(status) => Err(Complaint::of_event(&text, status, self.show)),
         }
     }
 }

@@ -1,5 +1,6 @@
 //! The files that are read.
 
+use crate::complaint::Complaint;
 use std::fs;
 use std::io::{self, Read};
 use std::path::{Path, PathBuf};
@@ -34,8 +35,8 @@ impl Source {
     }
 
     /// Says what is wrong with it.
-    pub fn complain(&self, complaint: &str) {
-        eprintln!("smocurant: {}: {complaint}", self.name());
+    pub fn complain(&self, complaint: &Complaint) {
+        eprintln!("smocurant: {}", complaint.told(&self.name()));
     }
 
     /// The event's text.
@@ -58,8 +59,24 @@ impl Source {
     }
 }
 
+/// The events that the words of the command line mean, and how many words came to nothing, which is said.
+pub fn all_sources(words: &[String]) -> (Vec<Source>, usize) {
+    let mut all = Vec::new();
+    let mut unreadable = 0;
+    for word in words {
+        match sources(word) {
+            Ok(found) => all.extend(found),
+            Err(complaint) => {
+                unreadable += 1;
+                eprintln!("smocurant: {complaint}");
+            }
+        }
+    }
+    (all, unreadable)
+}
+
 /// The events that a word of the command line means; a folder means its `*.json` files by name.
-pub fn sources(word: &str) -> Result<Vec<Source>, String> {
+fn sources(word: &str) -> Result<Vec<Source>, String> {
     let path = Path::new(word);
     if word == "-" || !path.is_dir() {
         return Ok(vec![Source::named(word)]);

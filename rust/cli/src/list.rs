@@ -1,5 +1,6 @@
 //! The listing: each event is read, expanded and written.
 
+use crate::complaint::ShowLine;
 use crate::destination;
 use crate::events::Events;
 use crate::failure::Failure;
@@ -15,7 +16,7 @@ const HAS_TITLES: bool = true;
 
 /// Lists the occurrences; the number of events that were refused or could not be read.
 pub fn run(options: &Options) -> Result<usize, Failure> {
-    let events = Events::find(&options.common, options.window)?;
+    let events = Events::find(&options.common, options.window, options.common.show_line(ShowLine::IfPublic))?;
     let refused = destination::written(options.common.output.as_deref(), |out| list(options, &events, out))?;
     Ok(events.unreadable + refused.unwrap_or(0))
 }

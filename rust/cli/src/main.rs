@@ -1,6 +1,8 @@
-//! What JSCalendar events say to a planner: every occurrence in a window, the weeks of an upload log that were shut and that went missing, and
-//! the records of sheets that were stored.
+//! What JSCalendar events say to a planner: every occurrence in a window, the weeks of an upload log that were shut and that went missing, the
+//! records of sheets that were stored, and what is wrong with events that are refused.
 
+mod check;
+mod complaint;
 mod destination;
 mod events;
 mod failure;
@@ -10,6 +12,7 @@ mod options;
 mod output;
 mod progress;
 mod sheet;
+mod snippet;
 mod weeks;
 
 use failure::Failure;
@@ -30,6 +33,7 @@ fn main() -> ExitCode {
     let refused = match options::read(words) {
         Ok(Command::Help(text)) => return say(text),
         Ok(Command::Version) => return say(concat!("smocurant ", env!("CARGO_PKG_VERSION"), "\n")),
+        Ok(Command::Check(options)) => check::run(&options),
         Ok(Command::List(options)) => list::run(&options),
         Ok(Command::Sheet(options)) => sheet::run(&options),
         Ok(Command::Weeks(options)) => weeks::run(&options),

@@ -1,5 +1,6 @@
 //! Sheets that are read back: each is judged by the library, and its records are written.
 
+use crate::complaint::Complaint;
 use crate::destination;
 use crate::failure::Failure;
 use crate::inputs::Source;
@@ -40,11 +41,11 @@ fn show(options: &Options, out: &mut dyn Write) -> io::Result<usize> {
 }
 
 /// The table of a sheet, or what is wrong with it.
-fn table(source: &Source) -> Result<Table<'static>, String> {
-    let bytes = source.sheet().map_err(|error| format!("cannot be read: {error}"))?;
+fn table(source: &Source) -> Result<Table<'static>, Complaint> {
+    let bytes = source.sheet().map_err(|error| Complaint::new(format!("cannot be read: {error}")))?;
     Table::read(bytes).map_err(|status| {
         let hint = if status == Status::SheetDistance { " A file must have one sheet, which is that of one event." } else { "" };
-        format!("refused with {}: {}{hint}", status.number(), status.sentence())
+        Complaint::refused(status, hint)
     })
 }
 

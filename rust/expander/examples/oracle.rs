@@ -1,16 +1,16 @@
-//! Judges texts: reads one text a line from standard input, in hexadecimal digits, and prints the answer number of each, 0 to 9.
+//! Judges texts: reads one text a line from standard input, in hexadecimal digits, and prints the answer number of each and the place of
+//! what was wrong, which is 0 for every number but 20 to 26.
 //!
 //!     printf '{}' | xxd -p | cargo run --example oracle
 
-use expander::Event;
 use std::io::{self, BufRead, BufWriter, Write};
 
 fn main() -> io::Result<()> {
     let mut out = BufWriter::new(io::stdout().lock());
     for line in io::stdin().lock().lines() {
         let text = bytes(&line?).ok_or(io::ErrorKind::InvalidData)?;
-        let answer = Event::read(&text).map_or_else(|refusal| refusal.number(), |_| 0);
-        writeln!(out, "{answer}")?;
+        let (answer, place) = expander::locate(&text);
+        writeln!(out, "{answer} {place}")?;
     }
     out.flush()
 }

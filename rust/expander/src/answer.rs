@@ -1,7 +1,7 @@
-//! The answer numbers, and how several faults become one answer.
+//! The answer numbers.
 
 /// Why a call is refused. The discriminant is the answer number; 0, done, is no refusal.
-#[derive(Clone, Copy, Debug, PartialEq, Eq, PartialOrd, Ord)]
+#[derive(Clone, Copy, Debug, PartialEq, Eq)]
 #[repr(u32)]
 pub enum Refusal {
     /// The text is longer than 65,536 bytes.
@@ -14,8 +14,6 @@ pub enum Refusal {
     Names = 4,
     /// No Event, or a mandatory property is missing.
     NotEvent = 5,
-    /// A property read has a wrong type or value.
-    Value = 6,
     /// Properties that may not stand together.
     Conflict = 7,
     /// A form that is not supported.
@@ -32,6 +30,20 @@ pub enum Refusal {
     Buffer = 13,
     /// The date is no occurrence, or the event is secret.
     NoOccurrence = 14,
+    /// A property read has a wrong JSON type.
+    WrongType = 20,
+    /// A bad date or time.
+    DateTime = 21,
+    /// A bad duration.
+    Duration = 22,
+    /// A number out of range, or with a fraction or exponent.
+    Number = 23,
+    /// An unknown word in a closed list.
+    Word = 24,
+    /// An empty list.
+    EmptyList = 25,
+    /// Any other wrong value: a backslash, an empty name, or a member that is missing.
+    OtherValue = 26,
     /// The log of uploads is out of order.
     LogOrder = 30,
     /// The range is not from one Monday to the same or a later one.
@@ -63,40 +75,9 @@ impl Refusal {
     pub fn number(self) -> u32 {
         self as u32
     }
-}
 
-/// Collects the faults of one object; "the lowest number that applies is given".
-///
-/// Reading goes on after a fault, since a lower one may follow. A value that could not be read is replaced by the type's default, which
-/// nobody gets to see: [`Faults::settle`] refuses.
-#[derive(Default)]
-pub(crate) struct Faults {
-    lowest: Option<Refusal>,
-}
-
-impl Faults {
-    /// Notes a fault.
-    pub fn note(&mut self, fault: Refusal) {
-        self.lowest = Some(self.lowest.map_or(fault, |lowest| lowest.min(fault)));
-    }
-
-    /// Notes a fault where a condition holds.
-    pub fn note_if(&mut self, condition: bool, fault: Refusal) {
-        if condition {
-            self.note(fault);
-        }
-    }
-
-    /// The value of a reading, or the default in its place.
-    pub fn keep<T: Default>(&mut self, reading: Result<T, Refusal>) -> T {
-        reading.unwrap_or_else(|fault| {
-            self.note(fault);
-            T::default()
-        })
-    }
-
-    /// What was put together, unless there was a fault.
-    pub fn settle<T>(self, value: T) -> Result<T, Refusal> {
-        self.lowest.map_or(Ok(value), Err)
+    /// Is it one of 20 to 26, which say what is wrong with a value?
+    pub fn is_wrong_value(self) -> bool {
+        (20..=26).contains(&self.number())
     }
 }

@@ -62,6 +62,16 @@ pub fn description(text: &[u8], date: i64) -> (u32, u64, u64) {
     part(text, date, |details| details.description)
 }
 
+/// Which property was wrong: the answer number of the other calls on this text, and for 20 to 26 the byte place at which the first such value
+/// begins. For every other number the place is 0.
+pub fn locate(text: &[u8]) -> (u32, u64) {
+    match Event::judge(text) {
+        Ok(_) => (DONE, 0),
+        Err(fault) if fault.refusal.is_wrong_value() => (fault.refusal.number(), fault.place as u64),
+        Err(fault) => (fault.refusal.number(), 0),
+    }
+}
+
 fn part<'t>(text: &'t [u8], date: i64, choose: fn(Details<'t>) -> Option<Text<'t>>) -> (u32, u64, u64) {
     match details_at(text, date) {
         Err(refusal) => (refusal.number(), 0, 0),

@@ -3,9 +3,9 @@
 //! It is written from the papers alone and shares no line with the proved library, so that a comparison of the two finds what one of them
 //! read otherwise. It favours the plain form over the fast one: a text becomes a tree, the tree an event, the event a sorted list of dates.
 //!
-//! [`expand`], [`title`], [`description`], [`weeks`], [`read`], [`record`] and [`records`] mirror the exported functions of the library, and
-//! answer with its numbers. [`Event::read`], [`Event::ids`] and [`Event::occurrence`] are the steps of the first three; [`Sheet::read`] reads a
-//! sheet back for the others.
+//! [`expand`], [`title`], [`description`], [`locate`], [`weeks`], [`read`], [`record`] and [`records`] mirror the exported functions of the
+//! library, and answer with its numbers. [`Event::read`], [`Event::ids`] and [`Event::occurrence`] are the steps of the first three,
+//! [`Event::judge`] that of the fourth; [`Sheet::read`] reads a sheet back for the others.
 //!
 //! ```
 //! let text = br#"{"@type": "Event", "uid": "1", "updated": "2024-01-01T00:00:00Z", "start": "2024-01-31T09:00:00", "duration": "PT1H",
@@ -19,6 +19,7 @@ mod answer;
 mod calls;
 mod civil;
 mod event;
+mod fault;
 pub mod json;
 mod recurrence;
 mod sheet;
@@ -30,8 +31,9 @@ mod window;
 mod zone;
 
 pub use answer::Refusal;
-pub use calls::{description, expand, title};
+pub use calls::{description, expand, locate, title};
 pub use event::{Details, Duration, Event, Occurrence, Privacy};
+pub use fault::Fault;
 pub use sheet::{Sheet, SheetRecord};
 pub use sheet_calls::{read, record, records};
 pub use weeks::weeks;

@@ -1,14 +1,17 @@
-//! Every answer number. The texts for 1 to 9 are the generator's.
+//! Every answer number. The texts for 1 to 9 and 20 to 26 are the generator's.
 
 mod support;
+use generator::examples::answers;
 use support::{answer, event, seconds};
 
 const START: &str = "2024-01-01T09:00:00";
 
 #[test]
 fn texts_alone() {
-    for (expected, text) in generator::examples::answers::all() {
-        assert_eq!(answer(&text), expected, "{}", String::from_utf8_lossy(&text));
+    for expected in answers::all() {
+        let shown = String::from_utf8_lossy(&expected.text);
+        assert_eq!(expander::locate(&expected.text), (expected.answer, expected.place), "{shown}");
+        assert_eq!(answer(&expected.text), expected.answer, "{shown}");
     }
 }
 

@@ -3,6 +3,7 @@
 use expander::{Duration, Event, Sheet, Window};
 use generator::dates::{DAY, END};
 use generator::{pairs, Case, Model, Random};
+use std::collections::BTreeMap;
 
 const CASES: u64 = 2_000;
 
@@ -67,19 +68,36 @@ fn ends_of_every_kind_come_up() {
     assert!(seen.iter().all(|cases| *cases > CASES / 100), "{seen:?}");
 }
 
+/// The numbers that sheets and words can be answered with.
+const ANSWERS: [std::ops::RangeInclusive<u32>; 3] = [0..=5, 7..=14, 20..=26];
+
 #[test]
 fn every_answer_comes_up() {
-    let mut seen = [0u64; 15];
+    let mut seen: BTreeMap<u32, u64> = ANSWERS.into_iter().flatten().map(|number| (number, 0)).collect();
+    let mut note = |answer: u32| *seen.get_mut(&answer).unwrap_or_else(|| panic!("{answer} is no answer")) += 1;
     let mut buffer = vec![0; 1 << 16];
     for seed in 0..CASES {
         let case = Case::new(seed);
         let room = if seed % 4 == 0 { 100 } else { buffer.len() };
-        seen[expand(&case, &case.text, &mut buffer[..room]).0 as usize] += 1;
-        for date in &case.dates {
-            seen[expander::title(&case.text, *date).0 as usize] += 1;
-        }
+        note(expand(&case, &case.text, &mut buffer[..room]).0);
+        case.dates.iter().for_each(|date| note(expander::title(&case.text, *date).0));
     }
-    assert!(seen.iter().all(|times| *times > CASES / 200), "{seen:?}");
+    assert!(seen.values().all(|times| *times > CASES / 200), "{seen:?}");
+}
+
+/// Sheet and words give the number that is located.
+#[test]
+fn the_number_is_that_of_the_other_calls() {
+    for seed in 0..CASES {
+        let case = Case::new(seed);
+        let (number, place) = expander::locate(&case.text);
+        let told = [expand(&case, &case.text, &mut []).0, expander::title(&case.text, 0).0, expander::description(&case.text, 0).0];
+        assert!(
+            number == 0 && told.iter().all(|told| matches!(told, 0 | 10..=14)) || told == [number; 3],
+            "seed {seed}: {number} {told:?}"
+        );
+        assert!(place == 0 || (20..=26).contains(&number), "seed {seed}");
+    }
 }
 
 #[test]

@@ -85,9 +85,9 @@ const PATCH_MEMBERS: [(&str, &str); 5] =
     [("excluded", "true"), ("timeZone", "null"), ("locations/1/name", "\"a\""), ("a~1b", "1"), ("start", "\"2024-01-01T00:00:00.5\"")];
 
 /// Forms that are well written and still refused: conflicts, and what is not supported.
-fn refuse(node: &mut Node, random: &mut Random) {
+pub fn refuse(node: &mut Node, random: &mut Random) {
     match node {
-        Node::Leaf(_) => {}
+        Node::Leaf(_) | Node::Wrong(..) | Node::Misnamed(..) => {}
         Node::Array(elements) => elements.iter_mut().for_each(|element| refuse(element, random)),
         Node::Object(members) => {
             let is_rule = members.iter().any(|(name, _)| name == "frequency");
@@ -105,7 +105,7 @@ fn refuse(node: &mut Node, random: &mut Random) {
     }
 }
 
-/// Makes a list longer than is allowed, now and then: 9 comes behind all other faults.
+/// Makes a list longer than is allowed, now and then: 9 comes after all other faults.
 fn lengthen(members: &mut [(String, Node)], random: &mut Random) {
     for (_, value) in members {
         if let (true, Node::Leaf(text)) = (random.once_in(6), value) {

@@ -95,7 +95,7 @@ pub(crate) fn done(answer: u32) -> Result<(), Status> {
     match Status::of_number(answer) {
         Some(Status::Done) => Ok(()),
         Some(status) => Err(status),
-        None => unreachable!("the library answers 0 to 14 or 30 to 41, and not {answer}"),
+        None => unreachable!("the library answers 0 to 5, 7 to 14, 20 to 26 or 30 to 41, and not {answer}"),
     }
 }
 

@@ -2,9 +2,9 @@
 //! nothing of a secret one.
 //!
 //! The work is done by a library that is proved to meet its contract. This crate links its archive and gives it safe types: a [`Window`], a
-//! [`ZoneTable`], a [`Table`] of [`Record`]s, [`Text`]s that are parts of the caller's own, and a [`Status`] for each refusal. A table is kept
-//! and sent as bytes, the sheet; [`Table::read`] takes such bytes back and has the library judge them. [`weeks`] holds a log of uploads beside
-//! tables and says which weeks were reported, shut or missing.
+//! [`ZoneTable`], a [`Table`] of [`Record`]s, [`Text`]s that are parts of the caller's own, and a [`Status`] for each refusal. [`locate`] finds
+//! the value that was wrong. A table is kept and sent as bytes, the sheet; [`Table::read`] takes such bytes back and has the library judge them.
+//! [`weeks`] holds a log of uploads beside tables and says which weeks were reported, shut or missing.
 //!
 //! ```
 //! use smocurant::{expand_to_vec, title, Status, Window, ZoneTable};
@@ -27,7 +27,7 @@
 #![warn(missing_docs)]
 
 mod calls;
-
+mod fault;
 pub mod raw;
 mod record;
 mod status;
@@ -40,7 +40,7 @@ mod window;
 mod zone;
 
 pub use calls::{description, expand, expand_entries, expand_to_vec, title};
-
+pub use fault::{locate, Fault, MemberPath, Place, Step};
 pub use record::{Record, Records};
 pub use status::Status;
 pub use table::Table;

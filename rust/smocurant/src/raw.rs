@@ -47,6 +47,8 @@ mod exported {
 
         pub fn smocurant_description(text: *const u8, text_length: usize, date: i64, start: *mut u64, length: *mut u64) -> u32;
 
+        pub fn smocurant_locate(text: *const u8, text_length: usize, place: *mut u64) -> u32;
+
         pub fn smocurant_weeks(
             log: *const i64,
             log_length: usize,
@@ -172,6 +174,15 @@ pub fn description(text: &[u8], date: i64) -> (u32, u64, u64) {
     // SAFETY: as in `title`.
     let answer = unsafe { exported::smocurant_description(text.as_ptr(), text.len(), date, &mut start, &mut length) };
     (answer, start, length)
+}
+
+/// Which property was wrong: the answer number of the other calls on this text, and for 20 to 26 the byte place at which the first such value
+/// begins. For every other number the place is 0.
+pub fn locate(text: &[u8]) -> (u32, u64) {
+    let mut place = 0;
+    // SAFETY: pointer and length come from one slice, which lives through the call; the number is borrowed alone.
+    let answer = unsafe { exported::smocurant_locate(text.as_ptr(), text.len(), &mut place) };
+    (answer, place)
 }
 
 /// Writes each week's number of uploads, or -1 for shut, or -2 for missing, into its place: the answer number, and how many weeks were

@@ -3,6 +3,8 @@
 use std::fmt;
 
 /// The answer of a call. The discriminant is the answer number of the exported functions.
+///
+/// Where several apply, the lowest number is given, with 20 to 26 after 5 and before 7. Of these the one that stands first in the text is given.
 #[derive(Clone, Copy, Debug, PartialEq, Eq, PartialOrd, Ord, Hash)]
 #[repr(u32)]
 pub enum Status {
@@ -18,8 +20,6 @@ pub enum Status {
     MemberNames = 4,
     /// 5: no Event, or a mandatory property is missing.
     NotEvent = 5,
-    /// 6: a property has a wrong type or value.
-    Value = 6,
     /// 7: properties that may not stand together.
     Conflict = 7,
     /// 8: a form that is not supported.
@@ -36,6 +36,20 @@ pub enum Status {
     Buffer = 13,
     /// 14: the date is no occurrence, or the event is secret.
     NoOccurrence = 14,
+    /// 20: a value has the wrong JSON type. [`locate`](crate::locate) says where, for this and the next six.
+    WrongType = 20,
+    /// 21: a bad date or time.
+    DateTime = 21,
+    /// 22: a bad duration.
+    Duration = 22,
+    /// 23: a number is out of its range, or has a fraction or an exponent.
+    Number = 23,
+    /// 24: an unknown word where only some are known.
+    Word = 24,
+    /// 25: a list is empty.
+    EmptyList = 25,
+    /// 26: a value is wrong in another way: it is missing, empty, or has a backslash.
+    OtherValue = 26,
     /// 30: the log of uploads is out of order.
     LogOrder = 30,
     /// 31: the range is not one of whole weeks.
@@ -63,14 +77,13 @@ pub enum Status {
 }
 
 /// All answers, in the order of their numbers.
-const ALL: [Status; 27] = [
+const ALL: [Status; 33] = [
     Status::Done,
     Status::TextTooLong,
     Status::TooDeep,
     Status::NotJson,
     Status::MemberNames,
     Status::NotEvent,
-    Status::Value,
     Status::Conflict,
     Status::Unsupported,
     Status::TooMany,
@@ -79,6 +92,13 @@ const ALL: [Status; 27] = [
     Status::OtherZone,
     Status::Buffer,
     Status::NoOccurrence,
+    Status::WrongType,
+    Status::DateTime,
+    Status::Duration,
+    Status::Number,
+    Status::Word,
+    Status::EmptyList,
+    Status::OtherValue,
     Status::LogOrder,
     Status::WeekRange,
     Status::Sheet,
@@ -93,6 +113,14 @@ const ALL: [Status; 27] = [
     Status::RecordNumber,
 ];
 
+/// The longest sentences.
+const CONFLICT: &str =
+    "Properties exclude each other: `count` and `until`, `excluded` and another patch, or `nthOfPeriod` in a weekly or daily rule.";
+const DATE_TIME: &str =
+    "A date or time is wrong: it is not written as 2026-01-31T08:00:00 (in `updated` with a Z), does not exist, or leaves the years allowed.";
+const SHEET_DISTANCE: &str =
+    "The sheet's trailer does not fit what stands before it: bytes are missing, there are too many, or its numbers are wrong.";
+
 impl Status {
     /// The answer number.
     pub fn number(self) -> u32 {
@@ -104,6 +132,11 @@ impl Status {
         ALL.into_iter().find(|status| status.number() == number)
     }
 
+    /// Is it one of 20 to 26, which say what is wrong with a value?
+    pub fn is_wrong_value(self) -> bool {
+        (Status::WrongType..=Status::OtherValue).contains(&self)
+    }
+
     /// What it means, as a sentence.
     pub fn sentence(self) -> &'static str {
         match self {
@@ -113,10 +146,7 @@ impl Status {
             Status::NotJson => "The text is not JSON in valid UTF-8, or has half of a surrogate pair.",
             Status::MemberNames => "An object has two members of one name, or a backslash in a member name.",
             Status::NotEvent => "The text is no Event with `@type`, `uid`, `updated` and `start`.",
-            Status::Value => "A property has a wrong type or value.",
-            Status::Conflict => {
-                "Properties exclude each other: `count` and `until`, `excluded` and another patch, or `nthOfPeriod` in a weekly or daily rule."
-            }
+            Status::Conflict => CONFLICT,
             Status::Unsupported => "The event uses a form that is not supported.",
             Status::TooMany => "The event has more than 8 rules in a list, 64 entries in a by-list, or 256 overrides.",
             Status::ZoneTable => "The zone table is invalid.",
@@ -124,6 +154,13 @@ impl Status {
             Status::OtherZone => "The event is in another time zone than the zone table.",
             Status::Buffer => "The table is longer than the buffer.",
             Status::NoOccurrence => "The date is no occurrence, or the event is secret.",
+            Status::WrongType => "A value has the wrong JSON type.",
+            Status::DateTime => DATE_TIME,
+            Status::Duration => "A duration is wrong: it is not written as one, such as P1D or PT1H30M, or is longer than 366 days.",
+            Status::Number => "A number is out of its range, or has a fraction or an exponent.",
+            Status::Word => "A word is not one of those that may stand here.",
+            Status::EmptyList => "A list is empty: it must have an entry, or be left out.",
+            Status::OtherValue => "A value is missing or empty, or has a backslash where none may be.",
             Status::LogOrder => "The log is out of order: an upload is earlier than the one before it.",
             Status::WeekRange => "The range is not from a Monday 00:00:00 UTC to the same or a later one.",
             Status::Sheet => "The sheet is damaged: its layout, its ids or its marks are wrong.",
@@ -131,13 +168,13 @@ impl Status {
             Status::SheetTooShort => "The sheet is too short: every sheet ends with a trailer, and these bytes have no room for one.",
             Status::SheetVersion => "The sheet has a version that is not known here.",
             Status::SheetRecordSize => "The sheet's trailer gives a wrong size for its records.",
-            Status::SheetDistance => {
-                "The sheet's trailer does not fit what stands before it: bytes are missing, there are too many, or its numbers are wrong."
-            }
+            Status::SheetDistance => SHEET_DISTANCE,
             Status::SheetIds => "The sheet's records are out of order: an id is the same as the one before it, or lower.",
             Status::SheetMarks => "A record of the sheet has marks that do not exist in its version.",
             Status::SheetZeros => "A record of the sheet has other bytes where there must be zeros.",
-            Status::RecordNumber => "The sheet has no record of this number: the first is 0, and the last is one below the number of records.",
+            Status::RecordNumber => {
+                "The sheet has no record of this number: the first is 0, and the last is one below the number of records."
+            }
         }
     }
 }
@@ -156,14 +193,15 @@ mod tests {
 
     #[test]
     fn numbers_go_round() {
-        let numbers = (0..15).chain(30..42);
+        let numbers = (0..6).chain(7..15).chain(20..27).chain(30..42);
         assert_eq!(numbers.clone().count(), ALL.len());
         for (number, status) in numbers.zip(ALL) {
             assert_eq!(status.number(), number);
             assert_eq!(Status::of_number(number), Some(status));
             assert!(status.sentence().ends_with('.'));
+            assert_eq!(status.is_wrong_value(), (20..=26).contains(&number));
         }
-        for number in [15, 29, 42, u32::MAX] {
+        for number in [6, 15, 19, 27, 29, 42, u32::MAX] {
             assert_eq!(Status::of_number(number), None);
         }
         assert!(ALL.is_sorted());

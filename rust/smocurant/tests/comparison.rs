@@ -1,5 +1,5 @@
-//! The library against the independent expander, on seeded cases: the same answer, length, texts, and every byte of the buffer. What was written
-//! is read back, too.
+//! The library against the independent expander, on seeded cases: the same answer, length, texts, place of what was wrong, and every byte of the
+//! buffer. What was written is read back, too.
 //!
 //! There are 20,000 cases, or more if `SMOCURANT_CASES` says so, from the seed `SMOCURANT_SEED` on, or else from 0.
 
@@ -24,6 +24,7 @@ fn tables_and_texts() {
             let own = compare_tables(seed, &case, length);
             let rows = Sheet::read(&buffer[..length]).map_or(Vec::new(), |sheet| rows(&sheet));
             compare_texts(seed, &case, &rows);
+            compare_places(seed, &case, own.answer);
             if own.answer == 0 {
                 compare_reading(seed, &case, own.table(), &rows);
             }
@@ -73,6 +74,13 @@ fn compare_texts(seed: u64, case: &Case, rows: &[Row]) {
         let description = smocurant::raw::description(&case.text, date) == expander::description(&case.text, date);
         check(seed, &format!("description at {date}"), case, description);
     }
+}
+
+/// The number is also that of the sheet, where this looks at no more than the text.
+fn compare_places(seed: u64, case: &Case, answer: u32) {
+    let (own, expected) = (raw::locate(&case.text), expander::locate(&case.text));
+    check(seed, &format!("located {own:?} and not {expected:?}"), case, own == expected);
+    check(seed, &format!("located {own:?} beside {answer}"), case, own.0 == if matches!(answer, 10..=13) { 0 } else { answer });
 }
 
 /// The entry point over structs gives what the one over slices of numbers gives.

@@ -1,6 +1,6 @@
 //! The dates that documents give for their examples, from the library.
 
-use smocurant::{expand_to_vec, Status, Table, Window, ZoneTable};
+use smocurant::{expand_to_vec, raw, Status, Table, Window, ZoneTable};
 
 /// The zone of an example does not matter to its ids.
 fn table(text: &str, window: Window) -> Table<'static> {
@@ -21,10 +21,11 @@ fn ids() {
 /// An accepted text answers 0 or 14 to a question for a title.
 #[test]
 fn answers() {
-    for (expected, text) in generator::examples::answers::all() {
-        let answer = smocurant::raw::title(&text, 0).0;
-        let shown = String::from_utf8_lossy(&text);
-        assert_eq!(if answer == 14 { 0 } else { answer }, expected, "{shown}");
+    for expected in generator::examples::answers::all() {
+        let shown = String::from_utf8_lossy(&expected.text);
+        assert_eq!(raw::locate(&expected.text), (expected.answer, expected.place), "{shown}");
+        let answer = raw::title(&expected.text, 0).0;
+        assert_eq!(if answer == 14 { 0 } else { answer }, expected.answer, "{shown}");
     }
 }
 

@@ -94,6 +94,7 @@ fn a_call_fits_in_a_small_stack() {
             let entries: Vec<Transition> = (0..1_024).map(|place| Transition { instant: place * 100_000, offset: 0 }).collect();
             let (answer, length) = raw::expand_entries(text.as_bytes(), b"", 0, &entries, FIRST, LAST, &mut vec![0; 10_000]);
             assert_eq!((answer, raw::title(text.as_bytes(), 1_767_225_600)), (0, (0, 0, 0)));
+            assert_eq!(raw::locate(text.as_bytes()), (0, 0));
             length
         };
         assert!(small.spawn(call).unwrap().join().unwrap() >= 40);

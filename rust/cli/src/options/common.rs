@@ -1,5 +1,6 @@
 //! The options that more than one command has: which events, in which zones, and where the output goes.
 
+use crate::complaint::ShowLine;
 use crate::output::Form;
 use smocurant::time;
 use std::path::PathBuf;
@@ -14,6 +15,7 @@ pub struct Common {
     pub zone_folder: Option<PathBuf>,
     pub output: Option<PathBuf>,
     pub quiet: bool,
+    pub always_show_line: bool,
 }
 
 impl Common {
@@ -22,9 +24,19 @@ impl Common {
         match name {
             "--floating" => self.floating = true,
             "--quiet" => self.quiet = true,
+            "--show-line" => self.always_show_line = true,
             _ => return false,
         }
         true
+    }
+
+    /// Whether the line of a wrong value is shown: as it is asked for, or else as a command has it.
+    pub fn show_line(&self, otherwise: ShowLine) -> ShowLine {
+        if self.always_show_line {
+            ShowLine::Always
+        } else {
+            otherwise
+        }
     }
 
     /// Takes an option with a value, if it is one of these; otherwise the value is given back.

@@ -13,10 +13,12 @@ Lists every occurrence of JSCalendar events (RFC 8984) in a window.
 Usage: smocurant [OPTIONS] EVENT...
        smocurant weeks [OPTIONS] --log FILE CLOSURE...
        smocurant sheet [OPTIONS] SHEET...
+       smocurant check [OPTIONS] EVENT...
 
 The second sorts the weeks of an upload log into reported, shut and missing
 ones; smocurant weeks --help has its options. The third shows what --format raw
-has written; smocurant sheet --help has its options.
+has written; smocurant sheet --help has its options. The fourth says what is
+wrong with events; smocurant check --help has its options.
 
   EVENT            a file with one event, a folder of such files (*.json),
                    or - for standard input
@@ -42,6 +44,8 @@ Output:
                            for each occurrence and a trailer of 12
   --output FILE    where to write, instead of standard output
   --quiet          no line of progress
+  --show-line      where a value is wrong, show its line also of events that
+                   do not say that they are public
 
   --help           this text
   --version        the version
@@ -54,7 +58,7 @@ options or time zone; 3 the output could not be written.
 ";
 
 const NAMES: Names = Names {
-    flags: &["--floating", "--always", "--quiet"],
+    flags: &["--floating", "--always", "--quiet", "--show-line"],
     valued: &["--zone", "--zones", "--from", "--to", "--year", "--format", "--output"],
 };
 

@@ -1,5 +1,6 @@
 //! The options of the command line.
 
+pub mod check;
 mod common;
 pub mod list;
 pub mod sheet;
@@ -14,6 +15,8 @@ pub enum Command {
     Help(&'static str),
     /// Show the version.
     Version,
+    /// Judge events.
+    Check(check::Options),
     /// List occurrences.
     List(list::Options),
     /// Show the records of sheets.
@@ -25,6 +28,9 @@ pub enum Command {
 /// Reads the words of the command line. The first of them may name a command; without one, occurrences are listed.
 pub fn read(words: Vec<String>) -> Result<Command, String> {
     match words.split_first() {
+        Some((first, rest)) if first == "check" => {
+            check::read(rest.iter().cloned()).map_err(|reason| format!("{reason}\nsmocurant check --help lists the options."))
+        }
         Some((first, rest)) if first == "weeks" => {
             weeks::read(rest.iter().cloned()).map_err(|reason| format!("{reason}\nsmocurant weeks --help lists the options."))
         }

@@ -51,6 +51,7 @@ Output:
                    html    a page to print: the picture and the weeks' dates
   --output FILE    where to write, instead of standard output
   --quiet          no line of progress
+  --show-line      where a value of a closure is wrong, show its line
 
   --help           this text
   --version        the version
@@ -67,7 +68,7 @@ output says that it is incomplete; 2 wrong options, log, range or time zone;
 ";
 
 const NAMES: Names = Names {
-    flags: &["--floating", "--quiet", "--sort"],
+    flags: &["--floating", "--quiet", "--show-line", "--sort"],
     valued: &["--zone", "--zones", "--log", "--from", "--to", "--year", "--format", "--output"],
 };
 

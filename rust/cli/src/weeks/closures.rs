@@ -1,6 +1,7 @@
 //! The closures: their tables over all the time from which an occurrence can reach into the range.
 
 use super::dates::DAY;
+use crate::complaint::ShowLine;
 use crate::events::Events;
 use crate::failure::Failure;
 use crate::options::Common;
@@ -27,7 +28,7 @@ pub struct Closures {
 impl Closures {
     /// Reads and expands all closures, and says which of them are refused.
     pub fn read(common: &Common, range: WeekRange) -> Result<Closures, Failure> {
-        let events = Events::find(common, window(range))?;
+        let events = Events::find(common, window(range), common.show_line(ShowLine::Never))?;
         let mut closures = Closures { tables: Vec::new(), refused: events.unreadable };
         let mut progress = Progress::new(events.sources.len(), common.quiet);
         for source in &events.sources {

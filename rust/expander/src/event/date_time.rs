@@ -33,24 +33,24 @@ pub fn until(value: &Value) -> Result<i64, Refusal> {
 /// The UTCDateTime of `updated`; only its form is asked for.
 pub fn updated(value: &Value) -> Result<(), Refusal> {
     let word = values::word(value)?;
-    let (whole, rest) = word.split_at_checked(LENGTH).ok_or(Refusal::Value)?;
-    seconds(whole, 0..=9999).ok_or(Refusal::Value)?;
+    let (whole, rest) = word.split_at_checked(LENGTH).ok_or(Refusal::DateTime)?;
+    seconds(whole, 0..=9999).ok_or(Refusal::DateTime)?;
     match rest.split_last() {
         Some((b'Z', fraction)) if fraction.is_empty() || is_legal_fraction(fraction) => Ok(()),
-        _ => Err(Refusal::Value),
+        _ => Err(Refusal::DateTime),
     }
 }
 
-/// "A fraction that is non-zero with no trailing zero answers 8, any other fraction 6."
+/// "A fraction that is non-zero with no trailing zero answers 8"; any other is a bad date-time.
 fn local(word: &[u8], years: RangeInclusive<i64>) -> Result<i64, Refusal> {
-    let (whole, fraction) = word.split_at_checked(LENGTH).ok_or(Refusal::Value)?;
-    let seconds = seconds(whole, years).ok_or(Refusal::Value)?;
+    let (whole, fraction) = word.split_at_checked(LENGTH).ok_or(Refusal::DateTime)?;
+    let seconds = seconds(whole, years).ok_or(Refusal::DateTime)?;
     if fraction.is_empty() {
         Ok(seconds)
     } else if is_legal_fraction(fraction) {
         Err(Refusal::Unsupported)
     } else {
-        Err(Refusal::Value)
+        Err(Refusal::DateTime)
     }
 }
 
@@ -81,10 +81,10 @@ fn seconds(word: &[u8], years: RangeInclusive<i64>) -> Option<i64> {
 #[cfg(test)]
 mod tests {
     use super::*;
-    use crate::json::Text;
+    use crate::json::{Kind, Text};
 
     fn value(raw: &str) -> Value<'_> {
-        Value::String(Text { start: 0, raw: raw.as_bytes() })
+        Value { place: 0, kind: Kind::String(Text { start: 1, raw: raw.as_bytes() }) }
     }
 
     #[test]
@@ -128,9 +128,23 @@ mod tests {
             "+024-01-01T00:00:00",
             "20240101T000000",
         ] {
-            assert_eq!(occurrence(&value(wrong)), Err(Refusal::Value), "{wrong}");
+            assert_eq!(occurrence(&value(wrong)), Err(Refusal::DateTime), "{wrong}");
         }
-        assert_eq!(until(&value("1600-01-01T00:00:00")), Err(Refusal::Value));
+        assert_eq!(until(&value("1600-01-01T00:00:00")), Err(Refusal::DateTime));
+    }
+
+    /// A backslash is 26 whatever the date-time looks like, and another kind of value 20.
+    #[test]
+    fn backslashes_and_other_kinds() {
+        let other = Value { place: 0, kind: Kind::Null };
+        for read in [occurrence, until, |value: &Value| updated(value).map(|()| 0)] {
+            for word in
+                [r"2024-01-01T00:00:00\u005a", r"2024-01-01\u005400:00:00", r"2023-02-29T00:00:00\n", r"\\", r"2024-01-01T00:00:00.5\/"]
+            {
+                assert_eq!(read(&value(word)), Err(Refusal::OtherValue), "{word}");
+            }
+            assert_eq!(read(&other), Err(Refusal::WrongType));
+        }
     }
 
     #[test]
@@ -150,7 +164,7 @@ mod tests {
             "2010-10-10T10:10:10ZZ",
             "Z",
         ] {
-            assert_eq!(updated(&value(wrong)), Err(Refusal::Value), "{wrong}");
+            assert_eq!(updated(&value(wrong)), Err(Refusal::DateTime), "{wrong}");
         }
     }
 }

@@ -1,7 +1,8 @@
 //! What an occurrence shows beside its dates.
 
 use super::{duration, values, Duration, Event, Override, Patch, Privacy};
-use crate::answer::{Faults, Refusal};
+use crate::answer::Refusal;
+use crate::fault::Faults;
 use crate::json::{Object, Text, Value};
 
 /// Length, marks and texts; those of the event, or of one occurrence.
@@ -28,16 +29,15 @@ impl Default for Details<'_> {
 
 impl<'t> Details<'t> {
     /// The details of an event.
-    pub(super) fn read(object: &Object<'t>) -> Result<Self, Refusal> {
-        let mut faults = Faults::default();
-        let details = Details {
-            duration: faults.keep(values::property(object, "duration", duration::read)),
-            busy: faults.keep(object.get("freeBusyStatus").map_or(Ok(true), read_busy)),
-            all_day: faults.keep(values::property(object, "showWithoutTime", values::boolean)),
-            title: faults.keep(values::property(object, "title", read_text)),
-            description: faults.keep(values::property(object, "description", read_text)),
-        };
-        faults.settle(details)
+    pub(super) fn read(object: &Object<'t>, faults: &mut Faults) -> Self {
+        let default = Details::default();
+        Details {
+            duration: values::property(object, "duration", default.duration, faults, duration::read),
+            busy: values::property(object, "freeBusyStatus", default.busy, faults, read_busy),
+            all_day: values::property(object, "showWithoutTime", default.all_day, faults, values::boolean),
+            title: values::property(object, "title", default.title, faults, read_text),
+            description: values::property(object, "description", default.description, faults, read_text),
+        }
     }
 
     /// The details after a patch.
@@ -57,7 +57,7 @@ pub(super) fn read_busy(value: &Value) -> Result<bool, Refusal> {
     match values::word(value)? {
         b"busy" => Ok(true),
         b"free" => Ok(false),
-        _ => Err(Refusal::Value),
+        _ => Err(Refusal::Word),
     }
 }
 

@@ -31,13 +31,13 @@ pub struct Duration {
 /// The parts of a duration; "a legal fraction answers 8".
 pub fn read(value: &Value) -> Result<Duration, Refusal> {
     let word = values::word(value)?.to_ascii_uppercase();
-    let units = parse(&word).ok_or(Refusal::Value)?;
+    let units = parse(&word).ok_or(Refusal::Duration)?;
     if units.fraction.is_empty() && units.total() <= LONGEST {
         Ok(Duration { days: units.days as i64, seconds: units.seconds as i64 })
     } else if is_legal_fraction(units.fraction) && units.total() < LONGEST {
         Err(Refusal::Unsupported)
     } else {
-        Err(Refusal::Value)
+        Err(Refusal::Duration)
     }
 }
 
@@ -126,10 +126,10 @@ fn number(digits: &[u8]) -> u64 {
 #[cfg(test)]
 mod tests {
     use super::*;
-    use crate::json::Text;
+    use crate::json::{Kind, Text};
 
     fn duration(raw: &str) -> Result<Duration, Refusal> {
-        read(&Value::String(Text { start: 0, raw: raw.as_bytes() }))
+        read(&Value { place: 0, kind: Kind::String(Text { start: 1, raw: raw.as_bytes() }) })
     }
 
     #[test]
@@ -174,7 +174,7 @@ mod tests {
             assert_eq!(duration(legal), Err(Refusal::Unsupported), "{legal}");
         }
         for wrong in ["PT0.0S", "PT0.50S", "PT.5S", "PT1.S", "PT1.5M", "P1.5D", "PT1H0.5S", "P366DT0.5S", "P367DT0.5S"] {
-            assert_eq!(duration(wrong), Err(Refusal::Value), "{wrong}");
+            assert_eq!(duration(wrong), Err(Refusal::Duration), "{wrong}");
         }
     }
 
@@ -182,11 +182,11 @@ mod tests {
     #[test]
     fn too_long_durations() {
         for wrong in ["P366DT1S", "P367D", "P53W", "P52W2DT1S", "P365DT86401S", "P1DT31536001S", "PT31622401S", "PT8784H0M1S"] {
-            assert_eq!(duration(wrong), Err(Refusal::Value), "{wrong}");
+            assert_eq!(duration(wrong), Err(Refusal::Duration), "{wrong}");
         }
         for digits in ["99999999999999999999999", "18446744073709551615", "18446744073709551616", "213503982334602"] {
             for wrong in [format!("P{digits}D"), format!("P{digits}W1DT1S"), format!("P1DT{digits}S"), format!("PT{digits}H")] {
-                assert_eq!(duration(&wrong), Err(Refusal::Value), "{wrong}");
+                assert_eq!(duration(&wrong), Err(Refusal::Duration), "{wrong}");
             }
         }
     }
@@ -195,9 +195,17 @@ mod tests {
     fn wrong_durations() {
         for wrong in [
             "", "P", "PT", "T1H", "1D", "P1", "P1H", "PT1", "PT1D", "P1D2W", "P1DT", "PT1H5S", "PT1S1M", "P1M", "P1Y", "-P1D", "+P1D",
-            "P-1D", "P1D ", " P1D", "P1D1D", "PT1H1H", "P1W1W", "PTT1H", "PPT1H", "P1d\\n",
+            "P-1D", "P1D ", " P1D", "P1D1D", "PT1H1H", "P1W1W", "PTT1H", "PPT1H",
         ] {
-            assert_eq!(duration(wrong), Err(Refusal::Value), "{wrong}");
+            assert_eq!(duration(wrong), Err(Refusal::Duration), "{wrong}");
+        }
+    }
+
+    /// A backslash is 26 whatever the duration looks like.
+    #[test]
+    fn backslashes() {
+        for wrong in [r"P1d\n", r"P1\u0044", r"PT0.5S\n", r"P\\", r"P367D\/"] {
+            assert_eq!(duration(wrong), Err(Refusal::OtherValue), "{wrong}");
         }
     }
 }

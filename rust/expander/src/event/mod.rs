@@ -1,4 +1,4 @@
-//! The event of a text: its properties, rules and overrides, with the answers 5 to 9.
+//! The event of a text: its properties, rules and overrides, with the answers 5, 20 to 26, and 7 to 9.
 
 mod date_time;
 mod details;
@@ -12,8 +12,9 @@ pub use duration::Duration;
 pub use overrides::{Override, Patch};
 pub use rule::{End, Frequency, NthDay, Rule};
 
-use crate::answer::{Faults, Refusal};
-use crate::json::{self, Object, Value};
+use crate::answer::Refusal;
+use crate::fault::{Fault, Faults};
+use crate::json::{self, Kind, Object, Value};
 use std::collections::BTreeMap;
 
 /// Who may learn what of an event.
@@ -41,11 +42,20 @@ pub struct Event<'t> {
 }
 
 impl<'t> Event<'t> {
-    /// Reads an event; refuses with 1 to 9.
+    /// Reads an event; refuses with 1 to 5, 20 to 26, and 7 to 9.
     pub fn read(text: &'t [u8]) -> Result<Event<'t>, Refusal> {
-        match json::parse(text)? {
-            Value::Object(object) if is_event(&object) => read_properties(&object),
-            _ => Err(Refusal::NotEvent),
+        Event::judge(text).map_err(|fault| fault.refusal)
+    }
+
+    /// Reads an event, or says what is wrong with it and where.
+    pub fn judge(text: &'t [u8]) -> Result<Event<'t>, Fault> {
+        match json::parse(text).map_err(Fault::of_text)?.kind {
+            Kind::Object(object) if is_event(&object) => {
+                let mut faults = Faults::default();
+                let event = read_properties(&object, &mut faults);
+                faults.settle(event)
+            }
+            _ => Err(Fault::of_text(Refusal::NotEvent)),
         }
     }
 
@@ -67,36 +77,37 @@ impl<'t> Event<'t> {
 
 /// What answer 5 asks; `@type` is compared byte by byte, so an escape in it is no `Event`.
 fn is_event(object: &Object) -> bool {
-    let is_typed = matches!(object.get("@type"), Some(Value::String(name)) if name.raw == b"Event");
+    let is_typed = object.get("@type").is_some_and(|value| matches!(value.kind, Kind::String(name) if name.raw == b"Event"));
     is_typed && ["uid", "updated", "start"].iter().all(|name| object.get(name).is_some())
 }
 
 /// The properties of an object that has the mandatory ones.
-fn read_properties<'t>(object: &Object<'t>) -> Result<Event<'t>, Refusal> {
-    let mut faults = Faults::default();
-    faults.keep(values::property(object, "uid", values::name));
-    faults.keep(values::property(object, "updated", date_time::updated));
-    faults.note_if(object.get("recurrenceId").is_some(), Refusal::Unsupported);
-    let event = Event {
-        start: faults.keep(values::property(object, "start", date_time::occurrence)),
-        zone: faults.keep(values::property(object, "timeZone", read_zone)),
-        privacy: faults.keep(values::property(object, "privacy", read_privacy)),
-        details: faults.keep(Details::read(object)),
-        rules: faults.keep(values::property(object, "recurrenceRules", rule::read_list)),
-        excluded_rules: faults.keep(values::property(object, "excludedRecurrenceRules", rule::read_list)),
-        overrides: faults.keep(values::property(object, "recurrenceOverrides", overrides::read)),
-    };
-    faults.settle(event)
+fn read_properties<'t>(object: &Object<'t>, faults: &mut Faults) -> Event<'t> {
+    values::property(object, "uid", &b""[..], faults, values::name);
+    values::property(object, "updated", (), faults, date_time::updated);
+    if let Some(value) = object.get("recurrenceId") {
+        faults.note(value.place, Refusal::Unsupported);
+    }
+    Event {
+        start: values::property(object, "start", 0, faults, date_time::occurrence),
+        zone: values::property(object, "timeZone", None, faults, read_zone),
+        privacy: values::property(object, "privacy", Privacy::Public, faults, read_privacy),
+        details: Details::read(object, faults),
+        rules: object.get("recurrenceRules").map_or_else(Vec::new, |value| rule::read_list(value, faults)),
+        excluded_rules: object.get("excludedRecurrenceRules").map_or_else(Vec::new, |value| rule::read_list(value, faults)),
+        overrides: object.get("recurrenceOverrides").map_or_else(BTreeMap::new, |value| overrides::read(value, faults)),
+    }
 }
 
 /// "absent or null is floating; else at least one byte"
 fn read_zone<'t>(value: &Value<'t>) -> Result<Option<&'t [u8]>, Refusal> {
-    match value {
-        Value::Null => Ok(None),
+    match value.kind {
+        Kind::Null => Ok(None),
         _ => values::name(value).map(Some),
     }
 }
 
+/// "any other string counts as private"
 fn read_privacy(value: &Value) -> Result<Privacy, Refusal> {
     Ok(match values::word(value)? {
         b"public" => Privacy::Public,

@@ -2,8 +2,9 @@
 
 use super::details::{read_busy, read_text};
 use super::{date_time, duration, values, Duration};
-use crate::answer::{Faults, Refusal};
-use crate::json::{Object, Text, Value};
+use crate::answer::Refusal;
+use crate::fault::Faults;
+use crate::json::{Kind, Object, Text, Value};
 use std::collections::BTreeMap;
 
 /// "over [..] 256 overrides" answers 9.
@@ -36,28 +37,30 @@ pub struct Patch<'t> {
 }
 
 /// All overrides by their dates. Two names cannot have the same date: a date-time has one spelling.
-pub fn read<'t>(value: &Value<'t>) -> Result<BTreeMap<i64, Override<'t>>, Refusal> {
-    let members = &values::object(value)?.members;
-    let mut faults = Faults::default();
-    faults.note_if(members.len() > MOST_OVERRIDES, Refusal::TooMany);
-    let overrides = members
-        .iter()
-        .map(|(name, patch)| {
-            let id = faults.keep(date_time::occurrence_name(name.raw));
-            (id, faults.keep(read_override(patch)))
-        })
-        .collect();
-    faults.settle(overrides)
+pub fn read<'t>(value: &Value<'t>, faults: &mut Faults) -> BTreeMap<i64, Override<'t>> {
+    let Some(object) = values::object(value, faults) else { return BTreeMap::new() };
+    faults.note_if(object.members.len() > MOST_OVERRIDES, object.place, Refusal::TooMany);
+    let read = |(name, patch): &(Text<'t>, Value<'t>)| {
+        // "an override name being a value too"
+        let id = faults.keep(name.place(), date_time::occurrence_name(name.raw), 0);
+        (id, read_override(patch, faults))
+    };
+    object.members.iter().map(read).collect()
 }
 
-fn read_override<'t>(value: &Value<'t>) -> Result<Override<'t>, Refusal> {
-    let object = values::object(value)?;
-    let mut faults = Faults::default();
-    let excluded = faults.keep(patched(object, "excluded", false, values::boolean)) == Some(true);
-    faults.note_if(excluded && object.members.len() > 1, Refusal::Conflict);
-    faults.note_if(object.members.iter().any(|(name, _)| is_unsupported(name.raw)), Refusal::Unsupported);
-    let patch = faults.keep(read_patch(object));
-    faults.settle(if excluded { Override::Excluded } else { Override::Patch(patch) })
+fn read_override<'t>(value: &Value<'t>, faults: &mut Faults) -> Override<'t> {
+    let Some(object) = values::object(value, faults) else { return Override::default() };
+    let excluded = patched(object, "excluded", false, faults, values::boolean) == Some(true);
+    faults.note_if(excluded && object.members.len() > 1, object.place, Refusal::Conflict);
+    for (name, _) in &object.members {
+        faults.note_if(is_unsupported(name.raw), name.place(), Refusal::Unsupported);
+    }
+    let patch = read_patch(object, faults);
+    if excluded {
+        Override::Excluded
+    } else {
+        Override::Patch(patch)
+    }
 }
 
 /// "A patch of `timeZone`, or any name with `/` or `~`, answers 8."
@@ -65,18 +68,16 @@ fn is_unsupported(name: &[u8]) -> bool {
     name == b"timeZone" || name.contains(&b'/') || name.contains(&b'~')
 }
 
-fn read_patch<'t>(object: &Object<'t>) -> Result<Patch<'t>, Refusal> {
-    let mut faults = Faults::default();
-    let patch = Patch {
-        // "for `start` null answers 6", as every value does that is no date-time.
-        start: faults.keep(values::property(object, "start", |value| date_time::occurrence(value).map(Some))),
-        duration: faults.keep(patched(object, "duration", Duration::default(), duration::read)),
-        busy: faults.keep(patched(object, "freeBusyStatus", true, read_busy)),
-        all_day: faults.keep(patched(object, "showWithoutTime", false, values::boolean)),
-        title: faults.keep(patched(object, "title", None, read_text)),
-        description: faults.keep(patched(object, "description", None, read_text)),
-    };
-    faults.settle(patch)
+fn read_patch<'t>(object: &Object<'t>, faults: &mut Faults) -> Patch<'t> {
+    Patch {
+        // Null is no start: it has the wrong type, as every value that is no string.
+        start: values::property(object, "start", None, faults, |value| date_time::occurrence(value).map(Some)),
+        duration: patched(object, "duration", Duration::default(), faults, duration::read),
+        busy: patched(object, "freeBusyStatus", true, faults, read_busy),
+        all_day: patched(object, "showWithoutTime", false, faults, values::boolean),
+        title: patched(object, "title", None, faults, read_text),
+        description: patched(object, "description", None, faults, read_text),
+    }
 }
 
 /// A patch of one property: nothing where it is absent, the default where it is null.
@@ -84,11 +85,12 @@ fn patched<'t, T>(
     object: &Object<'t>,
     name: &str,
     default: T,
+    faults: &mut Faults,
     read: impl FnOnce(&Value<'t>) -> Result<T, Refusal>,
-) -> Result<Option<T>, Refusal> {
-    match object.get(name) {
-        None => Ok(None),
-        Some(Value::Null) => Ok(Some(default)),
-        Some(value) => read(value).map(Some),
-    }
+) -> Option<T> {
+    let read = |value: &Value<'t>| match value.kind {
+        Kind::Null => Ok(Some(default)),
+        _ => read(value).map(Some),
+    };
+    values::property(object, name, None, faults, read)
 }

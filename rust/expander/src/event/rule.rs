@@ -2,8 +2,9 @@
 
 use super::date_time;
 use super::values::{self, LARGEST_INTEGER};
-use crate::answer::{Faults, Refusal};
-use crate::json::{Object, Value};
+use crate::answer::Refusal;
+use crate::fault::Faults;
+use crate::json::{Kind, Object, Value};
 
 /// "over 8 rules in either list [or] 64 entries in a by-list" answers 9.
 const MOST_RULES: usize = 8;
@@ -57,40 +58,46 @@ pub enum End {
 }
 
 /// A list of rules; "an empty rule list counts as absent".
-pub fn read_list(value: &Value) -> Result<Vec<Rule>, Refusal> {
-    values::list(value, MOST_RULES, read)
+pub fn read_list(value: &Value, faults: &mut Faults) -> Vec<Rule> {
+    values::list(value, MOST_RULES, faults, read)
 }
 
-fn read(value: &Value) -> Result<Rule, Refusal> {
-    let object = values::object(value)?;
-    let mut faults = Faults::default();
-    faults.keep(read_type(object, b"RecurrenceRule"));
-    faults.keep(values::property(object, "rscale", read_rscale));
-    faults.keep(values::property(object, "skip", read_skip));
-    faults.note_if(UNSUPPORTED.iter().any(|name| object.get(name).is_some()), Refusal::Unsupported);
-    let frequency = object.get("frequency").map_or(Err(Refusal::Value), read_frequency);
-    let is_day_or_week = matches!(frequency, Ok(Frequency::Daily | Frequency::Weekly));
-    faults.note_if(is_day_or_week && has_nth(object), Refusal::Conflict);
+fn read(value: &Value, faults: &mut Faults) -> Rule {
+    let Some(object) = values::object(value, faults) else { return Rule::default() };
+    values::required(object, "@type", faults, |value| read_type(value, b"RecurrenceRule"));
+    judge_unsupported(object, faults);
+    let frequency = values::required(object, "frequency", faults, |value| read_frequency(value).map(Some));
     let rule = Rule {
-        frequency: faults.keep(frequency),
-        interval: faults.keep(object.get("interval").map_or(Ok(1), read_at_least_one)),
-        first_day_of_week: faults.keep(values::property(object, "firstDayOfWeek", read_weekday)),
-        by_day: faults.keep(by_list(object, "byDay", read_nth_day)),
-        by_month_day: faults.keep(by_list(object, "byMonthDay", |value| values::place(value, 31))),
-        by_month: faults.keep(by_list(object, "byMonth", read_month)),
-        by_set_position: faults.keep(by_list(object, "bySetPosition", |value| values::place(value, 366))),
-        end: faults.keep(read_end(object)),
+        frequency: frequency.unwrap_or_default(),
+        interval: values::property(object, "interval", 1, faults, read_at_least_one),
+        first_day_of_week: values::property(object, "firstDayOfWeek", 0, faults, read_weekday),
+        by_day: by_list(object, "byDay", faults, read_nth_day),
+        by_month_day: by_list(object, "byMonthDay", faults, |value, faults| read_place(value, 31, faults)),
+        by_month: by_list(object, "byMonth", faults, |value, faults| faults.keep(value.place, read_month(value), 0)),
+        by_set_position: by_list(object, "bySetPosition", faults, |value, faults| read_place(value, 366, faults)),
+        end: read_end(object, faults),
     };
-    faults.settle(rule)
+    let is_day_or_week = matches!(frequency, Some(Frequency::Daily | Frequency::Weekly));
+    let has_nth = rule.by_day.iter().any(|entry| entry.nth.is_some());
+    faults.note_if(is_day_or_week && has_nth, object.place, Refusal::Conflict);
+    rule
 }
 
-/// `@type` inside an event: a missing one is a wrong value.
-fn read_type(object: &Object, name: &[u8]) -> Result<(), Refusal> {
-    let own = values::word(object.get("@type").ok_or(Refusal::Value)?)?;
-    if own == name {
+/// Members that are unsupported as a whole, or in most of their values.
+fn judge_unsupported(object: &Object, faults: &mut Faults) {
+    for value in UNSUPPORTED.iter().filter_map(|name| object.get(name)) {
+        faults.note(value.place, Refusal::Unsupported);
+    }
+    values::property(object, "rscale", (), faults, read_rscale);
+    values::property(object, "skip", (), faults, read_skip);
+}
+
+/// `@type` inside an event is a closed list of one word.
+fn read_type(value: &Value, name: &[u8]) -> Result<(), Refusal> {
+    if values::word(value)? == name {
         Ok(())
     } else {
-        Err(Refusal::Value)
+        Err(Refusal::Word)
     }
 }
 
@@ -101,7 +108,7 @@ fn read_frequency(value: &Value) -> Result<Frequency, Refusal> {
         b"monthly" => Ok(Frequency::Monthly),
         b"yearly" => Ok(Frequency::Yearly),
         b"hourly" | b"minutely" | b"secondly" => Err(Refusal::Unsupported),
-        _ => Err(Refusal::Value),
+        _ => Err(Refusal::Word),
     }
 }
 
@@ -116,7 +123,7 @@ fn read_skip(value: &Value) -> Result<(), Refusal> {
     match values::word(value)? {
         b"omit" => Ok(()),
         b"forward" | b"backward" => Err(Refusal::Unsupported),
-        _ => Err(Refusal::Value),
+        _ => Err(Refusal::Word),
     }
 }
 
@@ -126,31 +133,27 @@ fn read_at_least_one(value: &Value) -> Result<i64, Refusal> {
 
 fn read_weekday(value: &Value) -> Result<i64, Refusal> {
     let word = values::word(value)?;
-    WEEKDAYS.iter().position(|day| *day == word).map(|place| place as i64).ok_or(Refusal::Value)
+    WEEKDAYS.iter().position(|day| *day == word).map(|place| place as i64).ok_or(Refusal::Word)
 }
 
-fn read_nth_day(value: &Value) -> Result<NthDay, Refusal> {
-    let object = values::object(value)?;
-    let mut faults = Faults::default();
-    faults.keep(read_type(object, b"NDay"));
-    let entry = NthDay {
-        weekday: faults.keep(object.get("day").map_or(Err(Refusal::Value), read_weekday)),
-        nth: faults.keep(values::property(object, "nthOfPeriod", |value| values::place(value, 53).map(Some))),
-    };
-    faults.settle(entry)
+fn read_nth_day(value: &Value, faults: &mut Faults) -> NthDay {
+    let Some(object) = values::object(value, faults) else { return NthDay::default() };
+    values::required(object, "@type", faults, |value| read_type(value, b"NDay"));
+    NthDay {
+        weekday: values::required(object, "day", faults, read_weekday),
+        nth: values::property(object, "nthOfPeriod", None, faults, |value| values::place(value, 53).map(Some)),
+    }
 }
 
-/// Has an entry of `byDay` a place? Asked of the text: a list over the limit is not kept, and 7 comes before 9.
-fn has_nth(object: &Object) -> bool {
-    let has_place = |entry: &Value| matches!(entry, Value::Object(entry) if entry.get("nthOfPeriod").is_some());
-    matches!(object.get("byDay"), Some(Value::Array(entries)) if entries.iter().any(has_place))
+fn read_place(value: &Value, furthest: i64, faults: &mut Faults) -> i64 {
+    faults.keep(value.place, values::place(value, furthest), 0)
 }
 
-/// "`\"1\"` to `\"12\"` (one of these followed by `L`: 8; any other: 6)"
+/// "`\"1\"` to `\"12\"` (one of these followed by `L`: 8)"; any other is an unknown word.
 fn read_month(value: &Value) -> Result<i64, Refusal> {
     let word = values::word(value)?;
     let number = word.strip_suffix(b"L").unwrap_or(word);
-    let month = (1..=12i64).find(|month| month.to_string().as_bytes() == number).ok_or(Refusal::Value)?;
+    let month = (1..=12i64).find(|month| month.to_string().as_bytes() == number).ok_or(Refusal::Word)?;
     if number.len() == word.len() {
         Ok(month)
     } else {
@@ -159,24 +162,21 @@ fn read_month(value: &Value) -> Result<i64, Refusal> {
 }
 
 /// `count` or `until`, but not both.
-fn read_end(object: &Object) -> Result<End, Refusal> {
-    let count = object.get("count").map(read_at_least_one).transpose();
-    let until = object.get("until").map(date_time::until).transpose();
-    let mut faults = Faults::default();
-    faults.note_if(object.get("count").is_some() && object.get("until").is_some(), Refusal::Conflict);
-    let end = match (faults.keep(count), faults.keep(until)) {
+fn read_end(object: &Object, faults: &mut Faults) -> End {
+    let count = values::property(object, "count", None, faults, |value| read_at_least_one(value).map(Some));
+    let until = values::property(object, "until", None, faults, |value| date_time::until(value).map(Some));
+    faults.note_if(object.get("count").is_some() && object.get("until").is_some(), object.place, Refusal::Conflict);
+    match (count, until) {
         (Some(count), _) => End::Count(count),
         (None, Some(until)) => End::Until(until),
         (None, None) => End::Never,
-    };
-    faults.settle(end)
+    }
 }
 
 /// A by-list: none where it is absent, and never an empty one.
-fn by_list<'t, T: Default>(object: &Object<'t>, name: &str, read: impl Fn(&Value<'t>) -> Result<T, Refusal>) -> Result<Vec<T>, Refusal> {
-    match object.get(name) {
-        None => Ok(Vec::new()),
-        Some(Value::Array(entries)) if entries.is_empty() => Err(Refusal::Value),
-        Some(value) => values::list(value, MOST_ENTRIES, read),
-    }
+fn by_list<'t, T>(object: &Object<'t>, name: &str, faults: &mut Faults, read: impl Fn(&Value<'t>, &mut Faults) -> T) -> Vec<T> {
+    let Some(value) = object.get(name) else { return Vec::new() };
+    let is_empty = matches!(&value.kind, Kind::Array(entries) if entries.is_empty());
+    faults.note_if(is_empty, value.place, Refusal::EmptyList);
+    values::list(value, MOST_ENTRIES, faults, read)
 }

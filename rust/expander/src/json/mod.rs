@@ -15,7 +15,16 @@ pub const LEVELS: usize = 16;
 
 /// A JSON value; its parts lie in the text it was read from.
 #[derive(Debug, PartialEq)]
-pub enum Value<'t> {
+pub struct Value<'t> {
+    /// The place of its first byte in the text; of a string, that is its opening quote.
+    pub place: usize,
+    /// What it is.
+    pub kind: Kind<'t>,
+}
+
+/// The kinds of JSON values.
+#[derive(Debug, PartialEq)]
+pub enum Kind<'t> {
     /// `null`
     Null,
     /// `true` or `false`
@@ -40,6 +49,11 @@ pub struct Text<'t> {
 }
 
 impl Text<'_> {
+    /// The place of the opening quote.
+    pub fn place(&self) -> usize {
+        self.start - 1
+    }
+
     /// Is there a backslash, that is, an escape, in it?
     pub fn has_backslash(&self) -> bool {
         self.raw.contains(&b'\\')
@@ -49,6 +63,8 @@ impl Text<'_> {
 /// The members of an object, in the order of the text.
 #[derive(Debug, Default, PartialEq)]
 pub struct Object<'t> {
+    /// The place of its opening brace.
+    pub place: usize,
     /// Names and values.
     pub members: Vec<(Text<'t>, Value<'t>)>,
 }

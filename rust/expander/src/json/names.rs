@@ -1,14 +1,14 @@
 //! Answer 4: "two equal member names in one object, or a backslash in any member name".
 
-use super::{Object, Value};
+use super::{Kind, Object, Value};
 use crate::answer::Refusal;
 use std::collections::HashSet;
 
 /// Judges the names of every object in a value, read or not.
 pub fn judge(value: &Value) -> Result<(), Refusal> {
-    match value {
-        Value::Array(elements) => elements.iter().try_for_each(judge),
-        Value::Object(object) => {
+    match &value.kind {
+        Kind::Array(elements) => elements.iter().try_for_each(judge),
+        Kind::Object(object) => {
             judge_own(object)?;
             object.members.iter().try_for_each(|(_, value)| judge(value))
         }

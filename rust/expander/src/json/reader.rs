@@ -3,7 +3,7 @@
 //! The reader stops at the first byte that no JSON text can have there. So when it opens a level, everything before is the beginning of
 //! a JSON text, as answer 2 asks.
 
-use super::{Object, Value, LEVELS};
+use super::{Kind, Object, Text, Value, LEVELS};
 use crate::answer::Refusal;
 
 /// Reads a whole text that is known to be UTF-8. Also says whether there was an escaped surrogate without its partner: such a text is
@@ -63,22 +63,24 @@ impl<'t> Reader<'t> {
     }
 
     fn value(&mut self) -> Result<Value<'t>, Refusal> {
-        match self.peek() {
-            Some(b'{') => self.deeper(Self::object).map(Value::Object),
-            Some(b'[') => self.deeper(Self::array).map(Value::Array),
-            Some(b'"') => self.string().map(Value::String),
-            Some(b'-' | b'0'..=b'9') => self.number().map(Value::Number),
-            Some(b't') => self.literal("true", Value::Boolean(true)),
-            Some(b'f') => self.literal("false", Value::Boolean(false)),
-            Some(b'n') => self.literal("null", Value::Null),
+        let place = self.at;
+        let kind = match self.peek() {
+            Some(b'{') => self.deeper(Self::object).map(|members| Kind::Object(Object { place, members })),
+            Some(b'[') => self.deeper(Self::array).map(Kind::Array),
+            Some(b'"') => self.string().map(Kind::String),
+            Some(b'-' | b'0'..=b'9') => self.number().map(Kind::Number),
+            Some(b't') => self.literal("true", Kind::Boolean(true)),
+            Some(b'f') => self.literal("false", Kind::Boolean(false)),
+            Some(b'n') => self.literal("null", Kind::Null),
             _ => Err(Refusal::NotJson),
-        }
+        };
+        kind.map(|kind| Value { place, kind })
     }
 
-    fn literal(&mut self, name: &str, value: Value<'t>) -> Result<Value<'t>, Refusal> {
+    fn literal(&mut self, name: &str, kind: Kind<'t>) -> Result<Kind<'t>, Refusal> {
         if self.text[self.at..].starts_with(name.as_bytes()) {
             self.at += name.len();
-            Ok(value)
+            Ok(kind)
         } else {
             Err(Refusal::NotJson)
         }
@@ -110,11 +112,11 @@ impl<'t> Reader<'t> {
         }
     }
 
-    fn object(&mut self) -> Result<Object<'t>, Refusal> {
+    fn object(&mut self) -> Result<Vec<(Text<'t>, Value<'t>)>, Refusal> {
         let mut members = Vec::new();
         self.skip_space();
         if self.take(b'}') {
-            return Ok(Object { members });
+            return Ok(members);
         }
         loop {
             self.skip_space();
@@ -126,7 +128,7 @@ impl<'t> Reader<'t> {
             self.skip_space();
             if !self.take(b',') {
                 self.expect(b'}')?;
-                return Ok(Object { members });
+                return Ok(members);
             }
         }
     }

@@ -17,7 +17,7 @@ impl<'t> Reader<'t> {
                 0..=0x1f => return Err(Refusal::NotJson),
                 _ => None,
             };
-            // A trailing surrogate stands exactly behind each leading one.
+            // A trailing surrogate stands exactly after each leading one.
             self.lone_surrogate |= leading_before != matches!(unit, Some(0xdc00..=0xdfff));
             leading_before = matches!(unit, Some(0xd800..=0xdbff));
             if byte == b'"' {

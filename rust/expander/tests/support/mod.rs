@@ -5,7 +5,7 @@ use expander::Event;
 pub use generator::dates::read as seconds;
 pub use generator::examples::{by_day, event, recurring};
 
-/// The answer number to a text alone, 0 to 9.
+/// The answer number to a text alone: 0 to 5, 7 to 9 or 20 to 26.
 pub fn answer(text: impl AsRef<[u8]>) -> u32 {
     Event::read(text.as_ref()).map_or_else(|refusal| refusal.number(), |_| 0)
 }

@@ -4,6 +4,7 @@
 pub mod answers;
 pub mod ends;
 mod other_calendars;
+mod places;
 pub mod replays;
 mod rfc5545;
 mod rfc8984;

@@ -6,7 +6,7 @@ use smocurant::Record;
 use std::ops::Range;
 
 /// Bytes before and after each lent buffer, which nobody may write.
-const GUARD: usize = 64;
+pub const GUARD: usize = 64;
 
 /// The longest table that is compared.
 pub const LONGEST: usize = 1 << 22;
