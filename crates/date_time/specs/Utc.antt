@@ -21,7 +21,7 @@ endsInZ s =
     (if eqb (byte s (length s - 1)) 0x5A then legalFraction (take (length s - 1 - 20) (drop 20 s)) else false)
     else false
 
--- A UTCDateTime; any other string is a wrong value, 6.
+-- A UTCDateTime. 02, 4: any other string is a "bad date or time 21".
 unfoldable pub isUtc : List ℕ → Bool
 isUtc s =
     if follows picture s then

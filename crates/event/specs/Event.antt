@@ -1,4 +1,4 @@
--- 01, "Reading the event": the event of a text that is past answers 1 to 4, and the lowest of 5 to 9 that applies to it.
+-- 01, "Reading the event": the event of a text that is past answers 1 to 4, all its faults, and the one of 5 to 9 that is given. 02, 4: 20 to 26 for 6.
 use Prim.Native.Nat.{ℕ}
 use mathlib.Core.Bool.{Bool, true, false, not, _||_}
 use mathlib.Core.List.{List, [], _∷_}

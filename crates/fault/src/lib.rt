@@ -67,7 +67,7 @@ pub fn lower(a: First, b: First) -> First
     }
 }
 
-// A fault joined with that of a value at a place, by the number that it was judged with. Most values have none, and then nothing is copied.
+// A fault joined with that of a value at a place, by the number that it was judged with. Most values have none: then it is handed back as it is.
 pub fn join_at(fault: First, number: u32, place: usize) -> First
     ensures { λ r. ⌜ r ≡ lower fault (first (faultsAt number place)) ⌝ }
 {

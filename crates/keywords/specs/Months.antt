@@ -21,7 +21,7 @@ monthWritten s =
     else 0)
     else 0
 
--- "1" to "12" is the month. One of these followed by L, 0x4C, that is what stands before a last byte L: 8. Any other string, 6.
+-- "1" to "12" is the month. One of these followed by L, 0x4C, that is what stands before a last byte L: 8. Any other string, 24.
 unfoldable pub monthOf : List ℕ → Named
 monthOf s =
     if leb 1 (monthWritten s) then Number (monthWritten s) else

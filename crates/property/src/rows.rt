@@ -74,7 +74,7 @@ pub fn place(text: &[u8], at: usize, row: &[usize], w: usize) -> Place
 }
 
 // The fault of a member that was judged with a number, 0 being none, joined with others: it stands at its value, or at the object where there is no
-// such member. Most members have none, and then nothing is copied.
+// such member. Most members have none: then the others are handed back as they are.
 pub fn join_in(text: &[u8], at: usize, row: &[usize], w: usize, number: u32, others: First) -> First
     requires { ⌜ RowTo (w + 1) (now text) at (now row) ⌝ }
     ensures { λ r. ⌜ ((l : ℕ) → r ≡ Fault·lower (Fault·first (faultsAt number (placeIn at (member (wordOf w) (fieldsIn l (now (text .entry)) at))))) others) ⌝ }
