@@ -17,7 +17,7 @@ impl Fault {
         Fault { refusal, place: 0 }
     }
 
-    /// What comes first decides: "The earliest place decides, then the lowest number", and "the order against the other numbers is that of 6".
+    /// What comes first decides: "The earliest place decides, then the lowest number"; "The order against the other numbers is that of 6".
     fn order(&self) -> (u32, usize, u32) {
         let number = self.refusal.number();
         if self.refusal.is_wrong_value() {
