@@ -1,14 +1,17 @@
 -- The first of numbered conditions that holds.
-use Prim.Native.Nat.{ℕ}
+use Prim.Native.Nat.{ℕ, _≤_}
 use mathlib.Core.Bool.{Bool, true, false, _&&_, _||_}
 use mathlib.Core.List.{List, [], _∷_, _++_}
-use mathlib.Core.Path.{_≡_, refl, sym, _∙_}
+use mathlib.Core.Logic.{⊎-elim}
+use mathlib.Core.Path.{_≡_, refl, sym, _∙_, subst}
+use native.Mathlib.Omega.{arith}
 use lib.Dec.{eqb}
-use borrow.Author.Tests.{eq-eqb}
+use borrow.Author.Tests.{eqb-true, eq-eqb}
 use Rattle.signed.specs.Choose.{if_then_else_}
 use Rattle.signed.proofs.Parts.{false-true}
 use Rattle.rule.specs.Lists.{any}
-use Rattle.demands.specs.Conditions.{Numbered, applies, Given, nothing, here, later}
+use Rattle.rule.proofs.Bools.{or-either, left}
+use Rattle.demands.specs.Conditions.{Numbered, applies, Given, nothing, here, later, rank, InOrder}
 
 unfoldable pub givenBy : List Numbered → ℕ
 givenBy [] = 0
@@ -84,3 +87,27 @@ nothing-applies (c ∷ l) h = go (c .holds) refl (nothing-applies l)
         → (if t then c .number else givenBy l) ≡ 0
     go true e rest = false-true (sym (rw (e, eq-eqb (c .number) (c .number) refl) at (h (c .number))))
     go false e rest = rest (later-none e)
+
+-- ---- lists whose numbers stand in order
+
+-- no number that applies stands before the list
+above : (m : ℕ) (l : List Numbered) → InOrder m l → (n : ℕ) → applies n l ≡ true → m ≤ rank n
+unfolding applies any
+above m [] r n h = false-true h
+above m (c ∷ l) r n h =
+    ⊎-elim (λ (z : (eqb (c .number) n && c .holds) ≡ true). subst (λ (k : ℕ). m ≤ rank k) (eqb-true (c .number) n (left (eqb (c .number) n) (c .holds) z)) (r .0))
+    (λ (z : any (λ (d : Numbered). eqb (d .number) n && d .holds) l ≡ true). let later = above (rank (c .number)) l (r .1) n z in omega (arith, r .0))
+    (or-either (eqb (c .number) n && c .holds) (any (λ (d : Numbered). eqb (d .number) n && d .holds) l) h)
+
+lowest-from : (m : ℕ) {l : List Numbered} {a : ℕ} → InOrder m l → Given l a → (n : ℕ) → applies n l ≡ true → rank a ≤ rank n
+unfolding applies any
+lowest-from m r nothing n h = false-true h
+lowest-from m {l = c ∷ l} r (here e) n h = above (rank (c .number)) (c ∷ l) (omega arith, r .1) n h
+lowest-from m {l = c ∷ l} r (later e g) n h = lowest-from (rank (c .number)) (r .1) g n (go (eqb (c .number) n) (rw e at h))
+  where
+    go : (t : Bool) → ((t && false) || any (λ (d : Numbered). eqb (d .number) n && d .holds) l) ≡ true → any (λ (d : Numbered). eqb (d .number) n && d .holds) l ≡ true
+    go true q = q
+    go false q = q
+
+pub given-lowest : (l : List Numbered) (a : ℕ) → InOrder 0 l → Given l a → (n : ℕ) → applies n l ≡ true → rank a ≤ rank n
+given-lowest l a r g n h = lowest-from 0 r g n h

@@ -1,4 +1,5 @@
 pub mod Given
+pub mod Order
 pub mod FaultConditions
 pub mod TextAnswers
 pub mod DemandOne

@@ -9,7 +9,8 @@ use Rattle.event.specs.Event.{eventOf}
 use Rattle.call_definitions.specs.Occurrence.{detailsAt}
 use Rattle.call_definitions.specs.Call.{textOf, titleOf, descriptionOf}
 use Rattle.demands.specs.Promises.{TablePromises, TextPromises, PlacePromises, WeeksPromises, ReadingPromises, Promises}
-use Rattle.demands.proofs.Given.{given-one}
+use Rattle.demands.proofs.Given.{given-one, given-lowest}
+use Rattle.demands.proofs.Order.{text-order, table-order, words-order, weeks-order, read-order, record-order}
 use Rattle.demands.proofs.TextAnswers.{accepted-none}
 use Rattle.demands.proofs.DemandOne.{table-answered, text-answered, part-answered}
 use Rattle.demands.proofs.Locating.{place-answered, place-accepted, place-none, table-same, text-same}
@@ -124,6 +125,13 @@ pub promises : Promises
 promises =
     record {
       oneAnswer = given-one;
+      lowest = given-lowest;
+      tableOrder = table-order;
+      wordsOrder = words-order;
+      placeOrder = text-order;
+      weeksOrder = weeks-order;
+      readOrder = read-order;
+      recordOrder = record-order;
       accepted = accepted-none;
       table = table-promises;
       title = title-promises;

@@ -1,12 +1,13 @@
 -- 01, "Answer numbers": the numbers of the table, each with its condition.
-use Prim.Native.Nat.{ℕ, _+_}
+use Prim.Native.Nat.{ℕ, _+_, _≤_}
 use mathlib.Core.Bool.{Bool, true, false, not, _&&_, _||_}
 use mathlib.Core.List.{List, [], _∷_, _++_, map}
 use mathlib.Core.Option.{Option, none, some}
 use mathlib.Core.Path.{_≡_}
-use lib.Dec.{eqb, ltb}
+use lib.Dec.{eqb, ltb, leb}
 use lib.IntN.{ℤ}
 use lib.ListN.{length}
+use Rattle.signed.specs.Choose.{if_then_else_}
 use Rattle.json_text.specs.Bytes.{spaceAt, next}
 use Rattle.json_text.specs.declared.Read.{Read}
 use Rattle.json_text.specs.declared.Read.the-variants.{To, Bad, Deep}
@@ -42,6 +43,16 @@ pub data Given : List Numbered → ℕ → Type 0 where
   nothing : Given [] 0
   here : {c : Numbered} {l : List Numbered} → c .holds ≡ true → Given (c ∷ l) (c .number)
   later : {c : Numbered} {l : List Numbered} {n : ℕ} → c .holds ≡ false → Given l n → Given (c ∷ l) n
+
+-- Where a number of any call stands among the others (`order` of crate fault is that of faults alone). 02, 4: "The order against the other numbers is that
+-- of 6".
+abbrev pub rank : ℕ → ℕ
+rank n = if leb 20 n && leb n 26 then 6 else n
+
+-- The numbers of these conditions stand in order, from m on.
+abbrev pub InOrder : ℕ → List Numbered → Type 0
+InOrder m [] = Unit {0}
+InOrder m (c ∷ l) = (m ≤ rank (c .number)) × InOrder (rank (c .number)) l
 
 -- ---- 7 to 9 and 20 to 26, of the faults that the values read have, each a number and a place
 

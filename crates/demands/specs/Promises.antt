@@ -9,7 +9,7 @@
 --     Summarises (summaryOf ..) smocurant_read                     Fetches (fetchOf ..)       smocurant_record
 --     FetchesRun (runOf ..)     smocurant_records
 -- One value has this type: proofs/Promises `promises`.
-use Prim.Native.Nat.{ℕ}
+use Prim.Native.Nat.{ℕ, _≤_}
 use mathlib.Core.Bool.{true, false}
 use mathlib.Core.List.{List, []}
 use mathlib.Core.Logic.{_↔_}
@@ -35,13 +35,13 @@ use Rattle.call_definitions.specs.Answer.{isSecret}
 use Rattle.call_definitions.specs.Utc.{ZoneTable}
 use Rattle.call_definitions.specs.Call.{Shown, textFault, locateText, expandText, titleOf, descriptionOf}
 use Rattle.call_definitions.specs.Results.{Gives, Locates, Shows, Tells}
-use Rattle.demands.specs.Conditions.{Numbered, Given, applies, textConditions}
+use Rattle.demands.specs.Conditions.{Numbered, Given, applies, rank, InOrder, textConditions, tableConditions, wordsConditions}
 use Rattle.demands.specs.Sheet.{HasSheet}
 use Rattle.demands.specs.One.{TableAnswered, PlaceAnswered, TextAnswered, PartAnswered}
 use Rattle.demands.specs.Two.{Listed, Told, PartTold}
 use Rattle.demands.specs.Three.{SameTable, PrivateTable, SameText, SamePart}
-use Rattle.demands.specs.Weeks.{WeeksAnswered, WeeksSorted, SameReplays, ShutsNothing}
-use Rattle.demands.specs.Reading.{ReadAnswered, RecordAnswered, Slices, RunAnswered, ReadBack, SameReadings, NoRecords}
+use Rattle.demands.specs.Weeks.{weeksConditions, WeeksAnswered, WeeksSorted, SameReplays, ShutsNothing}
+use Rattle.demands.specs.Reading.{sheetConditions, recordConditions, ReadAnswered, RecordAnswered, Slices, RunAnswered, ReadBack, SameReadings, NoRecords}
 
 -- The calls for the sheet.
 pub record TablePromises : Type 0 where
@@ -174,6 +174,15 @@ pub record ReadingPromises : Type 0 where
 pub record Promises : Type 0 where
   -- 1. "one answer": two numbers that both are given are equal.
   pub oneAnswer : (l : List Numbered) (a b : ℕ) → Given l a → Given l b → a ≡ b
+  -- 1. "the lowest number of the table whose condition holds": what is given comes before every other number that applies, 20 to 26 in 6's place. The
+  -- conditions of each call stand in that order.
+  pub lowest : (l : List Numbered) (a : ℕ) → InOrder 0 l → Given l a → (n : ℕ) → applies n l ≡ true → rank a ≤ rank n
+  pub tableOrder : (zones : ZoneTable) (s : List ℕ) (from to : ℤ) (buffer : List ℕ) → InOrder 0 (tableConditions zones s from to buffer)
+  pub wordsOrder : (s : List ℕ) (date : ℤ) → InOrder 0 (wordsConditions s date)
+  pub placeOrder : (s : List ℕ) → InOrder 0 (textConditions s)
+  pub weeksOrder : (log : List ℤ) (sheet : List ℕ) (from to : ℤ) (room : ℕ) → InOrder 0 (weeksConditions log sheet from to room)
+  pub readOrder : (sheet : List ℕ) → InOrder 0 (sheetConditions sheet)
+  pub recordOrder : (sheet : List ℕ) (number : ℕ) → InOrder 0 (recordConditions sheet number)
   -- 01: "An event is accepted when none of 1 to 9 applies to its text."
   pub accepted : (s : List ℕ) → (textFault s ≡ 0) ↔ ((n : ℕ) → applies n (textConditions s) ≡ false)
   pub table : TablePromises
