@@ -1,7 +1,8 @@
 #!/usr/bin/env python3
 """What a reader has to believe: finds it, and writes docs/TRUSTED.md, the page that lists it. With --check it only compares.
 
-It begins with the contracts of the exported functions and the statements of the demands, and follows what their files name. A definition that
+It begins with the contracts of the exported functions, and of inner ones that a statement speaks of, and with the statements of the demands, and follows
+what their files name. A definition that
 is reached stands in specs/ of its crate, one that only inner contracts and proofs cite in specs/Inner/: so the folder says it. The script
 fails where it does not, where what must be believed names an inner definition or a proof, and where any contract names a proof.
 """
@@ -13,13 +14,14 @@ ROOT = pathlib.Path(__file__).resolve().parent.parent
 CRATES = ROOT / "crates"
 PAGE = ROOT / "docs" / "TRUSTED.md"
 EXPORTED = ["smocurant/src/*.rt", "texts/src/calls.rt"]  # their public functions are the calls
+SPOKEN_OF = ["zone/src/search.rt"]  # a statement speaks of these inner functions: request 5
 STATED = ["demands", "smocurant"]  # their specs/ state the demands
 KIT = "Prim|mathlib|lib|native|borrow"
 NAMED = re.compile(r"Rattle·(\w+)(?:·\w+)?\.(\w+)((?:\.[\w-]+)*)")
 HEAD = """# What must be believed
 
-The contracts of the exported functions and the statements of the demands are written with the definitions on this page, and with no others of
-this repository. A reader who believes that these say what the papers say, and who believes the checker, believes the promises: that the code
+The contracts of the exported functions, those of the search for an offset (request 5) and the statements of the demands are written with the
+definitions on this page, and with no others of this repository. A reader who believes that these say what the papers say, and who believes the checker, believes the promises: that the code
 keeps them is proved, and no proof has to be read. The definitions in `specs/Inner/` stand only in contracts of inner functions and in proofs.
 
 {count}
@@ -71,7 +73,8 @@ def found(crate, folder, names):
     """What a path names: (file, "") or, of a type of the code, (file, name). None where there is nothing of that name."""
     if folder == "specs" and names[0] == "declared":
         files = sorted((CRATES / crate / "src").rglob("*.rt"))
-        return next(((file, names[1]) for file in files if type_match(file, names[1])), None)
+        name = next(name for name in names[1:] if name[0].isupper())  # after the modules that it is in
+        return next(((file, name) for file in files if type_match(file, name)), None)
     for count in range(len(names), 0, -1):
         file = (CRATES / crate / folder).joinpath(*names[:count]).with_suffix(".antt")
         if file.is_file():
@@ -104,11 +107,11 @@ def named_in(text, here, faults):
     return places
 
 
-def heads_of(path):
-    """The signature and the contract of each public function of a source file, by its name."""
+def heads_of(path, public):
+    """The signature and the contract of each public function of a source file, by its name; `public` is the word for it."""
     heads, lines = {}, iter(code(path).splitlines())
     for line in lines:
-        match = re.match(r'pub (?:extern "C" )?fn (\w+)', line)
+        match = re.match(rf'{re.escape(public)} (?:extern "C" )?fn (\w+)', line)
         if match:
             head = [line]
             while not re.fullmatch(r"\{|(?!\s*(?:requires|ensures)\b).*\{", head[-1]):
@@ -134,8 +137,9 @@ def definitions(crate):
 def roots(faults):
     """What the promises name: {a text that says where: its places}, the contracts by file and function, and the text of all."""
     named, contracts, text = {}, [], ""
-    for path in sorted(file for pattern in EXPORTED for file in CRATES.glob(pattern)):
-        heads = heads_of(path)
+    exported = sorted((file, "pub") for pattern in EXPORTED for file in CRATES.glob(pattern))
+    for path, public in [*exported, *((CRATES / name, "pub(crate)") for name in SPOKEN_OF)]:
+        heads = heads_of(path, public)
         contracts += [(path, name) for name in heads]
         needed = "\n".join([*used_imports(path, "\n".join(heads.values())), *heads.values()])
         named[shown(path)] = named_in(needed, shown(path), faults)

@@ -8,7 +8,7 @@ use Rattle.event.specs.Types.{Text, Details}
 use Rattle.event.specs.Event.{eventOf}
 use Rattle.call_definitions.specs.Occurrence.{detailsAt}
 use Rattle.call_definitions.specs.Call.{textOf, titleOf, descriptionOf}
-use Rattle.demands.specs.Promises.{TablePromises, TextPromises, PlacePromises, WeeksPromises, ReadingPromises, Promises}
+use Rattle.demands.specs.Promises.{TablePromises, TextPromises, PlacePromises, WeeksPromises, ReadingPromises, SearchPromises, Promises}
 use Rattle.demands.proofs.Given.{given-one, given-lowest}
 use Rattle.demands.proofs.Order.{text-order, table-order, words-order, weeks-order, read-order, record-order}
 use Rattle.demands.proofs.TextAnswers.{accepted-none}
@@ -17,6 +17,7 @@ use Rattle.demands.proofs.Locating.{place-answered, place-accepted, pla
 use Rattle.demands.proofs.DemandTwo.{table-listed}
 use Rattle.demands.proofs.OwnBytes.{OwnIn, title-own, description-own}
 use Rattle.demands.proofs.DemandTwoTexts.{text-told, part-told}
+use Rattle.zone.proofs.Halving.{halving}
 use Rattle.weeks.proofs.FloorWeeks.{in-week-floor}
 use Rattle.weeks.proofs.Touching.{touches-shares}
 use Rattle.demands.specs.Weeks.{SameReplays}
@@ -121,6 +122,9 @@ reading-promises =
           );
     }
 
+search-promises : SearchPromises
+search-promises = record { halving = halving }
+
 pub promises : Promises
 promises =
     record {
@@ -139,4 +143,5 @@ promises =
       place = place-promises;
       weeks = weeks-promises;
       reading = reading-promises;
+      search = search-promises;
     }

@@ -8,6 +8,8 @@
 --     Replays (replayOf ..)     smocurant_weeks
 --     Summarises (summaryOf ..) smocurant_read                     Fetches (fetchOf ..)       smocurant_record
 --     FetchesRun (runOf ..)     smocurant_records
+-- So is the premise about an inner function, where a request says how it does its work:
+--     .. ≡ searchBy 11 ..       zone::search::search
 -- One value has this type: proofs/Promises `promises`.
 use Prim.Native.Nat.{ℕ, _≤_}
 use mathlib.Core.Bool.{true, false}
@@ -16,9 +18,14 @@ use mathlib.Core.Logic.{_↔_}
 use mathlib.Core.Option.{Option}
 use mathlib.Core.Path.{_≡_}
 use lib.IntN.{ℤ, pos, _+ℤ_}
-use lib.ListN.{take}
+use lib.ListN.{length, take}
 use lib.Signed.{ltZ}
 use Rattle.little_endian.specs.Bytes.{AllBytes}
+use Rattle.zone.specs.declared.search.Found.{Found}
+use Rattle.zone.specs.Table.{validTable}
+use Rattle.zone.specs.Places.{markAt}
+use Rattle.zone.specs.Search.{searchBy}
+use Rattle.zone.specs.Halving.{Halving}
 use Rattle.sheet.specs.Records.{Row}
 use Rattle.sheet.specs.Writing.{sheetOf}
 use Rattle.sheet.specs.Reading.{rowsOf, faultOf}
@@ -170,6 +177,13 @@ pub record ReadingPromises : Type 0 where
       → Gives (expandText zones s from to buffer) answer size after → Gives (expandText zones t from to buffer) answer′ size′ after′
       → SameReadings (take size after) (take size′ after′) × (answer ≡ 0 → NoRecords (take size after))
 
+-- The search for an offset, which is no call: what request 5 says of how it is done.
+pub record SearchPromises : Type 0 where
+  -- Request 5: "it is proved that each step reads one mark and leaves at most half the run, so that 11 steps find the offset in any valid table."
+  pub halving : (initial : ℤ) (instants offsets : List ℤ) (local : ℤ) → validTable initial instants offsets ≡ true
+      → (found : Found) → found ≡ searchBy 11 (markAt initial instants offsets) local 0 (length instants)
+      → Halving initial instants offsets local found
+
 -- All that is promised.
 pub record Promises : Type 0 where
   -- 1. "one answer": two numbers that both are given are equal.
@@ -191,3 +205,4 @@ pub record Promises : Type 0 where
   pub place : PlacePromises
   pub weeks : WeeksPromises
   pub reading : ReadingPromises
+  pub search : SearchPromises

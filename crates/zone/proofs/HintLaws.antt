@@ -12,10 +12,15 @@ use lib.Signed.{ltZ}
 use Rattle.signed.specs.Choose.{if_then_else_}
 use Rattle.signed.proofs.Parts.{false-true}
 use Rattle.zone.specs.Table.{validTable}
-use Rattle.zone.specs.Inner.Places.{markAt}
+use Rattle.zone.specs.Places.{markAt}
 use Rattle.zone.specs.Inner.Hint.{begunAt, aheadAt, stillAt}
 use Rattle.zone.proofs.OrderLaws.{le-not-lt}
 use Rattle.zone.proofs.LookupLaws.{Halves, halves-at}
+
+-- Two marks at most are read: any others that are the same there give the same answer.
+pub still-two : (f g : ℕ → ℤ) (n : ℕ) (x : ℤ) (i : ℕ) → f (i - 1) ≡ g (i - 1) → f i ≡ g i → stillAt f n x i ≡ stillAt g n x i
+unfolding stillAt begunAt aheadAt
+still-two f g n x i p q = rw (p, q)
 
 module _ (b : ℤ) (ts ns : List ℤ) (v : validTable b ts ns ≡ true) (x : ℤ) where
   marks : ℕ → ℤ

@@ -4,4 +4,7 @@ pub mod TableLaws
 pub mod PassLaws
 pub mod LookupLaws
 pub mod HintLaws
+pub mod SearchLaws
+pub mod Halving
+pub mod Worked
 mod Machine

@@ -12,7 +12,7 @@ use lib.ListN.{length, getD, drop, drop-of-length-le}
 use lib.Signed.{leZ, ltZ}
 use Rattle.signed.specs.Choose.{if_then_else_}
 use Rattle.zone.specs.Table.{Transition, transitions, mark, within, allWithin, increasing, validTable}
-use Rattle.zone.specs.Inner.Places.{markAt}
+use Rattle.zone.specs.Places.{markAt}
 use Rattle.zone.specs.Lookup.{lastAfter, offsetAt, utcAt}
 use Rattle.zone.proofs.RangeLaws.{and-left, and-right, range-abs, difference-abs}
 use Rattle.zone.proofs.OrderLaws.{lt-not-le, not-lt-le, not-lt-smaller, lt-trans, increasing-drop, neighbours}
@@ -46,7 +46,7 @@ look-start : (b : ℤ) (ts ns : List ℤ) (x : ℤ) → Look b ts ns x 0
 unfolding offsetAt
 look-start b ts ns x = refl
 
-by : {P : Type 0} (t : Bool) → (t ≡ true → P) → (t ≡ false → P) → P
+pub by : {P : Type 0} (t : Bool) → (t ≡ true → P) → (t ≡ false → P) → P
 by true f g = f refl
 by false f g = g refl
 

@@ -14,14 +14,17 @@ use mir.Facts.{toZ-ofZ}
 use Rattle.signed.proofs.Parts.{back}
 use Rattle.zone.specs.Table.{larger, within, allWithin, increasing, validTable}
 use Rattle.zone.specs.Lookup.{offsetAt}
-use Rattle.zone.specs.Inner.Places.{InRange, markAt}
-use Rattle.zone.specs.Inner.Hint.{begunAt, aheadAt, stillAt}
+use Rattle.zone.specs.Places.{InRange, markAt}
 use Rattle.zone.proofs.RangeLaws.{range-at, sum-abs, difference-abs, abs-fits}
 use Rattle.zone.proofs.OrderLaws.{ends-first, ends-last}
 use Rattle.zone.proofs.TableLaws.{valid-gives}
 use Rattle.zone.proofs.PassLaws.{Pass, both, markOf, pass-start, pass-wide, pass-down, pass-next, pass-end, added-small}
-use Rattle.zone.proofs.LookupLaws.{Halves, halves-high, halves-low, halves-end}
+use Rattle.zone.specs.declared.search.Found.{Found}
+use Rattle.zone.specs.Search.{middle, halve, Halved, searchBy}
+use Rattle.zone.specs.Inner.Hint.{begunAt, aheadAt, stillAt}
+use Rattle.zone.proofs.LookupLaws.{Halves, halves-end}
 use Rattle.zone.proofs.HintLaws.{still-gives}
+use Rattle.zone.proofs.SearchLaws.{halved, Going, going-end, search-finds}
 
 abbrev pub again : ℤ → ℤ
 again z = toZ w64 (ofZ w64 z)
@@ -145,7 +148,55 @@ module _ (b : ℤ) (ts ns : List ℤ) (f : SFits w64 b) where
               next = λ d. rw (next-is, toZ-ofZ g) (pass-next (again b) ts ns even before last i h w offset-in (rw next-is at d));
             }
 
--- ---- `offset`: M is the mark at i as `mark::at` gives it, R the offset as `mark::before` does
+-- ---- the marks, the look at the hint and the search
+
+-- What is known of the arguments.
+pub record Ranged (b : ℤ) (ts ns : List ℤ) (x : ℤ) : Type 0 where
+  pub initial-fits : SFits w64 b
+  pub local-fits : SFits w64 x
+  pub range : InRange b ts ns
+
+module _ {b : ℤ} {ts ns : List ℤ} {x : ℤ} (a : Ranged b ts ns x) where
+  pub range-again : InRange (again b) ts ns
+  range-again = rw (toZ-ofZ (a .initial-fits)) (a .range)
+
+  -- M is the mark at i as `mark::at` gives it
+  mark-is : (i : ℕ) (M : ℤ) → mag M < 2 ^ 63 → M ≡ markAt (again b) ts ns i → again M ≡ markAt b ts ns i
+  mark-is i M m e = back M m ∙ (rw (toZ-ofZ (a .initial-fits)) at e)
+
+  module _ (i : ℕ) where
+    pub begun-is : (i ≡ 0 → ⊥) → (M : ℤ) → mag M < 2 ^ 63 → M ≡ markAt (again b) ts ns (i - 1) → leZ (again M) (again x) ≡ begunAt (markAt b ts ns) x i
+    unfolding begunAt
+    begun-is n M m e = rw (mark-is (i - 1) M m e, toZ-ofZ (a .local-fits), ne-eqb i 0 n)
+
+    pub ahead-is : (i ≡ length ts → ⊥) → (M : ℤ) → mag M < 2 ^ 63 → M ≡ markAt (again b) ts ns i → ltZ (again x) (again M) ≡ aheadAt (markAt b ts ns) (length ts) x i
+    unfolding aheadAt
+    ahead-is n M m e = rw (mark-is i M m e, toZ-ofZ (a .local-fits), ne-eqb i (length ts) n)
+
+    pub passed-begun : (r : Bool) → r ≡ begunAt (markAt (again b) ts ns) (again x) i → r ≡ begunAt (markAt b ts ns) x i
+    passed-begun r e = rw (toZ-ofZ (a .initial-fits), toZ-ofZ (a .local-fits)) at e
+
+    pub passed-ahead : (r : Bool) → r ≡ aheadAt (markAt (again b) ts ns) (length ts) (again x) i → r ≡ aheadAt (markAt b ts ns) (length ts) x i
+    passed-ahead r e = rw (toZ-ofZ (a .initial-fits), toZ-ofZ (a .local-fits)) at e
+
+  module _ (low high : ℕ) (h : low < high) (M : ℤ) (m : mag M < 2 ^ 63) (me : M ≡ markAt (again b) ts ns (middle low high)) where
+    read : (t : Bool) → ltZ (again x) (again M) ≡ t → ltZ x (markAt b ts ns (middle low high)) ≡ t
+    read t e = rw (mark-is (middle low high) M m me, toZ-ofZ (a .local-fits)) at e
+
+    pub step-high : ltZ (again x) (again M) ≡ true → Halved (markAt b ts ns) x low high (record { low = low; high = middle low high })
+    unfolding halve
+    step-high e = rw (read true e) at (halved (markAt b ts ns) x low high h)
+
+    pub step-low : ltZ (again x) (again M) ≡ false → Halved (markAt b ts ns) x low high (record { low = middle low high + 1; high = high })
+    unfolding halve
+    step-low e = rw (read false e) at (halved (markAt b ts ns) x low high h)
+
+  pub search-end : (low high steps : ℕ) → Going (length ts) (markAt (again b) ts ns) (again x) low high steps → high ≤ low
+      → record { place = low; steps = steps } ≡ searchBy 11 (markAt b ts ns) x 0 (length ts)
+  search-end low high steps w h =
+      rw (toZ-ofZ (a .initial-fits), toZ-ofZ (a .local-fits)) at (going-end (length ts) (markAt (again b) ts ns) (again x) low high steps w h)
+
+-- ---- `offset`: R is the offset as `mark::before` gives it
 
 pub passed-valid : (b : ℤ) (ts ns : List ℤ) → SFits w64 b → validTable b ts ns ≡ true → validTable (again b) ts ns ≡ true
 passed-valid b ts ns f v = rw (toZ-ofZ f) v
@@ -153,57 +204,31 @@ passed-valid b ts ns f v = rw (toZ-ofZ f) v
 pub passed-offset : (b : ℤ) (ts ns : List ℤ) (x : ℤ) → SFits w64 b → SFits w64 x → (r : ℤ) → r ≡ offsetAt (again b) ts ns (again x) → r ≡ offsetAt b ts ns x
 passed-offset b ts ns x f g r e = rw (toZ-ofZ f, toZ-ofZ g) at e
 
-module _ (b : ℤ) (ts ns : List ℤ) (x : ℤ) (f : SFits w64 b) (g : SFits w64 x) (v : validTable b ts ns ≡ true) where
-  pub valid-again : validTable (again b) ts ns ≡ true
-  valid-again = passed-valid b ts ns f v
+-- What is known of the arguments of `offset`.
+pub record Asked (b : ℤ) (ts ns : List ℤ) (x : ℤ) : Type 0 where
+  pub initial-fits : SFits w64 b
+  pub local-fits : SFits w64 x
+  pub valid : validTable b ts ns ≡ true
 
+module _ {b : ℤ} {ts ns : List ℤ} {x : ℤ} (a : Asked b ts ns x) where
   pub valid-range : InRange (again b) ts ns
-  valid-range = valid-gives (again b) ts ns valid-again .ranges
+  valid-range = valid-gives (again b) ts ns (passed-valid b ts ns (a .initial-fits) (a .valid)) .ranges
 
-  pub as-many : (i : ℕ) → i ≤ length ts → i ≤ length ns
-  as-many i h = omega (arith, valid-range .even)
+  pub valid-count : length ts ≤ 1024
+  valid-count = valid-gives b ts ns (a .valid) .count
 
-  found : (R y : ℤ) → mag R < 2 ^ 63 → R ≡ y → y ≡ offsetAt (again b) ts ns (again x) → again R ≡ offsetAt b ts ns x
-  found R y k e h = back R k ∙ e ∙ (rw (toZ-ofZ f, toZ-ofZ g) at h)
+  -- the place that the hint or the search gives
+  pub hint-place : (i : ℕ) (r : Bool) → r ≡ stillAt (markAt (again b) ts ns) (length ts) (again x) i → r ≡ true → Halves b ts ns x i i
+  hint-place i r e t = still-gives b ts ns (a .valid) x i (sym (rw (toZ-ofZ (a .initial-fits), toZ-ofZ (a .local-fits)) at e) ∙ t)
 
-  -- a hint that still holds
-  pub hint-place : (i : ℕ) (r : Bool) → r ≡ stillAt (markAt (again b) ts ns) (length ts) (again x) i → r ≡ true → Halves (again b) ts ns (again x) i i
-  hint-place i r e t = still-gives (again b) ts ns valid-again (again x) i (sym e ∙ t)
+  pub search-place : (r : Found) → r ≡ searchBy 11 (markAt (again b) ts ns) (again x) 0 (length ts) → Halves b ts ns x (r .place) (r .place)
+  search-place r e =
+      let same : r ≡ searchBy 11 (markAt b ts ns) x 0 (length ts) = rw (toZ-ofZ (a .initial-fits), toZ-ofZ (a .local-fits)) at e in
+      rw same (search-finds b ts ns (a .valid) x)
 
-  module _ (low high : ℕ) (w : Halves (again b) ts ns (again x) low high) where
-    pub offset-end : high ≤ low → (R : ℤ) → mag R < 2 ^ 63 → R ≡ getD (again b ∷ ns) low (pos 0) → again R ≡ offsetAt b ts ns x
-    offset-end h R k e = found R _ k e (halves-end (again b) ts ns valid-again (again x) low high h w)
+  module _ (i : ℕ) (w : Halves b ts ns x i i) where
+    pub place-fits : i ≤ length ns
+    place-fits = omega (arith, w .fits, valid-range .even)
 
-    module _ (middle : ℕ) (p : low ≤ middle) (q : middle < high) (M : ℤ) (m : mag M < 2 ^ 63) (me : M ≡ markAt (again b) ts ns middle) where
-      judged : (t : Bool) → ltZ (again x) (again M) ≡ t → ltZ (again x) (markAt (again b) ts ns middle) ≡ t
-      judged t e = rw (back M m, me) at e
-
-      pub offset-high : ltZ (again x) (again M) ≡ true → Halves (again b) ts ns (again x) low middle
-      offset-high t = halves-high (again b) ts ns valid-again (again x) low high middle p q w (judged true t)
-
-      pub offset-low : ltZ (again x) (again M) ≡ false → Halves (again b) ts ns (again x) (middle + 1) high
-      offset-low t = halves-low (again b) ts ns valid-again (again x) low high middle p q w (judged false t)
-
--- ---- the look at the hint: M is the mark as `mark::at` gives it
-
-pub range-again : (b : ℤ) (ts ns : List ℤ) → SFits w64 b → InRange b ts ns → InRange (again b) ts ns
-range-again b ts ns f v = rw (toZ-ofZ f) v
-
-module _ (b : ℤ) (ts ns : List ℤ) (x : ℤ) (i : ℕ) (f : SFits w64 b) (g : SFits w64 x) where
-  pub passed-begun : (r : Bool) → r ≡ begunAt (markAt (again b) ts ns) (again x) i → r ≡ begunAt (markAt b ts ns) x i
-  passed-begun r e = rw (toZ-ofZ f, toZ-ofZ g) at e
-
-  pub passed-ahead : (r : Bool) → r ≡ aheadAt (markAt (again b) ts ns) (length ts) (again x) i → r ≡ aheadAt (markAt b ts ns) (length ts) x i
-  passed-ahead r e = rw (toZ-ofZ f, toZ-ofZ g) at e
-
-  pub begun-is : (i ≡ 0 → ⊥) → (M : ℤ) → mag M < 2 ^ 63 → M ≡ markAt (again b) ts ns (i - 1) → leZ (again M) (again x) ≡ begunAt (markAt b ts ns) x i
-  unfolding begunAt
-  begun-is n M m e =
-      let is : M ≡ markAt b ts ns (i - 1) = rw (toZ-ofZ f) at e in
-      rw (back M m, toZ-ofZ g, ne-eqb i 0 n, is)
-
-  pub ahead-is : (i ≡ length ts → ⊥) → (M : ℤ) → mag M < 2 ^ 63 → M ≡ markAt (again b) ts ns i → ltZ (again x) (again M) ≡ aheadAt (markAt b ts ns) (length ts) x i
-  unfolding aheadAt
-  ahead-is n M m e =
-      let is : M ≡ markAt b ts ns i = rw (toZ-ofZ f) at e in
-      rw (back M m, toZ-ofZ g, ne-eqb i (length ts) n, is)
+    pub place-offset : (R : ℤ) → mag R < 2 ^ 63 → R ≡ getD (again b ∷ ns) i (pos 0) → again R ≡ offsetAt b ts ns x
+    place-offset R k e = back R k ∙ (rw (toZ-ofZ (a .initial-fits)) at e) ∙ halves-end b ts ns (a .valid) x i i (omega arith) w

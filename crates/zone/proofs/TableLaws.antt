@@ -10,7 +10,7 @@ use lib.ListN.{length, getD, drop}
 use lib.Signed.{leZ}
 use Rattle.signed.specs.Choose.{if_then_else_}
 use Rattle.zone.specs.Table.{Transition, transitions, larger, mark, within, allWithin, increasing, validTable}
-use Rattle.zone.specs.Inner.Places.{InRange, markAt}
+use Rattle.zone.specs.Places.{InRange, markAt}
 use Rattle.zone.proofs.RangeLaws.{and-left, and-right, range-abs, range-at}
 
 -- the transition at a place, as `markAt` has it

@@ -2,7 +2,7 @@
 ghost use mathlib.Core.Path.{_≡_};
 ghost use Prim.Native.Nat.{_≤_};
 ghost use lib.ListN.{length};
-ghost use Rattle.zone.specs.Inner.Places.{InRange, markAt};
+ghost use Rattle.zone.specs.Places.{InRange, markAt};
 ghost use Rattle.zone.specs.Inner.Hint.{begunAt, aheadAt, stillAt};
 
 fn begun(initial: i64, instants: &[i64], offsets: &[i64], local: i64, i: usize) -> bool

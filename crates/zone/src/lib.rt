@@ -3,10 +3,11 @@
 mod hint;
 mod mark;
 mod range;
+pub mod search;
 
 ghost use mathlib.Core.Path.{_≡_};
 ghost use mathlib.Core.Bool.{true};
-ghost use Prim.Native.Nat.{_^_, _≤_, _<_};
+ghost use Prim.Native.Nat.{_^_, _≤_};
 ghost use lib.IntN.{natAbs};
 ghost use Rattle.zone.specs.Table.{validTable};
 ghost use Rattle.zone.specs.Lookup.{offsetAt, utcAt};
@@ -33,34 +34,8 @@ pub fn valid(initial: i64, instants: &[i64], offsets: &[i64]) -> bool
     mark::in_order(initial, instants, offsets)
 }
 
-// Where to look next between `low` and `high`: near the place that the caller guessed while `near` lasts, then in the middle.
-fn probe(low: usize, high: usize, guess: usize, near: u32) -> usize
-    requires { ⌜ low < high ⌝ }
-    ensures { λ r. ⌜ (low ≤ r) × (r < high) ⌝ }
-{
-    if near == 0 {
-        return low + (high - low) / 2;
-    }
-    if guess < low {
-        return low;
-    }
-    if high <= guess {
-        return high - 1;
-    }
-    guess
-}
-
-fn fewer(n: u32) -> u32 {
-    if n == 0 {
-        return 0;
-    }
-    n - 1
-}
-
-// The hint is where the last offset was found, and is left where this one is found. Where the local time is still there, two marks say so.
-// Else, since marks increase, the first one beyond the local time is found by halving: what stands before `low` is at or before it, and the
-// mark at `high`, where there is one, is beyond it. It first looks near the hint: a yearly rule moves by two transitions. Any hint is right,
-// so which one is left is not promised.
+// The offset of a local time. The hint is where the last one was found, and is left where this one is found: if the local time is still
+// there, two marks say so, and no search is made. Any hint is right, so which one is left is not promised.
 pub fn offset(initial: i64, instants: &[i64], offsets: &[i64], local: i64, hint: &mut usize) -> i64
     requires { ⌜ validTable initial (now instants) (now offsets) ≡ true ⌝ }
     ensures { λ r. ⌜ r ≡ offsetAt initial (now (instants .entry)) (now (offsets .entry)) local ⌝ }
@@ -69,21 +44,10 @@ pub fn offset(initial: i64, instants: &[i64], offsets: &[i64], local: i64, hint:
     if hint::still(initial, instants, offsets, local, guess) {
         return mark::before(initial, offsets, guess);
     }
-    let mut low = 0;
-    let mut high = instants.len();
-    let mut near: u32 = 4;
-    while low < high {
-        let middle = probe(low, high, guess, near);
-        near = fewer(near);
-        let next = mark::at(initial, instants, offsets, middle);
-        if local < next {
-            high = middle;
-        } else {
-            low = middle + 1;
-        }
-    }
-    *hint = low;
-    mark::before(initial, offsets, low)
+    let found = search::search(initial, instants, offsets, local);
+    let place = found.place;
+    *hint = place;
+    mark::before(initial, offsets, place)
 }
 
 pub fn utc(initial: i64, instants: &[i64], offsets: &[i64], local: i64, hint: &mut usize) -> i64

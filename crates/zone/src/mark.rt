@@ -6,7 +6,7 @@ ghost use Prim.Native.Nat.{_<_, _≤_, _^_};
 ghost use lib.IntN.{pos};
 ghost use lib.ListN.{length, getD};
 ghost use Rattle.zone.specs.Table as Table;
-ghost use Rattle.zone.specs.Inner.Places.{InRange, markAt};
+ghost use Rattle.zone.specs.Places.{InRange, markAt};
 
 // The offset before the transition at i, which is the one after i transitions.
 pub(crate) fn before(initial: i64, offsets: &[i64], i: usize) -> i64

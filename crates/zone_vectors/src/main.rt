@@ -182,6 +182,20 @@ fn long_tables() {
     many(1025, 0);
 }
 
+// The mark that the search reads first, in the middle: the second before it, and its own.
+fn middle_marks() {
+    many(1, -1);
+    many(1, 0);
+    many(4, 176399);
+    many(4, 176400);
+    many(512, 22121999);
+    many(512, 22122000);
+    many(1023, 44153999);
+    many(1023, 44154000);
+    many(1024, 44240399);
+    many(1024, 44240400);
+}
+
 fn main() {
     worked_dates();
     initial_offsets();
@@ -189,4 +203,5 @@ fn main() {
     order();
     places();
     long_tables();
+    middle_marks();
 }

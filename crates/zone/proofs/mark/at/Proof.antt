@@ -7,7 +7,7 @@ use mathlib.Core.Path.{_≡_, _∙_, ap}
 use lib.IntN.{ℤ, pos, natAbs, _+ℤ_}
 use lib.ListN.{getD}
 use Rattle.zone.specs.Table.{larger, mark}
-use Rattle.zone.specs.Inner.Places.{markAt}
+use Rattle.zone.specs.Places.{markAt}
 use Rattle.zone.proofs.RangeLaws.{range-at}
 use Rattle.zone.proofs.TableLaws.{larger-abs, before-abs}
 use Rattle.zone.proofs.Machine.{sum-fits, sum-is, larger-is}

@@ -1,4 +1,4 @@
--- What the marks need of a table, and the mark at a place: terms of the inner functions' contracts.
+-- The mark at a place of a table, and what the marks need of it: terms of the contracts of the search and of other inner functions.
 use Prim.Native.Nat.{ℕ, _^_}
 use mathlib.Core.Bool.{true}
 use mathlib.Core.Path.{_≡_}
