@@ -3,14 +3,17 @@
 //!     cargo run --release -p bench
 //!     cargo run --release -p bench -- weeks
 //!     cargo run --release -p bench -- sheets
+//!     cargo run --release -p bench -- lookups
 //!
-//! The second line runs the section on weeks alone, the third that on reading sheets.
+//! The second line runs the section on weeks alone, the third that on reading sheets, the fourth that on looking up offsets in zone tables.
 //!
 //! A time is processor time, and the best of some batches, as everything else that a machine does only makes it longer. Times are of this
 //! machine alone; the ratios say more.
 
 mod libical;
+mod lookups;
 mod measure;
+mod searches;
 mod sheets;
 mod texts;
 mod weeks;
@@ -22,7 +25,8 @@ use std::hint::black_box;
 use workloads::Workload;
 
 /// The sections by their names, in the order in which they are printed.
-const SECTIONS: [(&str, fn()); 3] = [("expansions", print_expansions), ("weeks", weeks::print), ("sheets", sheets::print)];
+const SECTIONS: [(&str, fn()); 4] =
+    [("expansions", print_expansions), ("weeks", weeks::print), ("sheets", sheets::print), ("lookups", lookups::print)];
 
 fn main() {
     let only = std::env::args().nth(1);

@@ -27,25 +27,40 @@ fn processor_time() -> Duration {
     Duration::from_secs(time.seconds as u64) + Duration::from_nanos(time.nanoseconds as u64)
 }
 
-/// The time of a batch, how many there are at most and at least, and the time after which there are no more.
-const BATCH: Duration = Duration::from_millis(5);
-const MOST_BATCHES: usize = 40;
-const FEWEST_BATCHES: usize = 3;
-const PATIENCE: Duration = Duration::from_millis(600);
+/// How a call is measured: the time of a batch, how many batches there are at most and at least, the time after which there are no more, and
+/// how often several calls take turns.
+struct Pace {
+    batch: Duration,
+    most_batches: usize,
+    fewest_batches: usize,
+    patience: Duration,
+    rounds: usize,
+}
+
+const USUAL: Pace =
+    Pace { batch: Duration::from_millis(5), most_batches: 40, fewest_batches: 3, patience: Duration::from_millis(600), rounds: 3 };
+
+/// For small differences of calls, which take turns more often, each time for a shorter time.
+const SHORT: Pace =
+    Pace { batch: Duration::from_millis(1), most_batches: 4, fewest_batches: 1, patience: Duration::from_millis(20), rounds: 24 };
 
 /// Nanoseconds of one call: the best batch's mean.
-pub fn nanoseconds<T>(mut call: impl FnMut() -> T) -> f64 {
+pub fn nanoseconds<T>(call: impl FnMut() -> T) -> f64 {
+    best_batch(&USUAL, call)
+}
+
+fn best_batch<T>(pace: &Pace, mut call: impl FnMut() -> T) -> f64 {
     let mut calls = 1u32;
     let mut best = f64::INFINITY;
     let mut batches = 0;
     let begin = Instant::now();
-    while batches < FEWEST_BATCHES || (batches < MOST_BATCHES && begin.elapsed() < PATIENCE) {
+    while batches < pace.fewest_batches || (batches < pace.most_batches && begin.elapsed() < pace.patience) {
         let start = processor_time();
         for _ in 0..calls {
             black_box(call());
         }
         let time = processor_time() - start;
-        if time < BATCH && calls < 1 << 24 {
+        if time < pace.batch && calls < 1 << 24 {
             calls *= 2;
             continue;
         }
@@ -55,15 +70,21 @@ pub fn nanoseconds<T>(mut call: impl FnMut() -> T) -> f64 {
     best
 }
 
-/// How often each of several calls is measured, in turns.
-const ROUNDS: usize = 3;
-
 /// Nanoseconds of each of several calls, taken in turns: a machine that changes its pace changes it for all of them.
-pub fn in_turns<const N: usize>(mut calls: [&mut dyn FnMut(); N]) -> [f64; N] {
+pub fn in_turns<const N: usize>(calls: [&mut dyn FnMut(); N]) -> [f64; N] {
+    turns(&USUAL, calls)
+}
+
+/// As [`in_turns`], for calls of which small differences are taken.
+pub fn in_short_turns<const N: usize>(calls: [&mut dyn FnMut(); N]) -> [f64; N] {
+    turns(&SHORT, calls)
+}
+
+fn turns<const N: usize>(pace: &Pace, mut calls: [&mut dyn FnMut(); N]) -> [f64; N] {
     let mut best = [f64::INFINITY; N];
-    for _ in 0..ROUNDS {
+    for _ in 0..pace.rounds {
         for (call, best) in calls.iter_mut().zip(&mut best) {
-            *best = best.min(nanoseconds(call));
+            *best = best.min(best_batch(pace, call));
         }
     }
     best

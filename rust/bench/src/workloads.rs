@@ -7,10 +7,11 @@ use smocurant::{tzif, Window, ZoneTable};
 use std::ffi::CString;
 use std::rc::Rc;
 
-/// One call.
+/// One call. Copies share the text and the zone table.
+#[derive(Clone)]
 pub struct Workload {
     pub name: String,
-    pub text: Vec<u8>,
+    pub text: Rc<[u8]>,
     pub window: (i64, i64),
     /// The same rule for libical, with its start.
     pub rule: Option<(String, i64)>,
@@ -18,19 +19,24 @@ pub struct Workload {
 }
 
 impl Workload {
-    fn new(name: &str, text: impl Into<Vec<u8>>, from: &str, to: &str) -> Workload {
+    /// A call with London's zone table.
+    pub fn new(name: &str, text: impl Into<Vec<u8>>, from: &str, to: &str) -> Workload {
         let window = (dates::read(from), dates::read(to));
-        Workload { name: name.to_string(), text: text.into(), window, rule: None, zone: zone() }
+        Workload { name: name.to_string(), text: Rc::from(text.into()), window, rule: None, zone: zone() }
     }
 
     fn with_rule(self, rule: &str, start: &str) -> Workload {
         Workload { rule: Some((rule.to_string(), dates::read(start))), ..self }
     }
 
+    /// The same call with another zone table.
+    pub fn with_zone(self, zone: &Rc<ZoneTable>) -> Workload {
+        Workload { zone: Rc::clone(zone), ..self }
+    }
+
     /// The same call with a window that ends where it begins: what a call takes beside the expansion of its rules.
     pub fn without_window(&self) -> Workload {
-        let window = (self.window.0, self.window.0);
-        Workload { name: self.name.clone(), text: self.text.clone(), window, rule: None, zone: zone() }
+        Workload { window: (self.window.0, self.window.0), ..self.clone() }
     }
 
     /// More than an occurrence a day and the overrides need, so that the library does not count them first.
@@ -116,7 +122,9 @@ fn rules() -> Vec<Workload> {
             .with_rule("FREQ=WEEKLY;BYDAY=MO,TU,WE,TH,FR", at),
         Workload::new("last weekday of the month, 10 years", recurring(at, &last), "2026-01-01", "2036-01-01")
             .with_rule("FREQ=MONTHLY;BYDAY=MO,TU,WE,TH,FR;BYSETPOS=-1", at),
+        Workload::new("last weekday of the month in London, 10 years", in_zone(at, "PT1H", &last), "2026-01-01", "2036-01-01"),
         Workload::new("yearly, 50 years", recurring(at, yearly), "2026-01-01", "2076-01-01").with_rule("FREQ=YEARLY", at),
+        Workload::new("yearly in London, 50 years", in_zone(at, "PT1H", yearly), "2026-01-01", "2076-01-01"),
     ]
 }
 
