@@ -1,10 +1,10 @@
 #!/usr/bin/env python3
 """What a reader has to believe: finds it, and writes docs/TRUSTED.md, the page that lists it. With --check it only compares.
 
-It begins with the contracts of the exported functions, and of inner ones that a statement speaks of, and with the statements of the demands, and follows
-what their files name. A definition that
-is reached stands in specs/ of its crate, one that only inner contracts and proofs cite in specs/Inner/: so the folder says it. The script
-fails where it does not, where what must be believed names an inner definition or a proof, and where any contract names a proof.
+It begins with the contracts of the exported functions and of inner ones that a statement speaks of, and with the statements of the demands, and
+follows what their files name. A definition that is reached stands in specs/ of its crate, one that only inner contracts and proofs cite in
+specs/Inner/: so the folder says it. The script fails where it does not, where what must be believed names an inner definition or a proof, and
+where any contract names a proof.
 """
 import pathlib
 import re
@@ -21,8 +21,9 @@ NAMED = re.compile(r"Rattle·(\w+)(?:·\w+)?\.(\w+)((?:\.[\w-]+)*)")
 HEAD = """# What must be believed
 
 The contracts of the exported functions, those of the search for an offset (request 5) and the statements of the demands are written with the
-definitions on this page, and with no others of this repository. A reader who believes that these say what the papers say, and who believes the checker, believes the promises: that the code
-keeps them is proved, and no proof has to be read. The definitions in `specs/Inner/` stand only in contracts of inner functions and in proofs.
+definitions on this page, and with no others of this repository. A reader who believes that these say what the papers say, and who believes the
+checker, believes the promises: that the code keeps them is proved, and no proof has to be read. The definitions in `specs/Inner/` stand only in
+contracts of inner functions and in proofs.
 
 {count}
 
