@@ -11,10 +11,10 @@ use Rattle.signed.specs.Choose.{if_then_else_}
 use Rattle.zone.specs.declared.search.Found.{Found}
 use Rattle.zone.specs.Table.{validTable}
 use Rattle.zone.specs.Places.{markAt}
-use Rattle.zone.specs.Search.{middle, halve, oneMore, searchBy, readsBy}
+use Rattle.zone.specs.Search.{middle, halve, ended, oneMore, searchBy, readsBy}
 use Rattle.zone.specs.Halving.{AgreeAt, Halving}
 use Rattle.zone.proofs.LookupLaws.{halves-end}
-use Rattle.zone.proofs.SearchLaws.{halved, steps-most, search-finds}
+use Rattle.zone.proofs.SearchLaws.{at-most-half, steps-most, search-finds}
 
 reads-steps : (n : ℕ) (f : ℕ → ℤ) (x : ℤ) (low high : ℕ) → length (readsBy n f x low high) ≡ searchBy n f x low high .steps
 unfolding readsBy searchBy
@@ -24,14 +24,14 @@ reads-steps (suc n) f x low high =
     by (ltb low high) (readsBy n f x (s .low) (s .high)) (searchBy n f x (s .low) (s .high)) (reads-steps n f x (s .low) (s .high))
   where
     found : Bool → Found → Found
-    found t r = if t then oneMore r else record { place = low; steps = 0 }
+    found t r = if t then oneMore r else ended low
 
     by : (t : Bool) (l : List ℕ) (r : Found) → length l ≡ r .steps → length (if t then middle low high ∷ l else []) ≡ found t r .steps
     by true l r e = omega arith
     by false l r e = refl
 
 same-by : (f g : ℕ → ℤ) (low i : ℕ) (t : Bool) (l : List ℕ) (r q : Found) → AgreeAt f g (if t then i ∷ l else []) → (f i ≡ g i → AgreeAt f g l → r ≡ q)
-    → _≡_ {A = Found} (if t then oneMore r else record { place = low; steps = 0 }) (if t then oneMore q else record { place = low; steps = 0 })
+    → _≡_ {A = Found} (if t then oneMore r else ended low) (if t then oneMore q else ended low)
 unfolding AgreeAt
 same-by f g low i true l r q a k = ap oneMore (k (a .0) (a .1))
 same-by f g low i false l r q a k = refl
@@ -51,7 +51,7 @@ halving b ts ns x v r e =
     record {
       one-mark = reads-steps 11 (markAt b ts ns) x 0 (length ts) ∙ ap (λ (f : Found). f .steps) (sym e);
       no-other = λ g a. sym (e ∙ reads-only 11 (markAt b ts ns) g x 0 (length ts) a);
-      half = λ low high m h. halved (λ (i : ℕ). m) x low high h .half;
+      half = at-most-half x;
       eleven = rw e (steps-most 11 (markAt b ts ns) x 0 (length ts));
       finds = rw e (halves-end b ts ns v x _ _ (omega arith) (search-finds b ts ns v x));
     }

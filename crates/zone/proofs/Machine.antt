@@ -17,7 +17,6 @@ use Rattle.zone.specs.Lookup.{offsetAt}
 use Rattle.zone.specs.Places.{InRange, markAt}
 use Rattle.zone.proofs.RangeLaws.{range-at, sum-abs, difference-abs, abs-fits}
 use Rattle.zone.proofs.OrderLaws.{ends-first, ends-last}
-use Rattle.zone.proofs.TableLaws.{valid-gives}
 use Rattle.zone.proofs.PassLaws.{Pass, both, markOf, pass-start, pass-wide, pass-down, pass-next, pass-end, added-small}
 use Rattle.zone.specs.declared.search.Found.{Found}
 use Rattle.zone.specs.Search.{middle, halve, Halved, searchBy}
@@ -204,31 +203,19 @@ passed-valid b ts ns f v = rw (toZ-ofZ f) v
 pub passed-offset : (b : ℤ) (ts ns : List ℤ) (x : ℤ) → SFits w64 b → SFits w64 x → (r : ℤ) → r ≡ offsetAt (again b) ts ns (again x) → r ≡ offsetAt b ts ns x
 passed-offset b ts ns x f g r e = rw (toZ-ofZ f, toZ-ofZ g) at e
 
--- What is known of the arguments of `offset`.
-pub record Asked (b : ℤ) (ts ns : List ℤ) (x : ℤ) : Type 0 where
-  pub initial-fits : SFits w64 b
-  pub local-fits : SFits w64 x
-  pub valid : validTable b ts ns ≡ true
-
-module _ {b : ℤ} {ts ns : List ℤ} {x : ℤ} (a : Asked b ts ns x) where
-  pub valid-range : InRange (again b) ts ns
-  valid-range = valid-gives (again b) ts ns (passed-valid b ts ns (a .initial-fits) (a .valid)) .ranges
-
-  pub valid-count : length ts ≤ 1024
-  valid-count = valid-gives b ts ns (a .valid) .count
-
+module _ {b : ℤ} {ts ns : List ℤ} {x : ℤ} (a : Ranged b ts ns x) (v : validTable b ts ns ≡ true) where
   -- the place that the hint or the search gives
   pub hint-place : (i : ℕ) (r : Bool) → r ≡ stillAt (markAt (again b) ts ns) (length ts) (again x) i → r ≡ true → Halves b ts ns x i i
-  hint-place i r e t = still-gives b ts ns (a .valid) x i (sym (rw (toZ-ofZ (a .initial-fits), toZ-ofZ (a .local-fits)) at e) ∙ t)
+  hint-place i r e t = still-gives b ts ns v x i (sym (rw (toZ-ofZ (a .initial-fits), toZ-ofZ (a .local-fits)) at e) ∙ t)
 
   pub search-place : (r : Found) → r ≡ searchBy 11 (markAt (again b) ts ns) (again x) 0 (length ts) → Halves b ts ns x (r .place) (r .place)
   search-place r e =
       let same : r ≡ searchBy 11 (markAt b ts ns) x 0 (length ts) = rw (toZ-ofZ (a .initial-fits), toZ-ofZ (a .local-fits)) at e in
-      rw same (search-finds b ts ns (a .valid) x)
+      rw same (search-finds b ts ns v x)
 
   module _ (i : ℕ) (w : Halves b ts ns x i i) where
     pub place-fits : i ≤ length ns
-    place-fits = omega (arith, w .fits, valid-range .even)
+    place-fits = omega (arith, w .fits, a .range .even)
 
     pub place-offset : (R : ℤ) → mag R < 2 ^ 63 → R ≡ getD (again b ∷ ns) i (pos 0) → again R ≡ offsetAt b ts ns x
-    place-offset R k e = back R k ∙ (rw (toZ-ofZ (a .initial-fits)) at e) ∙ halves-end b ts ns (a .valid) x i i (omega arith) w
+    place-offset R k e = back R k ∙ (rw (toZ-ofZ (a .initial-fits)) at e) ∙ halves-end b ts ns v x i i (omega arith) w

@@ -15,7 +15,7 @@ use Rattle.zone.specs.declared.search.Span.{Span}
 use Rattle.zone.specs.declared.search.Found.{Found}
 use Rattle.zone.specs.Table.{validTable}
 use Rattle.zone.specs.Places.{markAt}
-use Rattle.zone.specs.Search.{middle, halve, Halved, oneMore, searchBy}
+use Rattle.zone.specs.Search.{middle, halve, AtMostHalf, Halved, ended, oneMore, searchBy}
 use Rattle.zone.proofs.TableLaws.{valid-gives}
 use Rattle.zone.proofs.LookupLaws.{by, Halves, halves-start, halves-high, halves-low}
 
@@ -24,23 +24,21 @@ use Rattle.zone.proofs.LookupLaws.{by, Halves, halves-start, halves-hig
 abbrev parted : Bool → ℕ → ℕ → Span
 parted t low high = if t then record { low = low; high = middle low high } else record { low = middle low high + 1; high = high }
 
-record Part (low high : ℕ) (r : Span) : Type 0 where
-  inside : (low ≤ r .low) × ((r .low ≤ r .high) × (r .high ≤ high))
-  half : 2 * (r .high - r .low) ≤ high - low
+part : (t : Bool) (low high : ℕ) → low < high → AtMostHalf low high (parted t low high)
+part true low high h = record { begins = omega arith; order = omega arith; ends = omega arith; half = omega arith }
+part false low high h = record { begins = omega arith; order = omega arith; ends = omega arith; half = omega arith }
 
-part : (t : Bool) (low high : ℕ) → low < high → Part low high (parted t low high)
-part true low high h = record { inside = (omega arith, (omega arith, omega arith)); half = omega arith }
-part false low high h = record { inside = (omega arith, (omega arith, omega arith)); half = omega arith }
+-- whatever the mark m
+pub at-most-half : (x : ℤ) (low high : ℕ) (m : ℤ) → low < high → AtMostHalf low high (halve x low high m)
+unfolding halve
+at-most-half x low high m h = part (ltZ x m) low high h
 
 pub halved : (marks : ℕ → ℤ) (x : ℤ) (low high : ℕ) → low < high → Halved marks x low high (halve x low high (marks (middle low high)))
-unfolding halve
-halved marks x low high h =
-    let p = part (ltZ x (marks (middle low high))) low high h in
-    record { one-mark = refl; inside = p .inside; half = p .half }
+halved marks x low high h = record { one-mark = refl; left = at-most-half x low high (marks (middle low high)) h }
 
 -- ---- the search from its first step on, and where the run is empty
 
-pub search-empty : (n : ℕ) (marks : ℕ → ℤ) (x : ℤ) (low high : ℕ) → high ≤ low → searchBy n marks x low high ≡ record { place = low; steps = 0 }
+pub search-empty : (n : ℕ) (marks : ℕ → ℤ) (x : ℤ) (low high : ℕ) → high ≤ low → searchBy n marks x low high ≡ ended low
 unfolding searchBy
 search-empty zero marks x low high h = refl
 search-empty (suc n) marks x low high h = rw (le-ltb low high h)
@@ -59,7 +57,7 @@ steps-most (suc n) marks x low high =
     let s = halve x low high (marks (middle low high)) in
     by (ltb low high) (searchBy n marks x (s .low) (s .high)) (steps-most n marks x (s .low) (s .high))
   where
-    by : (t : Bool) (f : Found) → f .steps ≤ n → (if t then oneMore f else record { place = low; steps = 0 }) .steps ≤ suc n
+    by : (t : Bool) (f : Found) → f .steps ≤ n → (if t then oneMore f else ended low) .steps ≤ suc n
     by true f h = omega arith
     by false f h = omega arith
 
@@ -82,7 +80,7 @@ double : (n : ℕ) → 2 ^ suc n ≡ 2 * 2 ^ n
 double n = omega arith
 
 module _ (n : ℕ) (marks : ℕ → ℤ) (x : ℤ) where
-  pub going-start : n ≤ 1024 → Going n marks x 0 n 0
+  pub going-start : n < 2 ^ 11 → Going n marks x 0 n 0
   going-start h = record { fits = omega arith; most = omega arith; few = omega arith; same = sym (counted (searchBy 11 marks x 0 n) _ (omega arith)) }
 
   module _ (low high steps : ℕ) (g : Going n marks x low high steps) where
@@ -92,10 +90,10 @@ module _ (n : ℕ) (marks : ℕ → ℤ) (x : ℤ) where
     next-by (suc k) e h s w few same =
         let left : 11 - (steps + 1) ≡ k = omega arith in
         let first = search-step (suc k) (omega arith) marks x low high h s (w .one-mark) in
-        let half = w .half in
+        let half = w .left .half in
         let two = double k in
         record {
-          fits = omega (arith, w .inside, g .fits);
+          fits = omega (arith, w .left .ends, g .fits);
           most = omega arith;
           few = rw left (omega arith);
           same = rw left (moved (searchBy k marks x (s .low) (s .high)) ∙ (rw (first, sub-one) at same));
@@ -134,7 +132,7 @@ module _ (b : ℤ) (ts ns : List ℤ) (v : validTable b ts ns ≡ true) (x : ℤ
 
   shorter : (n low high : ℕ) → low < high → high - low < 2 ^ suc n
       → halve x low high (marks (middle low high)) .high - halve x low high (marks (middle low high)) .low < 2 ^ n
-  shorter n low high h f = omega (arith, halved marks x low high h .half, double n)
+  shorter n low high h f = omega (arith, at-most-half x low high (marks (middle low high)) h .half, double n)
 
   pub search-ends : (n low high : ℕ) → high - low < 2 ^ n → Halves b ts ns x low high
       → Halves b ts ns x (searchBy n marks x low high .place) (searchBy n marks x low high .place)

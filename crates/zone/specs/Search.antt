@@ -19,22 +19,31 @@ unfoldable pub halve : ℤ → ℕ → ℕ → ℤ → Span
 halve local low high m =
     if ltZ local m then record { low = low; high = middle low high } else record { low = middle low high + 1; high = high }
 
+-- What is left is a part of the run, and at most half of it.
+pub record AtMostHalf (low high : ℕ) (r : Span) : Type 0 where
+  pub begins : low ≤ r .low
+  pub order : r .low ≤ r .high
+  pub ends : r .high ≤ high
+  pub half : 2 * (r .high - r .low) ≤ high - low
+
 -- "each step reads one mark and leaves at most half the run"
 pub record Halved (marks : ℕ → ℤ) (local : ℤ) (low high : ℕ) (r : Span) : Type 0 where
   pub one-mark : r ≡ halve local low high (marks (middle low high))
-  pub inside : (low ≤ r .low) × ((r .low ≤ r .high) × (r .high ≤ high))
-  pub half : 2 * (r .high - r .low) ≤ high - low
+  pub left : AtMostHalf low high r
+
+abbrev pub ended : ℕ → Found
+ended place = record { place = place; steps = 0 }
 
 abbrev pub oneMore : Found → Found
 oneMore f = record { place = f .place; steps = f .steps + 1 }
 
 -- At most n steps: where the run has become empty, and how many steps were taken.
 unfoldable pub searchBy : ℕ → (ℕ → ℤ) → ℤ → ℕ → ℕ → Found
-searchBy zero marks local low high = record { place = low; steps = 0 }
+searchBy zero marks local low high = ended low
 searchBy (suc n) marks local low high =
     let s = halve local low high (marks (middle low high)) in
     let more = oneMore (searchBy n marks local (s .low) (s .high)) in
-    if ltb low high then more else record { place = low; steps = 0 }
+    if ltb low high then more else ended low
 
 -- The places whose marks such a search reads, in order.
 unfoldable pub readsBy : ℕ → (ℕ → ℤ) → ℤ → ℕ → ℕ → List ℕ

@@ -21,7 +21,7 @@ ranged : (q : tie.Start Inv-loop μ-loop) → Ranged (q .args .initial) (q .args
 ranged q = record { initial-fits = q .fits .initial; local-fits = q .fits .local; range = q .pre .0 }
 
 loop-holds : tie.Need-loop-holds Inv-loop μ-loop
-loop-holds c = going-start _ _ _ (c .pre .1)
+loop-holds c = going-start _ _ _ (omega (arith, c .pre .1))
 
 step-requires : tie.Need-step-requires Inv-loop μ-loop
 step-requires c κs =
@@ -32,7 +32,7 @@ add-steps : tie.Need-add-steps Inv-loop μ-loop
 add-steps c = record { fits = omega (arith, c .before .before .loop .inv .most) }
 
 loop-less : tie.Need-loop-less Inv-loop μ-loop
-loop-less c = omega (arith, c .before .loop-test .taken, c .step .ensures .half, c .step .ensures .inside)
+loop-less c = omega (arith, c .before .loop-test .taken, c .step .ensures .left .half, c .step .ensures .left .order)
 
 loop-again : tie.Need-loop-again Inv-loop μ-loop
 loop-again c = going-next _ _ _ _ _ _ (c .before .before .loop .inv) (c .before .loop-test .taken) _ (c .step .ensures)
