@@ -1,5 +1,7 @@
 // Runs dates, seconds and days of the month against the proved functions and prints a line for each. What must be printed is found anew by
 // tests/calendar_vectors.py.
+#![tactic(auto)]
+
 ghost use Rattle.std.specs.Prelude.{◌≤◌};
 
 use gregorian::{Date, Moment};

@@ -2,6 +2,8 @@
 // the table the answer, the length, the table in hexadecimal digits, and how many bytes of the buffer changed that are none of the table's. A case
 // is four numbers, each with a space after it (the zone table's number, the window's ends as seconds from 1600, the buffer's length), and an event's
 // text with byte 0x1E after it.
+#![tactic(auto)]
+
 ghost use Rattle.std.specs.Prelude.{◌≤◌, ◌<◌, length};
 
 mod calls;

@@ -1,5 +1,7 @@
 // Which weeks a hospital was shut: for each closure of whole days, local time, when it starts and ends in UTC, and the weeks from Monday
 // that it touches with the days shut in each. The example is a Christmas closure and a bank holiday of a hospital in London.
+#![tactic(auto)]
+
 ghost use Rattle.std.specs.Prelude.{◌≡◌, ◌+◌, ◌≤◌, ◌<◌, min, max};
 ghost use Rattle.gregorian.specs.Days.{day_count};
 

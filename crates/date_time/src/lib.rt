@@ -1,4 +1,6 @@
 // Date-times of an event: each reader is given the bytes between the quotes of a string.
+#![tactic(auto)]
+
 pub mod local;
 mod parts;
 mod picture;

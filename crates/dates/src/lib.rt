@@ -1,4 +1,6 @@
 // The date-times of an event in a window: its rules, its excluded rules and its overrides over a run of days, and the next date-time in it.
+#![tactic(auto)]
+
 use track::Track;
 
 pub mod fill;

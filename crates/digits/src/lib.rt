@@ -1,4 +1,6 @@
 // Digits in the bytes of a string: the numbers that they write, and fractions of a second.
+#![tactic(auto)]
+
 ghost use Rattle.std.specs.Prelude.{◌≡◌, ◌<◌};
 ghost use Rattle.digits.specs.Digits.{digit, four_at};
 ghost use Rattle.digits.specs.Inner.Small.{TwoAt};

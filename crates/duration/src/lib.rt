@@ -1,4 +1,6 @@
 // The duration of an event: how long it is. The reader is given the bytes between the quotes of a string.
+#![tactic(auto)]
+
 mod amount;
 pub mod length;
 

@@ -1,4 +1,6 @@
 // A zone table lent as a slice of entries, and the two runs of numbers that the library works over (01, "Zone table and UTC").
+#![tactic(auto)]
+
 ghost use Rattle.std.specs.Prelude.{◌≡◌, ◌≤◌, length};
 ghost use Rattle.entries.specs.Inner.Gathers.{lesser, Gathers};
 

@@ -1,5 +1,7 @@
 // The event of a text that is past answers 1 to 4: what stands in its own members, and the fault that decides.
 // One walk over the members finds all that are read; a table of the ends of the text's values keeps it short.
+#![tactic(auto)]
+
 pub mod heads;
 mod judged;
 mod marks;

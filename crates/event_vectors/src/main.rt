@@ -1,5 +1,7 @@
 // Reads the event texts of its input, each with byte 0x1E after it, and writes for each the number that is given and its place, each 0 where there
 // is none, and what is read of an accepted event. The input comes in blocks of 262,144 bytes; a text does not go over from one to the next.
+#![tactic(auto)]
+
 ghost use Rattle.std.specs.Prelude.{◌≤◌, length};
 
 mod events;

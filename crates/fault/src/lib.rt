@@ -1,4 +1,6 @@
 // Faults of reading, each with its place: 7 to 9, and 20 to 26 for 01's 6. A reader of several values joins theirs by `lower`.
+#![tactic(auto)]
+
 ghost use Rattle.std.specs.Prelude.{◌≡◌};
 ghost use Rattle.fault.specs.Fault.{order, decides, lower, first, faults_at, first_number, first_place};
 

@@ -1,5 +1,6 @@
 // The Gregorian calendar from 1600-01-01 to 9999-12-31: its definitions (specs/), the theorems about them (proofs/), and the values that
 // they speak of. The functions are in the crate `calendar`, so that an edit of a function proves no theorem again.
+#![tactic(auto)]
 
 // A date: month 1 to 12, day of the month from 1.
 #[derive(Drop)]

@@ -1,5 +1,7 @@
 // Member names: no two equal ones in an object, and no backslash in any, in every object of a text that is known to
 // be JSON.
+#![tactic(auto)]
+
 mod duplicates;
 mod faults;
 mod keys;

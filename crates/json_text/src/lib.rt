@@ -1,5 +1,7 @@
 // The leaves of a JSON text: bytes, UTF-8, strings, numbers, white space and literal names. Each reader starts at
 // a place of the text and answers where what it read ends. Nothing is copied and no table is kept.
+#![tactic(auto)]
+
 pub mod bytes;
 pub mod numbers;
 mod plain;

@@ -1,4 +1,6 @@
 // What the layers above read of a value: its kind, its members by name, its integer, its raw bytes.
+#![tactic(auto)]
+
 pub mod finds;
 pub mod integers;
 pub mod kinds;

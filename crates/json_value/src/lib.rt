@@ -1,4 +1,6 @@
 // Values of a JSON text: their grammar, and the readers of what stands between them.
+#![tactic(auto)]
+
 pub mod items;
 
 // How many levels of arrays and objects a text may open.

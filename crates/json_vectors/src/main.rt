@@ -1,5 +1,7 @@
 // Judges the JSON texts of its input, which byte 0x1E parts as in RFC 7464, and writes the answer of each, a line each.
 // The input comes in blocks of 262,144 bytes; a text does not go over from one to the next.
+#![tactic(auto)]
+
 ghost use Rattle.std.specs.Prelude.{◌≤◌, length};
 
 // What parts the texts.

@@ -1,5 +1,7 @@
 // The closed words of an event: its types, marks, frequencies, weekdays and months. Each reader is given the bytes between the quotes of a
 // string, and answers what they name, with the fault of 01 for any other string.
+#![tactic(auto)]
+
 ghost use Rattle.std.specs.Prelude.{◌≡◌};
 ghost use Rattle.json_walk.specs.Strings.{same};
 

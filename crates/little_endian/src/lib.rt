@@ -1,5 +1,7 @@
 // Writes a number's bytes, the lowest first, into a lent buffer. The contracts give the whole buffer: the bytes stand at `at`, and every
 // other byte keeps its value. `reading` has the way back.
+#![tactic(auto)]
+
 ghost use Rattle.std.specs.Prelude.{◌≡◌, ◌+◌, ◌≤◌, length};
 ghost use Rattle.std.proofs.lemmas.List.Edits.{sets};
 ghost use Rattle.little_endian.specs.Bytes.{bytes_of};

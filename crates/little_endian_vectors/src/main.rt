@@ -1,5 +1,7 @@
 // Writes numbers of every width into a buffer of twelve bytes, and prints its bytes before and after. What must be printed is found anew
 // by tests/little_endian_vectors.py.
+#![tactic(auto)]
+
 ghost use Rattle.std.specs.Prelude.{◌≤◌};
 
 use libc::STDOUT_FILENO;

@@ -1,4 +1,6 @@
 // What a call keeps of an event, from the places that its head gives: its rules, its excluded rules and its overrides.
+#![tactic(auto)]
+
 use dates::Dates;
 use writer::Form;
 

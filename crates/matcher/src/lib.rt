@@ -1,5 +1,7 @@
 // One rule, asked day by day. A rule's by-lists are marked once in a row of flags, so that a day asks a few of them; specs/Inner/Layout.antt
 // says what each flag is for, and proofs/ that they say what the lists say.
+#![tactic(auto)]
+
 use rule::Frequency;
 
 pub mod flags;

@@ -1,4 +1,6 @@
 // What every call begins with: the text judged and its head read once, and the answers 1 to 12.
+#![tactic(auto)]
+
 use event_text::Head;
 
 pub mod calls;

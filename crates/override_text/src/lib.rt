@@ -1,5 +1,7 @@
 // `recurrenceOverrides`, read at the place where it stands in a text that is known to be JSON. The text is the store: a patch is its place.
 // The readers are lent a table of the ends of the text's values, by which they pass over what they do not read.
+#![tactic(auto)]
+
 pub mod entries;
 mod judged;
 pub mod lists;

@@ -1,4 +1,6 @@
 // The edges of the table of occurrences: the window that it is asked for, and the bytes of its records and its trailer.
+#![tactic(auto)]
+
 pub mod occurrences;
 pub mod rows;
 mod utc;

@@ -1,4 +1,6 @@
 // What a rule of recurrence says of a day. The meaning is in specs/; here are the values that the code carries.
+#![tactic(auto)]
+
 pub mod days;
 
 // A day with all that a rule asks of it, so that it is looked up once.

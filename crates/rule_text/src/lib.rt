@@ -1,5 +1,7 @@
 // Rules of recurrence, read at the place where they stand in a text that is known to be JSON. The text is the store: a value is its
 // place, and its meaning is the tree's value there.
+#![tactic(auto)]
+
 mod collected;
 mod days;
 mod ends;

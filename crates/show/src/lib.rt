@@ -1,4 +1,6 @@
 // Printing for the programs: signed numbers, numbers with leading zeros, dates and date-times.
+#![tactic(auto)]
+
 ghost use Rattle.gregorian.specs.Days.{day_count};
 ghost use Rattle.std.specs.Prelude.{◌<◌};
 

@@ -163,7 +163,7 @@ fit-neg (negsuc n) f = omega (arith, f.sfits)
 
 -- the bits of a number read back, by its range as a call or a slice has it
 pub back : (z : ℤ) → mag z < 2 ^ 63 → to_z w64 (of_z w64 z) ≡ z
-back z h = to_z-of_z (record { sfits = h })
+back z h = to_z-of_z {w = w64} (record { sfits = h })
 
 -- a - b of a number that is not smaller
 pub subℕ-above : (a b : ℕ) → b ≤ a → pos_part (sub_ℕ a b) ≡ a - b

@@ -1,5 +1,7 @@
 // Signed numbers at the edge of the library: inside, counts are unsigned. The lemmas that carry integers to natural numbers are in
 // proofs/Parts.antt, for every crate.
+#![tactic(auto)]
+
 ghost use Rattle.std.specs.Prelude.{◌≡◌, ◌<◌, ◌^◌};
 ghost use Rattle.std.proofs.Math.IntN.{sub_ℕ};
 ghost use Rattle.signed.specs.Parts.{pos_part, neg_part};

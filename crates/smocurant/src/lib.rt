@@ -1,4 +1,6 @@
 // The exported functions: what the ingest service links and calls.
+#![tactic(auto)]
+
 pub mod by_entries;
 pub mod by_numbers;
 pub mod occurrence_texts;

@@ -1,4 +1,6 @@
 // The ids of a window, a chunk at a time; how many there are, and whether a table of them fits.
+#![tactic(auto)]
+
 pub mod counting;
 mod listed;
 mod marked;

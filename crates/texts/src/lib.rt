@@ -1,4 +1,6 @@
 // The texts of one occurrence, its title and its description, as parts of the event's text.
+#![tactic(auto)]
+
 mod answered;
 pub mod calls;
 mod events;

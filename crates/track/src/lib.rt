@@ -1,4 +1,6 @@
 // A rule over runs of days: the day that ends it, and its days marked in a run.
+#![tactic(auto)]
+
 use matcher::Terms;
 use rule::Day;
 

@@ -1,5 +1,7 @@
 // Runs the cases of stdin, one to a line, against the proved readers of values, and prints a line for each. A case is a letter for the
 // reader, a space, and the string that is read. What must be printed is found anew by tests/values_vectors.py.
+#![tactic(auto)]
+
 ghost use Rattle.std.specs.Prelude.{◌≤◌, ◌<◌, length};
 
 use date_time::DateTime;

@@ -1,4 +1,6 @@
 // The date-times of an event in a stretch of time: the next one in a run of days, and those of a run collected.
+#![tactic(auto)]
+
 pub mod chunks;
 pub mod collect;
 pub mod next;

@@ -1,5 +1,7 @@
 // The records of an event's occurrences, written one after the other. A patch is read from the text for each occurrence
 // that it changes, with a table of the ends of the text's values.
+#![tactic(auto)]
+
 use override_text::Own;
 
 pub mod nothing;

@@ -1,5 +1,7 @@
 // The zone table of a call: is it valid, which offset holds at a local time, and what that time is in UTC. The table is an initial
 // offset and two slices, the entries' instants and the offsets from then on.
+#![tactic(auto)]
+
 mod hint;
 mod mark;
 mod range;

@@ -1,4 +1,6 @@
 // Runs zone tables against the proved look-up and prints a line for each. What must be printed is found anew by tests/zone_vectors.py.
+#![tactic(auto)]
+
 ghost use Rattle.std.specs.Prelude.{◌≤◌};
 
 use libc::STDOUT_FILENO;
