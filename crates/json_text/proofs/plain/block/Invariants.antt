@@ -1,0 +1,12 @@
+use Prim.Native.Nat.{ℕ, ◌≤◌, ◌-◌}
+use mathlib.Core.Path.{◌≡◌}
+use borrow.Author.Rules.{rules}
+use Rattle.json_text.specs.Inner.Plain.{PlainRun}
+use Rattle.json_text.proofs.Blocks.{run_none, run_more, run-all, not-both}
+use Rattle.json_text.proofs.plain.block.Given as goal
+
+abbrev pub invariant-loop-i : goal.invariant-loop-i
+invariant-loop-i l = (l.i ≤ 64) × (l.any ≡ 0 → PlainRun l.text l.at l.i)
+
+abbrev pub decreases-loop-i : goal.decreases-loop-i
+decreases-loop-i l = 64 - l.i
