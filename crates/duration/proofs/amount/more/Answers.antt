@@ -1,0 +1,6 @@
+-- `duration::amount::more` meets its contract.
+use borrow.Author.Rules.{rules}
+use Rattle.duration.proofs.amount.more.Goals as goal
+
+pub returns : goal.returns
+returns c = rw (← c.digit.ensures) c.cap.ensures
