@@ -1,0 +1,15 @@
+-- `keywords::is` meets its contract: what is left to compare from i on is the same as at the start.
+use Prim.Native.Nat.{◌-◌}
+use mathlib.Core.Path.{◌≡◌, refl, sym}
+use lib.ListN.{length, drop}
+use borrow.Author.Rules.{rules}
+use borrow.Author.Tests.{eq-eqb, ne_eqb}
+use Rattle.json_walk.specs.Strings.{same}
+use Rattle.keywords.proofs.Laws.{same_start, same_turn, same_end, same-apart}
+use Rattle.keywords.proofs.is.Given as goal
+
+abbrev pub invariant-loop-i : goal.invariant-loop-i
+invariant-loop-i l = (same (drop l.i l.raw) (drop l.i l.word) ≡ same l.raw l.word) × (length l.raw ≡ length l.word)
+
+abbrev pub decreases-loop-i : goal.decreases-loop-i
+decreases-loop-i l = length l.raw - l.i

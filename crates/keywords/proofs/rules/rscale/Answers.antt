@@ -1,0 +1,22 @@
+-- `keywords::rules::rscale` meets its contract: the definition's tests in its order.
+use Rattle.keywords.specs.Rules.{rscale_fault}
+use borrow.Author.Rules.{rules}
+use Rattle.keywords.proofs.rules.rscale.Goals as goal
+
+-- OLD
+-- OLD slice-aggregate-is : tie.Need-slice-aggregate-is
+-- OLD slice-aggregate-is c = search rules
+
+pub returns-then-is : goal.returns-then-is
+unfolding rscale_fault
+returns-then-is c = rw (
+  ← c.is.ensures,
+  c.if-is.true,
+)
+
+pub returns : goal.returns
+unfolding rscale_fault
+returns c = rw (
+  ← c.is.ensures,
+  c.if-is.false,
+)
