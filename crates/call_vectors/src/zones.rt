@@ -1,6 +1,6 @@
 // The zone tables that a case can ask for by number. Each has two changes of the clock.
 
-#[derive(Drop)]
+#[derive(Clone, Copy)]
 pub struct Zone {
     pub initial: i64,
     pub instants: [i64; 2],

@@ -7,7 +7,7 @@ mod picture;
 pub mod utc;
 
 // A LocalDateTime: its seconds from 1600-01-01T00:00:00, or the fault.
-#[derive(Drop)]
+#[derive(Clone, Copy)]
 pub enum DateTime {
     At(u64),
     Fault(u32),

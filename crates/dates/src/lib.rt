@@ -8,7 +8,7 @@ pub mod load;
 pub mod marks;
 
 // Up to eight settled rules; the row of flags of rule i is the i-th row of a lent slice.
-#[derive(Drop)]
+#[derive(Clone, Copy)]
 pub struct Tracks {
     pub list: [Track; 8],
     pub count: usize,
@@ -16,7 +16,7 @@ pub struct Tracks {
 
 // What a call keeps of an event's dates. Beside it lie, in lent slices, the rows of flags (those of the eight rules, then those of the eight
 // excluded ones) and the overrides.
-#[derive(Drop)]
+#[derive(Clone, Copy)]
 pub struct Dates {
     pub start: u64,
     pub rules: Tracks,

@@ -5,7 +5,7 @@ mod amount;
 pub mod length;
 
 // The days and, apart from them, the seconds of a duration; or the fault.
-#[derive(Drop)]
+#[derive(Clone, Copy)]
 pub enum Span {
     Of(u64, u64),
     Fault(u32),

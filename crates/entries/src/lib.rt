@@ -6,7 +6,7 @@ ghost use Rattle.entries.specs.Inner.Gathers.{lesser, Gathers};
 
 // "a run of entries, each an instant and an offset from then on"
 #[repr(C)]
-#[derive(Drop)]
+#[derive(Clone, Copy)]
 pub struct Transition {
     pub instant: i64,
     pub offset: i64,

@@ -15,14 +15,14 @@ use keywords::Privacy;
 use property::Place;
 
 // What was read of a member, with its fault, 0 where there is none: a moment, in seconds from 1600-01-01T00:00:00;
-#[derive(Drop)]
+#[derive(Clone, Copy)]
 pub struct Moment {
     pub value: u64,
     pub fault: u32,
 }
 
 // a length, its days apart from its seconds;
-#[derive(Drop)]
+#[derive(Clone, Copy)]
 pub struct Lasting {
     pub days: u64,
     pub seconds: u64,
@@ -30,28 +30,28 @@ pub struct Lasting {
 }
 
 // a mark;
-#[derive(Drop)]
+#[derive(Clone, Copy)]
 pub struct Mark {
     pub value: bool,
     pub fault: u32,
 }
 
 // who may see the event;
-#[derive(Drop)]
+#[derive(Clone, Copy)]
 pub struct Access {
     pub privacy: Privacy,
     pub fault: u32,
 }
 
 // a string, by its place.
-#[derive(Drop)]
+#[derive(Clone, Copy)]
 pub struct Spot {
     pub place: Place,
     pub fault: u32,
 }
 
 // What an occurrence has of its own, with the fault of it that decides. Texts are places of opening quotes.
-#[derive(Drop)]
+#[derive(Clone, Copy)]
 pub struct Details {
     pub start: u64,
     pub days: u64,
@@ -64,7 +64,7 @@ pub struct Details {
 }
 
 // An event but for its lists, of which it has the places, with the fault of it that decides.
-#[derive(Drop)]
+#[derive(Clone, Copy)]
 pub struct Head {
     pub zone: Place,
     pub privacy: Privacy,

@@ -5,7 +5,7 @@ ghost use Rattle.std.specs.Prelude.{◌≡◌};
 ghost use Rattle.fault.specs.Fault.{order, decides, lower, first, faults_at, first_number, first_place};
 
 // The fault that decides, its number and its place; or none.
-#[derive(Drop)]
+#[derive(Clone, Copy)]
 pub enum First {
     None,
     At(u32, usize),

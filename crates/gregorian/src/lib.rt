@@ -3,7 +3,7 @@
 #![tactic(auto)]
 
 // A date: month 1 to 12, day of the month from 1.
-#[derive(Drop)]
+#[derive(Clone, Copy)]
 pub struct Date {
     pub year: u32,
     pub month: u32,
@@ -11,7 +11,7 @@ pub struct Date {
 }
 
 // A day number, counted from 1600-01-01, and the second of that day.
-#[derive(Drop)]
+#[derive(Clone, Copy)]
 pub struct Moment {
     pub day: u32,
     pub second: u32,

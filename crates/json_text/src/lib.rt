@@ -11,7 +11,7 @@ pub mod words;
 
 // What a reader answers: the place after what it read; or that the text is not JSON there; or that it opens a level
 // too many, which only values can.
-#[derive(Drop)]
+#[derive(Clone, Copy)]
 pub enum Read {
     To(usize),
     Bad,

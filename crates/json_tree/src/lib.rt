@@ -7,7 +7,7 @@ pub mod kinds;
 pub mod raws;
 
 // The kind of a value.
-#[derive(Drop)]
+#[derive(Clone, Copy)]
 pub enum Kind {
     Null,
     False,
@@ -19,14 +19,14 @@ pub enum Kind {
 }
 
 // A member that was looked for.
-#[derive(Drop)]
+#[derive(Clone, Copy)]
 pub enum Found {
     Here(json_walk::Member),
     Missing,
 }
 
 // An integer: is it below zero, and its size; or no integer of those that are read.
-#[derive(Drop)]
+#[derive(Clone, Copy)]
 pub enum Integer {
     Is(bool, u64),
     No,

@@ -8,7 +8,7 @@ pub const LEVELS: usize = 16;
 
 // What stands after an opening bracket, or after an item: another item at a place, the closing bracket with the
 // place after it, or neither.
-#[derive(Drop)]
+#[derive(Clone, Copy)]
 pub enum Item {
     More(usize),
     Done(usize),

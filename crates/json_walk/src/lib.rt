@@ -6,7 +6,7 @@ pub mod strings;
 
 // A member of an object: the place of its name, that is of the opening quote; the place after the closing quote; the
 // place of the value; and the place after the value.
-#[derive(Drop)]
+#[derive(Clone, Copy)]
 pub struct Member {
     pub name: usize,
     pub stop: usize,
@@ -15,21 +15,21 @@ pub struct Member {
 }
 
 // A step of a walk over members.
-#[derive(Drop)]
+#[derive(Clone, Copy)]
 pub enum MemberStep {
     One(Member),
     End,
 }
 
 // An element of an array: the place of the value, and the place after it.
-#[derive(Drop)]
+#[derive(Clone, Copy)]
 pub struct Element {
     pub value: usize,
     pub after: usize,
 }
 
 // A step of a walk over elements.
-#[derive(Drop)]
+#[derive(Clone, Copy)]
 pub enum ElementStep {
     Next(Element),
     Stop,

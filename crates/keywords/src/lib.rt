@@ -12,21 +12,21 @@ pub mod months;
 pub mod rules;
 pub mod types;
 
-#[derive(Drop)]
+#[derive(Clone, Copy)]
 pub enum FreeBusy {
     Free,
     Busy,
     Fault(u32),
 }
 
-#[derive(Drop)]
+#[derive(Clone, Copy)]
 pub enum Privacy {
     Public,
     Private,
     Secret,
 }
 
-#[derive(Drop)]
+#[derive(Clone, Copy)]
 pub enum Rate {
     Daily,
     Weekly,
@@ -36,7 +36,7 @@ pub enum Rate {
 }
 
 // A weekday, 0 for Monday, or a month, from 1; or the fault.
-#[derive(Drop)]
+#[derive(Clone, Copy)]
 pub enum Named {
     Number(u32),
     Wrong(u32),

@@ -8,7 +8,7 @@ mod parts;
 pub mod whole;
 
 // What was listed of some days: how many stand in the lent slice, and the day from which on to ask for more.
-#[derive(Drop)]
+#[derive(Clone, Copy)]
 pub struct DayChunk {
     pub count: usize,
     pub next: u32,

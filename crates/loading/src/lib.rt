@@ -10,7 +10,7 @@ mod rules;
 pub mod whole;
 
 // What a call keeps of an accepted event, beside lent slices: its dates, what its records are made from, and how many overrides it has.
-#[derive(Drop)]
+#[derive(Clone, Copy)]
 pub struct Kept {
     pub dates: Dates,
     pub form: Form,

@@ -12,7 +12,7 @@ pub mod rows;
 pub mod walk;
 
 // What a rule has besides its by-lists.
-#[derive(Drop)]
+#[derive(Clone, Copy)]
 pub struct Terms {
     pub frequency: Frequency,
     pub interval: u64,

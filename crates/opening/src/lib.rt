@@ -8,7 +8,7 @@ pub mod located;
 pub mod whole;
 
 // The lowest of 1 to 9 that applies to a text, 20 to 26 among them, and the place of its value; or the head of an accepted event.
-#[derive(Drop)]
+#[derive(Clone, Copy)]
 pub enum Opening {
     Refused(u32, usize),
     Accepted(Head),

@@ -11,7 +11,7 @@ pub mod patches;
 mod readings;
 
 // The event's own details, which a patch changes. Date-times are seconds from 1600-01-01T00:00:00; a text is the place of its opening quote.
-#[derive(Drop)]
+#[derive(Clone, Copy)]
 pub struct Own {
     pub start: u64,
     pub days: u64,
@@ -23,7 +23,7 @@ pub struct Own {
 }
 
 // An occurrence after its patch.
-#[derive(Drop)]
+#[derive(Clone, Copy)]
 pub struct Patch {
     pub excluded: bool,
     pub start: u64,
@@ -36,26 +36,26 @@ pub struct Patch {
 }
 
 // Single properties, each with its fault: a date-time, a length, a mark, a text.
-#[derive(Drop)]
+#[derive(Clone, Copy)]
 pub struct When {
     pub value: u64,
     pub fault: u32,
 }
 
-#[derive(Drop)]
+#[derive(Clone, Copy)]
 pub struct Lasting {
     pub days: u64,
     pub seconds: u64,
     pub fault: u32,
 }
 
-#[derive(Drop)]
+#[derive(Clone, Copy)]
 pub struct Mark {
     pub value: bool,
     pub fault: u32,
 }
 
-#[derive(Drop)]
+#[derive(Clone, Copy)]
 pub struct Shown {
     pub place: property::Place,
     pub fault: u32,

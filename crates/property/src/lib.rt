@@ -14,21 +14,21 @@ pub mod texts;
 pub mod vocabulary;
 
 // A boolean, or the fault.
-#[derive(Drop)]
+#[derive(Clone, Copy)]
 pub enum Flag {
     Is(bool),
     Fault(u32),
 }
 
 // Who may see an event, or the fault.
-#[derive(Drop)]
+#[derive(Clone, Copy)]
 pub enum Setting {
     Is(keywords::Privacy),
     Fault(u32),
 }
 
 // A time zone: none, or the place of its name, that is of the opening quote; or the fault.
-#[derive(Drop)]
+#[derive(Clone, Copy)]
 pub enum Zone {
     Floating,
     Named(usize),
@@ -36,14 +36,14 @@ pub enum Zone {
 }
 
 // A text by its place, that is of the opening quote; or the fault.
-#[derive(Drop)]
+#[derive(Clone, Copy)]
 pub enum Passage {
     At(usize),
     Fault(u32),
 }
 
 // The place of a value that may be absent; of a string it is that of the opening quote.
-#[derive(Drop)]
+#[derive(Clone, Copy)]
 pub enum Place {
     None,
     At(usize),

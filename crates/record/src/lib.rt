@@ -7,7 +7,7 @@ mod utc;
 pub mod window;
 
 // What a record says of an occurrence besides its id: when it starts, in seconds from 1600-01-01T00:00:00, the two parts of its length, its marks.
-#[derive(Drop)]
+#[derive(Clone, Copy)]
 pub struct Times {
     pub start: u64,
     pub days: u64,

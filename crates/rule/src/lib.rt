@@ -4,7 +4,7 @@
 pub mod days;
 
 // A day with all that a rule asks of it, so that it is looked up once.
-#[derive(Drop)]
+#[derive(Clone, Copy)]
 pub struct Day {
     // From 1600-01-01.
     pub number: u32,
@@ -20,7 +20,7 @@ pub struct Day {
     pub monthdays: u32,
 }
 
-#[derive(Drop)]
+#[derive(Clone, Copy)]
 pub enum Frequency {
     Daily,
     Weekly,
@@ -29,7 +29,7 @@ pub enum Frequency {
 }
 
 // What ends a rule: 01 refuses both at once (7).
-#[derive(Drop)]
+#[derive(Clone, Copy)]
 pub enum End {
     Never,
     // The last date-time, in seconds from 1600-01-01T00:00:00.
@@ -38,7 +38,7 @@ pub enum End {
 }
 
 // A rule as it is read: each by-list as the first entries of an array, none where it is absent.
-#[derive(Drop)]
+#[derive(Clone, Copy)]
 pub struct Rule {
     pub frequency: Frequency,
     pub interval: u64,

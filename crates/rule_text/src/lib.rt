@@ -16,28 +16,28 @@ pub mod rules;
 mod spelled;
 
 // The objects of a list of rules: a rule, and an entry of byDay. Each says in its `@type` which it is.
-#[derive(Drop)]
+#[derive(Clone, Copy)]
 pub enum Object {
     Rule,
     Day,
 }
 
 // A count that was read, and the number of its fault.
-#[derive(Drop)]
+#[derive(Clone, Copy)]
 pub struct Number {
     pub value: u64,
     pub fault: u32,
 }
 
 // A signed number that was read, and the number of its fault.
-#[derive(Drop)]
+#[derive(Clone, Copy)]
 pub struct Signed {
     pub value: i64,
     pub fault: u32,
 }
 
 // An entry of byDay that was read: its weekday, its nthOfPeriod, 0 where it has none, and the fault that decides.
-#[derive(Drop)]
+#[derive(Clone, Copy)]
 pub struct DayRead {
     pub weekday: u32,
     pub nth: i64,
@@ -45,14 +45,14 @@ pub struct DayRead {
 }
 
 // How many entries a list has, and the fault that decides in it.
-#[derive(Drop)]
+#[derive(Clone, Copy)]
 pub struct Listed {
     pub count: usize,
     pub fault: fault::First,
 }
 
 // The same of byDay, and whether some entry has an nthOfPeriod.
-#[derive(Drop)]
+#[derive(Clone, Copy)]
 pub struct DaysListed {
     pub count: usize,
     pub nth: bool,
@@ -60,7 +60,7 @@ pub struct DaysListed {
 }
 
 // Where a by-list stands: none may be written, or a value that is no array, whose place is given too.
-#[derive(Drop)]
+#[derive(Clone, Copy)]
 pub enum Place {
     At(usize),
     Absent,
@@ -68,14 +68,14 @@ pub enum Place {
 }
 
 // A by-list that was read: its entries are the first of the array.
-#[derive(Drop)]
+#[derive(Clone, Copy)]
 pub struct NumberList {
     pub list: [i64; 64],
     pub count: usize,
     pub fault: fault::First,
 }
 
-#[derive(Drop)]
+#[derive(Clone, Copy)]
 pub struct MonthList {
     pub list: [u32; 64],
     pub count: usize,
@@ -83,7 +83,7 @@ pub struct MonthList {
 }
 
 // byDay: weekdays and beside each its nthOfPeriod, and whether some entry has one.
-#[derive(Drop)]
+#[derive(Clone, Copy)]
 pub struct DayList {
     pub weekdays: [u32; 64],
     pub nths: [i64; 64],
@@ -93,7 +93,7 @@ pub struct DayList {
 }
 
 // The first members of a rule, and the fault that decides in them.
-#[derive(Drop)]
+#[derive(Clone, Copy)]
 pub struct Head {
     pub frequency: rule::Frequency,
     pub interval: u64,
@@ -102,14 +102,14 @@ pub struct Head {
 }
 
 // What ends a rule, and its fault.
-#[derive(Drop)]
+#[derive(Clone, Copy)]
 pub struct Ending {
     pub end: rule::End,
     pub fault: fault::First,
 }
 
 // A rule that was read, and its fault. Where it has one the rule does not matter.
-#[derive(Drop)]
+#[derive(Clone, Copy)]
 pub struct Read {
     pub rule: rule::Rule,
     pub fault: fault::First,

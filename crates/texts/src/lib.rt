@@ -9,21 +9,21 @@ mod patched;
 mod visible;
 
 // A part of the event's text: the place of its first byte and how many bytes it has; both 0 where it has none.
-#[derive(Drop)]
+#[derive(Clone, Copy)]
 pub struct Part {
     pub start: usize,
     pub length: usize,
 }
 
 // What is found for a date: the part that is shown, or that the date is no occurrence that may be told of.
-#[derive(Drop)]
+#[derive(Clone, Copy)]
 pub enum Lookup {
     Found(Part),
     Missing,
 }
 
 // What a call answers: the number, and the part that is shown; both 0 where it has no bytes.
-#[derive(Drop)]
+#[derive(Clone, Copy)]
 pub struct Told {
     pub answer: u32,
     pub start: usize,

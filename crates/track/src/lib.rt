@@ -20,14 +20,14 @@ mod years;
 
 // A rule that is settled for one call: what it has besides its row of flags, and the first day that is not its own any more, which its
 // `count` and its `until` have become.
-#[derive(Drop)]
+#[derive(Clone, Copy)]
 pub struct Track {
     pub terms: Terms,
     pub last: u32,
 }
 
 // A day on the way through a rule: how many days of its period before it stay, and how many of all, where the rule has set positions.
-#[derive(Drop)]
+#[derive(Clone, Copy)]
 pub struct Cursor {
     pub day: Day,
     pub seen: u32,
@@ -35,7 +35,7 @@ pub struct Cursor {
 }
 
 // A day on the way of a count: the days that are left from it on, and what is left of the count.
-#[derive(Drop)]
+#[derive(Clone, Copy)]
 pub struct Rest {
     pub day: Day,
     pub left: u32,

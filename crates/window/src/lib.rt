@@ -7,14 +7,14 @@ pub mod next;
 pub mod sorted;
 
 // What was found of a window's ids: how many stand in the lent slice, and the second from which on to ask for more.
-#[derive(Drop)]
+#[derive(Clone, Copy)]
 pub struct Chunk {
     pub count: usize,
     pub next: u64,
 }
 
 // The window of a call, in seconds from 1600: the first is in it, the second is not.
-#[derive(Drop)]
+#[derive(Clone, Copy)]
 pub struct Window {
     pub from: u64,
     pub to: u64,

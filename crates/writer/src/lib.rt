@@ -9,7 +9,7 @@ pub mod records;
 mod times;
 
 // What the records of an event are made from: its own details, whether it floats, and whether the ids of its overrides increase.
-#[derive(Drop)]
+#[derive(Clone, Copy)]
 pub struct Form {
     pub own: Own,
     pub floating: bool,
@@ -17,7 +17,7 @@ pub struct Form {
 }
 
 // What a call for the table answers: the number, and how many bytes of the buffer are the table.
-#[derive(Drop)]
+#[derive(Clone, Copy)]
 pub struct Done {
     pub answer: u32,
     pub length: u64,

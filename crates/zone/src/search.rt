@@ -5,14 +5,14 @@ ghost use Rattle.zone.specs.Places.{InRange, mark_at};
 ghost use Rattle.zone.specs.Search.{Halved, search_by};
 
 // The run of marks in question: from `low` up to `high`, which is not in it.
-#[derive(Drop)]
+#[derive(Clone, Copy)]
 pub struct Span {
     pub low: usize,
     pub high: usize,
 }
 
 // The first place whose mark is beyond the local time, and the steps that it took.
-#[derive(Drop)]
+#[derive(Clone, Copy)]
 pub struct Found {
     pub place: usize,
     pub steps: u32,
