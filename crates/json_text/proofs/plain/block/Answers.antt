@@ -12,7 +12,6 @@ pub loop-i-preserved : goal.loop-i-preserved
 loop-i-preserved c = (
   search rules,
   λ e. run_more _ _ _ (c.loop-i.invariant.1 (c.mixed-any.ensures e).0) (c.mixed-any.ensures e).1,
-
 )
 
 pub returns-then-any-eq0 : goal.returns-then-any-eq0

@@ -16,5 +16,4 @@ loop-n-preserved c = (
   run_on 64 _ _ (c.block.ensures (not-false c.block.result c.if-not-block.false-raw)) (omega (arith, c.loop-n.invariant.1, c.loop-n-test.true))
       ∙ c.loop-n.invariant.0,
   search rules,
-
 )

@@ -10,22 +10,22 @@ returns-then-b-eq34 c = rw (eq-eqb _ _ c.if-b-eq34.true)
 pub returns-then-b-eq92 : goal.returns-then-b-eq92
 unfolding is_plain
 returns-then-b-eq92 c = rw (
-      ne_eqb _ _ c.if-b-eq34.false,
-      eq-eqb _ _ c.if-b-eq92.true,
-    )
+  ne_eqb _ _ c.if-b-eq34.false,
+  eq-eqb _ _ c.if-b-eq92.true,
+)
 
 pub returns-then-b-lt32 : goal.returns-then-b-lt32
 unfolding is_plain
 returns-then-b-lt32 c = rw (
-      ne_eqb _ _ c.if-b-eq34.false,
-      ne_eqb _ _ c.if-b-eq92.false,
-      lt-ltb _ _ c.if-b-lt32.true,
-    )
+  ne_eqb _ _ c.if-b-eq34.false,
+  ne_eqb _ _ c.if-b-eq92.false,
+  lt-ltb _ _ c.if-b-lt32.true,
+)
 
 pub returns : goal.returns
 unfolding is_plain
 returns c = rw (
-      ne_eqb _ _ c.if-b-eq34.false,
-      ne_eqb _ _ c.if-b-eq92.false,
-      le-ltb _ _ c.if-b-lt32.false,
-    )
+  ne_eqb _ _ c.if-b-eq34.false,
+  ne_eqb _ _ c.if-b-eq92.false,
+  le-ltb _ _ c.if-b-lt32.false,
+)

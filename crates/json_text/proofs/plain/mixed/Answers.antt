@@ -11,7 +11,6 @@ returns-then-same-below-eq0 c = λ e. (
       (c.same-2.ensures.0 (omega (arith, c.if-same-below-eq0.true)))
       (c.below.ensures.0 (omega (arith, c.if-same-below-eq0.true)))
       (let q = c.below-2.ensures.0 (omega (arith, c.if-same-below-eq0.true)) in omega (arith, q)),
-
 )
 
 pub returns : goal.returns
