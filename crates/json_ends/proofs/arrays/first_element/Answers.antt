@@ -1,0 +1,26 @@
+-- `json_ends::arrays::first_element` meets its contract.
+use Rattle.json_walk.specs.Walk.{first_element_at}
+use borrow.Author.Rules.{rules}
+use Rattle.json_ends.proofs.arrays.first_element.Goals as goal
+
+pub returns-in-More : goal.returns-in-More
+unfolding first_element_at
+returns-in-More c = rw (
+  ← c.first.ensures,
+  c.in-More.is,
+  ← c.element.ensures,
+)
+
+pub returns-in-Done : goal.returns-in-Done
+unfolding first_element_at
+returns-in-Done c = rw (
+  ← c.first.ensures,
+  c.in-Done.is,
+)
+
+pub returns-in-Wrong : goal.returns-in-Wrong
+unfolding first_element_at
+returns-in-Wrong c = rw (
+  ← c.first.ensures,
+  c.in-Wrong.is,
+)

@@ -1,0 +1,8 @@
+-- `json_ends::keeping::keep` meets its contract.
+use native.Mathlib.Omega.{arith}
+use Rattle.json_ends.proofs.Laws.{ends-keep}
+use borrow.Author.Rules.{rules}
+use Rattle.json_ends.proofs.keeping.keep.Goals as goal
+
+pub returns-then-at-ends : goal.returns-then-at-ends
+returns-then-at-ends c = ends-keep _ _ _ _ _ c.if-at-ends.true (omega (arith, c.if-left-gt31.false)) c.requires.0 c.requires.1
