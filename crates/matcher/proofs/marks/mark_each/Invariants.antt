@@ -1,0 +1,14 @@
+-- `matcher::marks::mark_each` meets its contract: what is marked from here on is what is marked from the start on.
+use Prim.Native.Nat.{◌-◌}
+use native.Mathlib.Omega.{arith}
+use lib.ListN.{length}
+use Rattle.matcher.proofs.MarkLaws.{EachAt, each-starts, each-goes-on, each-ends}
+use Rattle.matcher.specs.Inner.Marks.{mark_each}
+use borrow.Author.Rules.{rules}
+use Rattle.matcher.proofs.marks.mark_each.Given as goal
+
+abbrev pub invariant-loop-i : goal.invariant-loop-i
+invariant-loop-i l = EachAt l.initial.flags l.at l.limit l.list l.flags l.i
+
+abbrev pub decreases-loop-i : goal.decreases-loop-i
+decreases-loop-i l = length l.list - l.i

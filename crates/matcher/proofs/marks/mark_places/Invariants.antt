@@ -1,0 +1,15 @@
+-- `matcher::marks::mark_places` meets its contract: what is marked from here on is what is marked from the start on.
+use Prim.Native.Nat.{◌-◌}
+use native.Mathlib.Omega.{arith}
+use lib.ListN.{length}
+use Rattle.matcher.specs.Inner.Marks.{mark_place}
+use Rattle.signed.proofs.Parts.{passed}
+use Rattle.matcher.proofs.MarkLaws.{PlacesAt, places-starts, places-goes-on, places-ends}
+use borrow.Author.Rules.{rules}
+use Rattle.matcher.proofs.marks.mark_places.Given as goal
+
+abbrev pub invariant-loop-i : goal.invariant-loop-i
+invariant-loop-i l = PlacesAt l.initial.flags l.on l.back l.limit l.list l.flags l.i
+
+abbrev pub decreases-loop-i : goal.decreases-loop-i
+decreases-loop-i l = length l.list - l.i

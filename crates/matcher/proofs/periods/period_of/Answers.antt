@@ -1,0 +1,20 @@
+-- `matcher::periods::period_of` meets its contract: the tests of the definition in their order.
+use Rattle.rule.specs.Period.{period_of}
+use borrow.Author.Rules.{rules}
+use Rattle.matcher.proofs.periods.period_of.Goals as goal
+
+pub returns-in-Daily : goal.returns-in-Daily
+unfolding period_of
+returns-in-Daily c = rw c.in-Daily.is
+
+pub returns-in-Weekly : goal.returns-in-Weekly
+unfolding period_of
+returns-in-Weekly c = rw c.in-Weekly.is
+
+pub returns-in-Monthly : goal.returns-in-Monthly
+unfolding period_of
+returns-in-Monthly c = rw c.in-Monthly.is
+
+pub returns-in-Yearly : goal.returns-in-Yearly
+unfolding period_of
+returns-in-Yearly c = rw c.in-Yearly.is

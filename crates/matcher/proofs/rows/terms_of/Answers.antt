@@ -1,0 +1,7 @@
+-- `matcher::rows::terms_of` meets its contract.
+use Rattle.matcher.proofs.TermLaws.{terms-read}
+use borrow.Author.Rules.{rules}
+use Rattle.matcher.proofs.rows.terms_of.Goals as goal
+
+pub returns : goal.returns
+returns c = terms-read _ _ c.requires.0 _ _ c.counts_in_year-inyear.ensures c.period_of-period.ensures
