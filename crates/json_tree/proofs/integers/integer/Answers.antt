@@ -1,0 +1,20 @@
+use Rattle.json_tree.specs.Integers.{integer_at}
+use borrow.Author.Tests.{eq-eqb, ne_eqb}
+use borrow.Author.Rules.{rules}
+use Rattle.json_tree.proofs.integers.integer.Goals as goal
+
+pub returns-then-byte-eq45 : goal.returns-then-byte-eq45
+unfolding integer_at
+returns-then-byte-eq45 c = rw (
+  ← c.byte.ensures.is,
+  eq-eqb _ _ c.if-byte-eq45.true,
+  ← c.unsigned.ensures,
+)
+
+pub returns : goal.returns
+unfolding integer_at
+returns c = rw (
+  ← c.byte.ensures.is,
+  ne_eqb _ _ c.if-byte-eq45.false,
+  ← c.unsigned-2.ensures,
+)
