@@ -1,0 +1,16 @@
+-- `months::rows::write_plain` meets its contract. The invariant: the answers so far are written.
+use Rattle.months.proofs.RowLaws.{wrote_none, wrote-more}
+use Rattle.months.proofs.WeekLaws.{plain-is}
+use Rattle.months.specs.Inner.Kinds.{stays_in}
+use Rattle.months.specs.Inner.Rows.{Wrote}
+use Prim.Native.Nat.{ℕ, ◌-◌, ◌≤◌}
+use mathlib.Core.Path.{◌≡◌, subst}
+use native.Mathlib.Omega.{arith}
+use borrow.Author.Rules.{rules}
+use Rattle.months.proofs.rows.write_plain.Given as goal
+
+abbrev pub invariant-loop-k : goal.invariant-loop-k
+invariant-loop-k l = (l.k ≤ l.days) × Wrote (stays_in l.flags l.weekday l.days) l.initial.rows l.at l.k l.rows
+
+abbrev pub decreases-loop-k : goal.decreases-loop-k
+decreases-loop-k l = l.days - l.k
