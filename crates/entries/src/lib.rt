@@ -30,9 +30,8 @@ pub fn gather(entries: &[Transition], instants: &mut [i64], offsets: &mut [i64])
     let n = limit(entries.len());
     let mut i = 0;
     while i < n {
-        let e = entries[i];
-        instants[i] = e.instant;
-        offsets[i] = e.offset;
+        instants[i] = entries[i].instant;
+        offsets[i] = entries[i].offset;
         i += 1;
     }
     n
