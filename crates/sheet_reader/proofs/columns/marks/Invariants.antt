@@ -1,0 +1,16 @@
+-- `sheet_reader::columns::marks` meets its contract: the elements before here have their marks.
+use Prim.Native.Nat.{◌-◌, ◌≤◌}
+use native.Mathlib.Omega.{arith}
+use mathlib.Core.Path.{◌≡◌, refl}
+use lib.ListN.{length, take, length-set}
+use Rattle.sheet.specs.Runs.{tabulate}
+use Rattle.sheet.specs.Records.{marks_at}
+use Rattle.sheet_reader.proofs.ColumnLaws.{column-more, column-done}
+use borrow.Author.Rules.{rules}
+use Rattle.sheet_reader.proofs.columns.marks.Given as goal
+
+abbrev pub invariant-loop-i : goal.invariant-loop-i
+invariant-loop-i l = (length l.out ≡ length l.initial.out) × ((l.i ≤ length l.out) × (take l.i l.out ≡ tabulate (marks_at l.s) l.k l.i))
+
+abbrev pub decreases-loop-i : goal.decreases-loop-i
+decreases-loop-i l = length l.out - l.i

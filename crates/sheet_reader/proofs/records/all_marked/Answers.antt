@@ -1,0 +1,38 @@
+-- `sheet_reader::records::all_marked` meets its contract: the records from here on are marked if all are.
+use native.Mathlib.Omega.{arith}
+use Prim.Native.Nat.{◌+◌, ◌*◌, ◌-◌, ◌≤◌}
+use mathlib.Core.Path.{◌≡◌, refl, sym, ◌∙◌}
+use lib.ListN.{length}
+use borrow.Author.Tests.{not-true, not-false}
+use Rattle.sheet.specs.Runs.{every}
+use Rattle.sheet.specs.Reading.{marked_at, before}
+use Rattle.sheet.proofs.RunLaws.{every_more, every-fails, every-none}
+use Rattle.sheet_reader.proofs.records.all_marked.Goals as goal
+
+pub loop-left-init : goal.loop-left-init
+loop-left-init c = (omega arith, refl)
+
+pub marked-requires : goal.marked-requires
+marked-requires c = omega arith
+
+pub returns-then-not-marked : goal.returns-then-not-marked
+returns-then-not-marked c = let l = c.loop-left in
+    let t = c.loop-left-test.true in
+    every-fails _ l.k l.left (omega arith) (sym c.marked.ensures ∙ not-true _ c.if-not-marked.true-raw) ∙ l.invariant.1
+
+pub overflow_add-k : goal.overflow_add-k
+overflow_add-k c = omega arith
+
+pub overflow_sub-left : goal.overflow_sub-left
+overflow_sub-left c = omega arith
+
+pub loop-left-smaller : goal.loop-left-smaller
+loop-left-smaller c = omega arith
+
+pub loop-left-preserved : goal.loop-left-preserved
+loop-left-preserved c = let l = c.loop-left in
+    let t = c.loop-left-test.true in
+    (omega arith, every_more _ l.k l.left (omega arith) (sym c.marked.ensures ∙ not-false _ c.if-not-marked.false-raw) ∙ l.invariant.1)
+
+pub returns : goal.returns
+returns c = let l = c.loop-left in every-none _ l.k l.left (omega arith) ∙ l.invariant.1

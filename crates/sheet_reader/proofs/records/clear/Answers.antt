@@ -1,0 +1,6 @@
+-- `sheet_reader::records::clear` meets its contract: three zeros.
+use borrow.Author.Rules.{rules}
+use Rattle.sheet_reader.proofs.records.clear.Goals as goal
+
+pub returns : goal.returns
+returns c = rw (← c.zeros_at.ensures)

@@ -1,0 +1,6 @@
+-- `sheet_reader::records::marked` meets its contract: the marks, compared with the most.
+use borrow.Author.Rules.{rules}
+use Rattle.sheet_reader.proofs.records.marked.Goals as goal
+
+pub returns : goal.returns
+returns c = rw (← c.marks_at.ensures)
