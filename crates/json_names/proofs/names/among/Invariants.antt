@@ -1,0 +1,13 @@
+use Rattle.json_walk.proofs.Walks.{members-one, members-end}
+use Rattle.json_walk.proofs.Walks.{members-none}
+use Rattle.json_names.specs.Inner.Names.{named}
+use Rattle.json_walk.specs.Strings.{raw_at}
+use Rattle.json_walk.specs.Walk.{members_from, next_member_at}
+use Rattle.std.proofs.Common.{◌≡◌, rules}
+use Rattle.json_names.proofs.names.among.Given as goal
+
+abbrev pub invariant-loop-n : goal.invariant-loop-n
+invariant-loop-n l = named l.text (raw_at l.text l.name l.stop) (members_from l.n l.text l.step) ≡ named l.text (raw_at l.text l.name l.stop) (members_from l.count l.text (next_member_at l.text l.at))
+
+abbrev pub decreases-loop-n : goal.decreases-loop-n
+decreases-loop-n l = l.n

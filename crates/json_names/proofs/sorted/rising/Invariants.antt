@@ -1,0 +1,10 @@
+use Rattle.std.proofs.Common.{◌-◌, rules, below_none, below_more}
+use borrow.Author.Tests.{not-false}
+use Rattle.json_names.specs.Inner.Order.{Rising}
+use Rattle.json_names.proofs.sorted.rising.Given as goal
+
+abbrev pub invariant-loop-i : goal.invariant-loop-i
+invariant-loop-i l = Rising l.text l.order l.i
+
+abbrev pub decreases-loop-i : goal.decreases-loop-i
+decreases-loop-i l = l.k - l.i
