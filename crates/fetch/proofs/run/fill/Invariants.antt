@@ -1,0 +1,15 @@
+-- `fetch::run::fill` meets its contract: the first i elements of each slice have their numbers.
+use Prim.Native.Nat.{ℕ, ◌+◌, ◌-◌, ◌≤◌}
+use native.Mathlib.Omega.{arith}
+use mathlib.Core.Path.{◌≡◌, refl, subst}
+use Rattle.sheet.specs.Runs.{tabulate}
+use Rattle.fetch.specs.Inner.Filling.{Filled}
+use Rattle.fetch.proofs.FillLaws.{ids-same, starts-same, ends_same, marks-same, block_room, block-filled}
+use borrow.Author.Rules.{rules}
+use Rattle.fetch.proofs.run.fill.Given as goal
+
+abbrev pub invariant-loop-i : goal.invariant-loop-i
+invariant-loop-i l = (l.i ≤ l.n) × Filled l.sheet l.k l.i l.initial.ids l.initial.starts l.initial.ends l.initial.marks l.ids l.starts l.ends l.marks
+
+abbrev pub decreases-loop-i : goal.decreases-loop-i
+decreases-loop-i l = l.n - l.i
