@@ -1,0 +1,6 @@
+use borrow.Author.Rules.{rules}
+use Rattle.json_ends.proofs.Laws.{ends-none}
+use Rattle.json_strict.proofs.answer.long_answer.Goals as goal
+
+pub judge-requires : goal.judge-requires
+judge-requires c = ends-none _ 65536
