@@ -1,0 +1,27 @@
+-- `track::runs::mark_days` meets its contract.
+use mathlib.Core.Bool.{false≢true}
+use mathlib.Core.Path.{sym, ◌∙◌}
+use borrow.Author.Rules.{rules}
+use Rattle.track.proofs.runs.mark_days.Goals as goal
+
+pub mark_positions-requires : goal.mark_positions-requires
+mark_positions-requires c = c.requires
+
+pub returns-then-placed : goal.returns-then-placed
+returns-then-placed c = c.mark_positions.ensures
+
+pub is_alike-alike-requires : goal.is_alike-alike-requires
+is_alike-alike-requires c = c.requires.row_length
+
+pub mark_parts-requires : goal.mark_parts-requires
+mark_parts-requires c = let plain = c.if-placed.false in (
+  record {
+    months = c.is_alike-alike.ensures.0;
+    positions = λ e placed. absurd (false≢true (sym plain ∙ placed));
+    plain = λ e. plain;
+  },
+  c.requires,
+)
+
+pub returns : goal.returns
+returns c = c.mark_parts.ensures
