@@ -1,0 +1,14 @@
+-- `property::dates::read_until` meets its contract.
+use Rattle.event.specs.Properties.{read_until}
+use borrow.Author.Tests.{eq-eqb, ne_eqb}
+use Rattle.property.proofs.Readings.{word_read}
+use borrow.Author.Rules.{rules}
+use Rattle.property.proofs.dates.read_until.Goals as goal
+
+pub returns-then-wrong-ne0 : goal.returns-then-wrong-ne0
+unfolding read_until
+returns-then-wrong-ne0 c = λ l. rw (word_read _ _ l, ← c.word_fault-wrong.ensures, ne_eqb _ _ c.if-wrong-ne0.true)
+
+pub returns : goal.returns
+unfolding read_until
+returns c = λ l. rw (word_read _ _ l, ← c.word_fault-wrong.ensures, eq-eqb _ _ c.if-wrong-ne0.false, ← c.word.ensures, ← c.local.ensures)

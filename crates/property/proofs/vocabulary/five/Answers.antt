@@ -1,0 +1,86 @@
+-- `property::vocabulary::five` meets its contract.
+use Rattle.json_walk.specs.Strings.{raw_at}
+use Rattle.property.specs.Inner.Vocabulary.{of_five}
+use borrow.Author.Tests.{eq-eqb, ne_eqb}
+use borrow.Author.Rules.{rules}
+use Rattle.property.proofs.vocabulary.five.Goals as goal
+
+-- OLD
+-- OLD slice-aggregate-number : tie.Need-slice-aggregate-number
+-- OLD slice-aggregate-number c = search rules
+
+pub returns-then-b-eq64 : goal.returns-then-b-eq64
+unfolding of_five raw_at
+returns-then-b-eq64 c = rw (
+  eq-eqb _ _ c.if-b-eq64.true,
+  ← c.number.ensures,
+)
+
+-- OLD
+-- OLD slice-aggregate-number-2 : tie.Need-slice-aggregate-number-2
+-- OLD slice-aggregate-number-2 c = search rules
+
+pub returns-then-b-eq115 : goal.returns-then-b-eq115
+unfolding of_five raw_at
+returns-then-b-eq115 c = rw (
+  ne_eqb _ _ c.if-b-eq64.false,
+  eq-eqb _ _ c.if-b-eq115.true,
+  ← c.number-then-b-eq115.ensures,
+)
+
+-- OLD
+-- OLD slice-aggregate-number-3 : tie.Need-slice-aggregate-number-3
+-- OLD slice-aggregate-number-3 c = search rules
+
+pub returns-then-b-eq116 : goal.returns-then-b-eq116
+unfolding of_five raw_at
+returns-then-b-eq116 c = rw (
+  ne_eqb _ _ c.if-b-eq64.false,
+  ne_eqb _ _ c.if-b-eq115.false,
+  eq-eqb _ _ c.if-b-eq116.true,
+  ← c.number-then-b-eq116.ensures,
+)
+
+-- OLD
+-- OLD slice-aggregate-number-4 : tie.Need-slice-aggregate-number-4
+-- OLD slice-aggregate-number-4 c = search rules
+
+pub returns-then-b-eq117 : goal.returns-then-b-eq117
+unfolding of_five raw_at
+returns-then-b-eq117 c = rw (
+  ne_eqb _ _ c.if-b-eq64.false,
+  ne_eqb _ _ c.if-b-eq115.false,
+  ne_eqb _ _ c.if-b-eq116.false,
+  eq-eqb _ _ c.if-b-eq117.true,
+  ← c.number-then-b-eq117.ensures,
+)
+
+-- OLD
+-- OLD slice-aggregate-number-5 : tie.Need-slice-aggregate-number-5
+-- OLD slice-aggregate-number-5 c = search rules
+
+pub returns-then-b-eq99 : goal.returns-then-b-eq99
+unfolding of_five raw_at
+returns-then-b-eq99 c = rw (
+  ne_eqb _ _ c.if-b-eq64.false,
+  ne_eqb _ _ c.if-b-eq115.false,
+  ne_eqb _ _ c.if-b-eq116.false,
+  ne_eqb _ _ c.if-b-eq117.false,
+  eq-eqb _ _ c.if-b-eq99.true,
+  ← c.number-then-b-eq99.ensures,
+)
+
+-- OLD
+-- OLD slice-aggregate-number-6 : tie.Need-slice-aggregate-number-6
+-- OLD slice-aggregate-number-6 c = search rules
+
+pub returns : goal.returns
+unfolding of_five raw_at
+returns c = rw (
+  ne_eqb _ _ c.if-b-eq64.false,
+  ne_eqb _ _ c.if-b-eq115.false,
+  ne_eqb _ _ c.if-b-eq116.false,
+  ne_eqb _ _ c.if-b-eq117.false,
+  ne_eqb _ _ c.if-b-eq99.false,
+  ← c.number-2.ensures,
+)
