@@ -1,0 +1,11 @@
+-- `dates::load::settle_row` meets its contract.
+use Rattle.track.specs.Inner.Settle.{SettledBy}
+use lib.ListN.{replicate}
+use mathlib.Core.Path.{◌≡◌, sym, ap, ◌∙◌, subst}
+use mathlib.Core.List.{List}
+use mathlib.Core.Bool.{Bool}
+use borrow.Author.Rules.{rules}
+use Rattle.dates.proofs.load.settle_row.Goals as goal
+
+pub returns : goal.returns
+returns c = subst (λ (row : List Bool). SettledBy c.args.excluded c.args.rule c.args.start c.args.limit row c.settle.new.row c.settle.result) c.clear.ensures c.settle.ensures
