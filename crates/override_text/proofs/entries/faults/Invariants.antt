@@ -1,0 +1,11 @@
+-- `override_text::entries::faults` meets its contract: what was found and what is left make the whole.
+use Rattle.override_text.specs.Inner.Meaning.{details_in}
+use Rattle.override_text.proofs.EntryLaws.{Walk, walk_start, walk-next, walk_end, walk-out}
+use borrow.Author.Rules.{rules}
+use Rattle.override_text.proofs.entries.faults.Given as goal
+
+abbrev pub invariant-loop-n : goal.invariant-loop-n
+invariant-loop-n l = Walk (details_in l.text l.own) l.text l.at l.found l.next l.n
+
+abbrev pub decreases-loop-n : goal.decreases-loop-n
+decreases-loop-n l = l.n

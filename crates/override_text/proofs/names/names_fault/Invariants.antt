@@ -1,0 +1,13 @@
+-- `override_text::names::names_fault` meets its contract: what was found and what is left make the whole.
+use mathlib.Core.Path.{◌∙◌, ap}
+use Rattle.fault.specs.Fault.{lower}
+use Rattle.override_text.specs.Inner.Names.{of_name}
+use Rattle.override_text.proofs.WalkLaws.{Left, left-start, left-next, left_end, left_out}
+use borrow.Author.Rules.{rules}
+use Rattle.override_text.proofs.names.names_fault.Given as goal
+
+abbrev pub invariant-loop-n : goal.invariant-loop-n
+invariant-loop-n l = Left (of_name l.text) l.text l.at l.found l.next l.n
+
+abbrev pub decreases-loop-n : goal.decreases-loop-n
+decreases-loop-n l = l.n

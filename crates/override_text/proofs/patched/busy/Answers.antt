@@ -1,0 +1,26 @@
+-- `override_text::patched::busy` meets its contract.
+use mathlib.Core.Path.{◌∙◌}
+use Rattle.event.specs.Properties.{read_busy}
+use Rattle.override_text.proofs.PatchLaws.{patched-own, patched-null, patched-read}
+use Rattle.property.proofs.RowLaws.{here, missing}
+use Rattle.property.specs.Inner.Vocabulary.{vocabulary, word_of}
+use borrow.Author.Rules.{rules}
+use Rattle.override_text.proofs.patched.busy.Goals as goal
+
+pub returns-then-is_null : goal.returns-then-is_null
+unfolding word_of vocabulary
+returns-then-is_null c = λ l. patched-null _ _ read_busy _ _
+    (here _ _ _ _ c.place.ensures _ c.in-At.is l) _
+    (c.is_null.ensures l) c.if-is_null.true
+
+pub returns-else-is_null : goal.returns-else-is_null
+unfolding word_of vocabulary
+returns-else-is_null c = λ l. (c.status.ensures ∙ c.read_busy.ensures l)
+    ∙ patched-read _ _ read_busy _ _
+    (here _ _ _ _ c.place.ensures _ c.in-At.is l)
+    _
+    (c.is_null.ensures l) c.if-is_null.false
+
+pub returns-in-None : goal.returns-in-None
+unfolding word_of vocabulary
+returns-in-None c = λ l. patched-own _ _ read_busy _ (missing _ _ _ _ c.place.ensures c.in-None.is l)

@@ -1,0 +1,14 @@
+-- `override_text::patches::patch` meets its contract: an object, or none.
+use mathlib.Core.Path.{◌∙◌, ap, sym}
+use Rattle.event.specs.Types.{Override}
+use Rattle.event.specs.Reading.{Judged}
+use borrow.Author.Tests.{eq-eqb, ne_eqb}
+use Rattle.override_text.proofs.PatchLaws.{patch-yes, patch-no}
+use borrow.Author.Rules.{rules}
+use Rattle.override_text.proofs.patches.patch.Goals as goal
+
+pub returns-then-byte-eq123 : goal.returns-then-byte-eq123
+returns-then-byte-eq123 c = λ l. c.patch_in.ensures l ∙ ap (λ (r : Judged Override). r.value) (patch-yes _ _ _ _ (eq-eqb _ _ (sym c.byte.ensures.is ∙ c.if-byte-eq123.true)) l)
+
+pub returns : goal.returns
+returns c = λ l. ap (λ (r : Judged Override). r.value) (patch-no _ _ _ _ (ne_eqb _ _ (λ e. c.if-byte-eq123.false (c.byte.ensures.is ∙ e))) l)

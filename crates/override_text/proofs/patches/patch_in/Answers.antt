@@ -1,0 +1,7 @@
+-- `override_text::patches::patch_in` meets its contract.
+use Rattle.property.proofs.RowLaws.{zeros}
+use borrow.Author.Rules.{rules}
+use Rattle.override_text.proofs.patches.patch_in.Goals as goal
+
+pub fill-requires : goal.fill-requires
+fill-requires c = (c.requires, (zeros 10, search rules))
