@@ -6,8 +6,7 @@ use Rattle.rule.specs.declared.Frequency.{Frequency}
 use Rattle.rule.specs.declared.Frequency.TheVariants.{Daily, Weekly, Monthly, Yearly}
 use Rattle.listing.specs.Inner.Parts.{is_monthly}
 use borrow.Author.Rules.{rules}
-use Rattle.listing.proofs.whole.positions_in_months.Statement.{statement}
-use Rattle.listing.proofs.whole.positions_in_months.Tie as tie
+use Rattle.listing.proofs.whole.positions_in_months.Goals as goal
 
 monthly-is : (f : Frequency) → is_monthly f ≡ true → f ≡ Monthly
 unfolding is_monthly
@@ -20,17 +19,11 @@ is-monthly-of : (f : Frequency) → f ≡ Monthly → is_monthly f ≡ true
 unfolding is_monthly
 is-monthly-of f e = ap is_monthly e
 
-returns : tie.Need-returns
-returns c = (λ e is. absurd (false≢true (sym (not-true _ c.if1.true) ∙ is)), λ all. refl)
+pub returns-then-not-placed : goal.returns-then-not-placed
+returns-then-not-placed c = (λ e is. absurd (false≢true (sym (not-true _ c.if-not-placed.true-raw) ∙ is)), λ all. refl)
 
-is-monthly-requires : tie.Need-is-monthly-requires
-is-monthly-requires c κs = search rules
-
-returns-2 : tie.Need-returns-2
-returns-2 c = (
-  λ e is. monthly-is _ (sym c.is-monthly.ensures ∙ e),
-  λ all. c.is-monthly.ensures ∙ is-monthly-of _ (all (not-false _ c.before.if1.false)),
+pub returns : goal.returns
+returns c = (
+  λ e is. monthly-is _ (sym c.is_monthly.ensures ∙ e),
+  λ all. c.is_monthly.ensures ∙ is-monthly-of _ (all (not-false _ c.if-not-placed.false-raw)),
 )
-
-pub positions-in-months-spec : {M : Type 1} → statement M
-positions-in-months-spec = tie.close (tie.spec returns is-monthly-requires returns-2)
