@@ -1,0 +1,25 @@
+-- `rule_text::days::day_entries` meets its contract.
+use native.Mathlib.Omega.{arith}
+use Rattle.rule_text.proofs.DayLaws.{Flagging, flagging-starts, flagging-goes-on, days-end, nday-nth}
+use Rattle.rule_text.proofs.EntryLaws.{Counting, Storing, rest-stop, rest-none, counting-goes-on, storing-goes-on, counting-starts, storing-starts}
+use Rattle.rule_text.specs.Inner.Lists.{day_of, nth_of}
+use Rattle.event.specs.Rules.{read_nday}
+use Rattle.rule.specs.Inner.Read.{nth_from}
+use Rattle.signed.proofs.Parts.{back}
+use Rattle.json_tree.specs.Tree.{tree_at}
+use Rattle.json_walk.specs.Walk.{elements_of}
+use mathlib.Core.Path.{ap, ◌∙◌}
+use Prim.Native.Nat.{suc}
+-- `rule_text::days::day_entries` meets its contract.
+use Rattle.rule_text.specs.Inner.Reads.{entries_at}
+use borrow.Author.Rules.{rules}
+use Rattle.rule_text.proofs.days.day_entries.Given as goal
+
+abbrev pub invariant-loop-n : goal.invariant-loop-n
+invariant-loop-n l = Counting read_nday (λ level v. tree_at (suc level) l.text v) l.text (λ level. entries_at read_nday (suc level) l.text l.at) l.step l.n l.count l.fault
+    × (Storing day_of read_nday (λ level v. tree_at (suc level) l.text v) l.text (λ level. entries_at read_nday (suc level) l.text l.at) l.initial.weekdays l.weekdays l.step l.n l.count
+    × (Storing nth_of read_nday (λ level v. tree_at (suc level) l.text v) l.text (λ level. entries_at read_nday (suc level) l.text l.at) l.initial.nths l.nths l.step l.n l.count
+    × Flagging (λ level v. tree_at (suc level) l.text v) l.text (λ level. entries_at read_nday (suc level) l.text l.at) l.step l.n l.nth))
+
+abbrev pub decreases-loop-n : goal.decreases-loop-n
+decreases-loop-n l = l.n

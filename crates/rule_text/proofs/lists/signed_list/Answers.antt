@@ -1,0 +1,19 @@
+-- `rule_text::lists::signed_list` meets its contract.
+use Rattle.rule_text.proofs.ListLaws.{by_place, at-within, entries-same, entries-limited, entries-absent, entries-wrong, entries-length}
+use borrow.Author.Rules.{rules}
+use Rattle.rule_text.proofs.lists.signed_list.Goals as goal
+
+pub signed_entries-all-requires : goal.signed_entries-all-requires
+signed_entries-all-requires c = (at-within c.in-At.is c.list_in.ensures.within, c.requires.0)
+
+pub shape_of-list : goal.shape_of-list
+shape_of-list c = entries-length c.signed_entries-all.ensures
+
+pub returns-in-At : goal.returns-in-At
+returns-in-At c = entries-same (entries-limited _ _ _ c.signed_entries-all.ensures c.list_fault.ensures) (λ l. rw (by_place _ _ _ _ _, ← c.list_in.ensures.is, c.in-At.is))
+
+pub returns-in-Absent : goal.returns-in-Absent
+returns-in-Absent c = entries-same entries-absent (λ l. rw (by_place _ _ _ _ _, ← c.list_in.ensures.is, c.in-Absent.is))
+
+pub returns-in-Wrong : goal.returns-in-Wrong
+returns-in-Wrong c = entries-same entries-wrong (λ l. rw (by_place _ _ _ _ _, ← c.list_in.ensures.is, c.in-Wrong.is))

@@ -1,0 +1,16 @@
+-- `rule_text::rules::rule_entries` meets its contract.
+use Rattle.rule_text.proofs.EntryLaws.{Counting, rest-stop, rest-none, counting-goes-on, counting-starts, counting-ends}
+use Rattle.event.specs.Rules.{read_rule}
+use Rattle.json_tree.specs.Tree.{tree_at}
+use Rattle.json_walk.specs.Walk.{elements_of}
+use Prim.Native.Nat.{suc}
+-- `rule_text::rules::rule_entries` meets its contract.
+use Rattle.rule_text.specs.Inner.Reads.{entries_at}
+use borrow.Author.Rules.{rules}
+use Rattle.rule_text.proofs.rules.rule_entries.Given as goal
+
+abbrev pub invariant-loop-n : goal.invariant-loop-n
+invariant-loop-n l = Counting read_rule (λ level v. tree_at (suc (suc (suc level))) l.text v) l.text (λ level. entries_at read_rule (suc (suc (suc level))) l.text l.at) l.step l.n l.count l.fault
+
+abbrev pub decreases-loop-n : goal.decreases-loop-n
+decreases-loop-n l = l.n
