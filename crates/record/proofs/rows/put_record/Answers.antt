@@ -1,0 +1,12 @@
+-- `record::rows::put_record` meets its contract: the four stores are those of a record.
+use native.Mathlib.Omega.{arith}
+use Rattle.record.proofs.RowLaws.{row-steps}
+use borrow.Author.Rules.{rules}
+use Rattle.record.proofs.rows.put_record.Goals as goal
+
+pub returns : goal.returns
+returns c = row-steps _ _ _ c.ranges.id c.ranges.start c.ranges.end _ (omega arith) _ _ _ _ _ _
+    c.put_i64.ensures
+    c.put_i64-2.ensures
+    c.put_i64-3.ensures
+    c.put_u32.ensures

@@ -1,0 +1,14 @@
+-- `record::utc::end_offset` meets its contract: without days the offset at the end is that at the start.
+use mathlib.Core.Path.{◌∙◌}
+use mir.Facts.{to_z-of_z}
+use Rattle.signed.proofs.Parts.{back}
+use borrow.Author.Rules.{rules}
+use Rattle.record.proofs.UtcLaws.{no-days, end-found}
+use Rattle.record.proofs.utc.end_offset.Goals as goal
+
+pub returns-then-times-eq0 : goal.returns-then-times-eq0
+returns-then-times-eq0 c = to_z-of_z c.ranges.before ∙ (c.requires.0.at_start ∙ no-days _ c.args.instants.now c.args.offsets.now c.args.times c.if-times-eq0.true)
+
+pub returns : goal.returns
+returns c = let o = c.offset_of in
+    back _ o.type_inv ∙ end-found _ c.args.instants.now c.args.offsets.now c.args.times _ _ c.ranges.initial c.ranges.local c.requires.0.at_end o.ensures
