@@ -1,0 +1,14 @@
+-- `event_text::judged::is_type` meets its contract.
+use Rattle.event.specs.Values.{is_text}
+use borrow.Author.Tests.{eq-eqb, ne_eqb}
+use Rattle.property.proofs.Words.{string-text}
+use borrow.Author.Rules.{rules}
+use Rattle.event_text.proofs.judged.is_type.Goals as goal
+
+pub returns-then-byte-ne34 : goal.returns-then-byte-ne34
+unfolding is_text
+returns-then-byte-ne34 c = λ l. rw (string-text l, ← c.byte.ensures.is, ne_eqb _ _ c.if-byte-ne34.true)
+
+pub returns : goal.returns
+unfolding is_text
+returns c = λ l. rw (string-text l, ← c.byte.ensures.is, eq-eqb _ _ c.if-byte-ne34.false, ← c.word.ensures) c.is_event.ensures

@@ -1,0 +1,12 @@
+-- `event_text::marks::status` meets its contract.
+use borrow.Author.Rules.{rules}
+use Rattle.event_text.proofs.marks.status.Goals as goal
+
+pub returns-in-Free : goal.returns-in-Free
+returns-in-Free c = rw c.in-Free.is
+
+pub returns-in-Busy : goal.returns-in-Busy
+returns-in-Busy c = rw c.in-Busy.is
+
+pub returns-in-Fault : goal.returns-in-Fault
+returns-in-Fault c = rw c.in-Fault.is

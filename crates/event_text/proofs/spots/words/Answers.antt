@@ -1,0 +1,13 @@
+-- `event_text::spots::words` meets its contract.
+use Rattle.event.specs.Reading.{optional}
+use Rattle.property.proofs.RowLaws.{here, missing}
+use borrow.Author.Rules.{rules}
+use Rattle.event_text.proofs.spots.words.Goals as goal
+
+pub returns-in-At : goal.returns-in-At
+unfolding optional
+returns-in-At c = λ l. rw (here _ _ _ _ c.place.ensures _ c.in-At.is l, ← (c.read_text.ensures l), ← c.passage.ensures)
+
+pub returns-in-None : goal.returns-in-None
+unfolding optional
+returns-in-None c = λ l. rw (missing _ _ _ _ c.place.ensures c.in-None.is l)
