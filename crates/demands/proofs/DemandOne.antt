@@ -130,26 +130,26 @@ module _ (s : List ℕ) (date : ℤ) where
   -- what is shown has the answer, and a refusal no place
   record Said (answer : ℕ) (o : Shown) : Type 0 where
     answer_is : o.answer ≡ answer
-    no_place_lem : (o.answer ≡ 0 → ⊥) → (o.start ≡ 0) × (o.length ≡ 0)
+    nowhere : (o.answer ≡ 0 → ⊥) → (o.start ≡ 0) × (o.length ≡ 0)
 
   said-for : (privacy : Privacy) (answer : ℕ) (place : Shown) → place.answer ≡ 0 → Said answer (shown_for privacy answer place)
   unfolding shown_for
   said-for privacy answer place z = go (eqb answer 0) (is_public privacy) refl
     where
       go : (t p : Bool) → eqb answer 0 ≡ t → Said answer (if t && p then place else no_place answer)
-      go true true e = record { answer_is = z ∙ sym (eqb-true answer 0 e); no_place_lem = λ h. absurd (h z) }
-      go true false e = record { answer_is = refl; no_place_lem = λ h. (refl, refl) }
-      go false p e = record { answer_is = refl; no_place_lem = λ h. (refl, refl) }
+      go true true e = record { answer_is = z ∙ sym (eqb-true answer 0 e); nowhere = λ h. absurd (h z) }
+      go true false e = record { answer_is = refl; nowhere = λ h. (refl, refl) }
+      go false p e = record { answer_is = refl; nowhere = λ h. (refl, refl) }
 
   module _ (which : Details → Option Text) where
     said_at : (e : Event) (d : Option ℕ) → Said (text_answer e d) (shown_at which e d)
     unfolding shown_at
-    said_at e none = unfold text_answer in (record { answer_is = refl; no_place_lem = λ h. (refl, refl) })
+    said_at e none = unfold text_answer in (record { answer_is = refl; nowhere = λ h. (refl, refl) })
     said_at e (some x) = said-for e.privacy (text_answer e (some x)) (place_of (which (details_at e x))) (place-answer (which (details_at e x)))
 
     said : Said (given_by (words_conditions s date)) (text_of which s date)
     unfolding text_of
-    said = by (eqb (text_fault s) 0) (λ e. rw (words-given, e) (said_at (event_of s) (date_time_of date))) (λ e. rw (words-given, e) (record { answer_is = refl; no_place_lem = λ h. (refl, refl) }))
+    said = by (eqb (text_fault s) 0) (λ e. rw (words-given, e) (said_at (event_of s) (date_time_of date))) (λ e. rw (words-given, e) (record { answer_is = refl; nowhere = λ h. (refl, refl) }))
 
     pub text-answered : (answer start size : ℕ) → Shows (text_of which s date) answer start size → TextAnswered s date answer start size
     text-answered answer start size g =
@@ -157,7 +157,7 @@ module _ (s : List ℕ) (date : ℤ) where
           one = subst (Given (words_conditions s date)) (sym (g.answer_is ∙ said.answer_is)) (given_by_lem (words_conditions s date));
           refused_text =
               λ h.
-              let no = said.no_place (λ z. h (g.answer_is ∙ z)) in
+              let no = said.nowhere (λ z. h (g.answer_is ∙ z)) in
               (g.start_is ∙ no.0, g.length_is ∙ no.1);
         }
 
