@@ -1,0 +1,10 @@
+-- `loading::lists::load_overrides` meets its contract: no overrides, or those at the place.
+use Rattle.loading.proofs.PlaceLaws.{overrides-none, overrides-at}
+use borrow.Author.Rules.{rules}
+use Rattle.loading.proofs.lists.load_overrides.Goals as goal
+
+pub returns-in-None : goal.returns-in-None
+returns-in-None c = overrides-none _ _ _ _ _ c.in-None.is
+
+pub returns-in-At : goal.returns-in-At
+returns-in-At c = λ own. overrides-at _ _ _ _ _ _ _ _ _ _ c.in-At.is own (c.overrides.ensures 13 own)
