@@ -1,0 +1,7 @@
+-- `texts::calls::description_place` meets its contract.
+use Rattle.texts.proofs.CallLaws.{description-shows}
+use borrow.Author.Rules.{rules}
+use Rattle.texts.proofs.calls.description_place.Goals as goal
+
+pub returns : goal.returns
+returns c = description-shows _ _ c.ranges.date _ _ _ c.place_of.ensures

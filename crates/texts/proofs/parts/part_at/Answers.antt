@@ -1,0 +1,14 @@
+-- `texts::parts::part_at` meets its contract.
+use mathlib.Core.Path.{refl}
+use Rattle.call_definitions.specs.Call.{place_of}
+use Rattle.texts.proofs.PartLaws.{none-placed}
+use borrow.Author.Rules.{rules}
+use Rattle.texts.proofs.parts.part_at.Goals as goal
+
+pub returns-in-None : goal.returns-in-None
+unfolding place_of
+returns-in-None c = rw c.in-None.is (none-placed _ _ _ c.between.ensures refl)
+
+pub returns-in-At : goal.returns-in-At
+unfolding place_of
+returns-in-At c = rw c.in-At.is c.part_from.ensures
