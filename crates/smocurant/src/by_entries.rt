@@ -37,8 +37,7 @@ fn with_numbers(
 }
 
 // The arrays stay where they are: they are lent to be filled, and then to be read.
-#[unsafe(no_mangle)]
-pub extern "C" fn smocurant_expand_entries(
+pub fn smocurant_expand_entries(
     text: &[u8],
     zone_name: &[u8],
     initial_offset: i64,

@@ -6,8 +6,7 @@ use expansion::expand::expand_in;
 
 // Most texts are short, and need not clear the room of the longest: the table of ends has as many entries as the text has bytes. A longer text
 // than 65,536 bytes is refused.
-#[unsafe(no_mangle)]
-pub extern "C" fn smocurant_expand(
+pub fn smocurant_expand(
     text: &[u8],
     zone_name: &[u8],
     initial_offset: i64,

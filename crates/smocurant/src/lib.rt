@@ -1,4 +1,4 @@
-// The exported functions: what the ingest service links and calls.
+// The calls of the ingest service, as a library. `smocurant_c` exports them.
 #![tactic(auto)]
 
 pub mod by_entries;

@@ -3,8 +3,7 @@ ghost use Rattle.call_definitions.specs.Call.{locate_text};
 ghost use Rattle.call_definitions.specs.Results.{Locates};
 
 // The number is that of every other call on the text. The place is that of the value for 20 to 26, and 0 for every other number.
-#[unsafe(no_mangle)]
-pub extern "C" fn smocurant_locate(text: &[u8], place: &mut u64) -> u32
+pub fn smocurant_locate(text: &[u8], place: &mut u64) -> u32
     ensures { Locates (locate_text text.now) result place.new }
 {
     opening::located::locate(text, place)

@@ -1,16 +1,14 @@
 // A sheet read back: what it says as a whole, one record by its number, and a run of records.
 ghost use Rattle.sheet.specs.Fetching.{summary_of, fetch_of, run_of, Summarises, Fetches, FetchesRun};
 
-#[unsafe(no_mangle)]
-pub extern "C" fn smocurant_read(sheet: &[u8], version: &mut u32, count: &mut u64) -> u32
+pub fn smocurant_read(sheet: &[u8], version: &mut u32, count: &mut u64) -> u32
     ensures { Summarises (summary_of sheet.now) result version.new count.new }
 {
     fetch::summary::summary(sheet, version, count)
 }
 
 // The whole sheet is judged each time: who wants many records asks for a run of them.
-#[unsafe(no_mangle)]
-pub extern "C" fn smocurant_record(
+pub fn smocurant_record(
     sheet: &[u8],
     number: u64,
     id: &mut i64,
@@ -23,8 +21,7 @@ pub extern "C" fn smocurant_record(
     fetch::single::fetch(sheet, number, id, start, end, marks)
 }
 
-#[unsafe(no_mangle)]
-pub extern "C" fn smocurant_records(
+pub fn smocurant_records(
     sheet: &[u8],
     first: u64,
     ids: &mut [i64],

@@ -1,8 +1,7 @@
 // The weeks of an upload log, reported, shut or missing, from the sheet of a closure calendar.
 ghost use Rattle.weeks.specs.Replay.{replay_of, Replays};
 
-#[unsafe(no_mangle)]
-pub extern "C" fn smocurant_weeks(
+pub fn smocurant_weeks(
     log: &[i64],
     sheet: &[u8],
     range_start: i64,

@@ -1,0 +1,30 @@
+// The table of occurrences, its zone table lent as two runs of numbers.
+ghost use Rattle.call_definitions.specs.Call.{expand_text};
+ghost use Rattle.call_definitions.specs.Results.{zones_of, Gives};
+
+#[unsafe(no_mangle)]
+pub extern "C" fn smocurant_expand(
+    text: &[u8],
+    zone_name: &[u8],
+    initial_offset: i64,
+    instants: &[i64],
+    offsets: &[i64],
+    window_start: i64,
+    window_end: i64,
+    buffer: &mut [u8],
+    length: &mut u64,
+) -> u32
+    ensures { Gives (expand_text (zones_of zone_name.now initial_offset instants.now offsets.now) text.now window_start window_end buffer.old) result length.new buffer.new }
+{
+    smocurant::by_numbers::smocurant_expand(
+        text,
+        zone_name,
+        initial_offset,
+        instants,
+        offsets,
+        window_start,
+        window_end,
+        buffer,
+        length,
+    )
+}
