@@ -1,7 +1,7 @@
 //! Finds the archive of the proved library, or has it proved and built.
 //!
 //! `SMOCURANT_ARCHIVE`, the folder that holds `libsmocurant.a`, comes first. Otherwise the archive is `target/staticlib/libsmocurant.a` of
-//! the repository; where there is none, `rt check smocurant` proves the library and `rt staticlib smocurant` writes it, which takes some minutes.
+//! the repository; where there is none, `tools/archive` of the repository proves the library and writes it, which takes some minutes.
 
 use std::env;
 use std::fs::File;
@@ -39,24 +39,18 @@ fn folder_of_repository() -> PathBuf {
     folder
 }
 
-/// Proves the library, crates that do not need each other side by side, then builds the archive of what is proved.
+/// Has the library proved, and the archive of what is proved built.
 fn build(root: &Path) {
-    say("proving and building the library, which takes some minutes: rt check smocurant, rt staticlib smocurant");
-    run(root, "check");
-    run(root, "staticlib");
-}
-
-/// Runs a command of `rt` on the library, and passes on what it says while it works.
-fn run(root: &Path, command: &str) {
-    let started = Command::new("rt").args([command, "smocurant"]).current_dir(root).stdout(Stdio::piped()).spawn();
+    say("proving and building the library, which takes some minutes: tools/archive");
+    let started = Command::new("sh").arg(root.join("tools/archive")).stdout(Stdio::piped()).spawn();
     let mut child = started.unwrap_or_else(|error| {
-        fail(&format!("the Rattle kit's `rt` cannot be started ({error}); put it on the PATH, or set {FOLDER_VARIABLE}"))
+        fail(&format!("tools/archive cannot be started ({error}); build the archive elsewhere, and set {FOLDER_VARIABLE}"))
     });
     let output = child.stdout.take().expect("the output is piped");
     let lines: Vec<String> = BufReader::new(output).lines().map_while(Result::ok).inspect(|line| say(line)).collect();
-    let status = child.wait().unwrap_or_else(|error| fail(&format!("`rt {command} smocurant` was lost: {error}")));
+    let status = child.wait().unwrap_or_else(|error| fail(&format!("tools/archive was lost: {error}")));
     if !status.success() {
-        fail(&format!("`rt {command} smocurant` failed:\n{}", lines.join("\n")));
+        fail(&format!("tools/archive failed; it needs the Rattle kit's `rt` on the PATH, or set {FOLDER_VARIABLE}:\n{}", lines.join("\n")));
     }
 }
 
