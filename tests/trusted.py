@@ -3,8 +3,8 @@
 
 It begins with the contracts of the exported functions and of inner ones that a statement speaks of, and with the statements of the demands, and
 follows what their files name. A definition that is reached stands in specs/ of its crate, one that only inner contracts and proofs cite in
-specs/Inner/: so the folder says it. The script fails where it does not, where what must be believed names an inner definition or a proof, and
-where any contract names a proof.
+specs/Inner/: so the folder says it. The script fails where it does not, where what must be believed names an inner definition or a proof, where
+any contract names a proof, and where an export's contract is not that of the library's function.
 """
 import pathlib
 import re
@@ -13,11 +13,11 @@ import sys
 ROOT = pathlib.Path(__file__).resolve().parent.parent
 CRATES = ROOT / "crates"
 PAGE = ROOT / "docs" / "TRUSTED.md"
-EXPORTED = ["smocurant/src/*.rt", "texts/src/calls.rt"]  # their public functions are the calls
+EXPORTED = ["smocurant_c/src/*.rt", "smocurant/src/*.rt", "texts/src/calls.rt"]  # their public functions are the calls
 SPOKEN_OF = ["zone/src/search.rt"]  # a statement speaks of these inner functions: request 5
 STATED = ["demands", "smocurant"]  # their specs/ state the demands
-KIT = "Prim|mathlib|lib|native|borrow"
-NAMED = re.compile(r"Rattle·(\w+)(?:·\w+)?\.(\w+)((?:\.[\w-]+)*)")
+KIT = r"Rattle\.std|Prim|lib"  # the kit's library begins its paths so
+NAMED = re.compile(r"\bRattle\.(?!std\.)(\w+)\.(\w+)((?:\.[\w-]+)*)")
 HEAD = """# What must be believed
 
 The contracts of the exported functions, those of the search for an offset (request 5) and the statements of the demands are written with the
@@ -66,7 +66,7 @@ def is_node(path):
 
 def type_match(path, name):
     """A struct or an enum of a source file, with the comment before it."""
-    pattern = rf"(?:^//[^\n]*\n)*^(?:pub(?:\(\w+\))? )?(?:struct|enum) {name}\b[^{{;]*(?:;|\{{.*?^\}})"
+    pattern = rf"(?:^//[^\n]*\n)*(?:^#\[[^\n]*\]\n)*^(?:pub(?:\(\w+\))? )?(?:struct|enum) {name}\b[^{{;]*(?:;|\{{.*?^\}})"
     return re.search(pattern, path.read_text(encoding="utf-8"), re.M | re.S)
 
 
@@ -86,7 +86,7 @@ def found(crate, folder, names):
 def held_types(place):
     """The types of the fields of a type."""
     file, name = place
-    fields = re.findall(r":([^,}]*)|\(([^)]*)\)", type_match(file, name)[0])
+    fields = re.findall(r":([^,}]*)|\(([^)]*)\)", re.sub(r"^#\[.*", "", type_match(file, name)[0], flags=re.M))
     for held in re.findall(r"\b[A-Z]\w*", " ".join(a + b for a, b in fields)):
         used = re.search(rf"^use (\w+)::.*\b{held}\b", code(file), re.M)
         yield found(used[1] if used and used[1] != "crate" else crate_of(file), "specs", ["declared", held])
@@ -94,8 +94,8 @@ def held_types(place):
 
 def named_in(text, here, faults):
     """The files and types of this repository that a text names."""
-    for name in re.findall(r"^(?:ghost |pub )?use ([^\s.;]+)", text, re.M):
-        if not re.fullmatch(rf"{KIT}|Rattle·\w+(?:·\w+)?", name):
+    for name in re.findall(r"^(?:ghost |pub )?use ([^\s;{]+)", text, re.M):
+        if not re.match(rf"(?:{KIT})\.", name) and not NAMED.match(name):
             faults.append(f"{here}: the import from {name} cannot be followed")
     places = set()
     for match in NAMED.finditer(text):
@@ -127,7 +127,7 @@ def used_imports(path, text):
     for line in re.findall(r"^ghost use [^;]*;", code(path), re.M):
         module, names, alias = re.fullmatch(r"ghost use ([^\s;{]+?)(?:\.\{([^}]*)\})?(?: as (\S+))?;", line).groups()
         brought = [name.split()[-1] for name in names.split(",")] if names else [alias or module.split(".")[-1]]
-        if any(all(part in words for part in name.split("_") if part) for name in brought):
+        if any(all(part in words for part in name.split("◌") if part) for name in brought):
             yield line
 
 
@@ -164,7 +164,7 @@ def closure(faults, follow_inner=False):
             text += "\n" + own
             reached[place] = set(held_types(place)) - {None} if name else named_in(own, shown(file), faults)
             todo += [(shown(file), other) for other in sorted(reached[place])]
-    modules = set(re.findall(rf"(?<![\w.·])(?:{KIT})(?:\.[A-Z]\w*)+", text))
+    modules = set(re.findall(rf"(?<![\w.])(?:{KIT})(?:\.[a-z]+)*(?:\.[A-Z]\w*)+", text))
     return reached, contracts, sorted(modules)
 
 
@@ -181,6 +181,21 @@ def cited_proofs():
         for match in NAMED.finditer(code(file)):
             if match[2] == "proofs":
                 yield f"{shown(file)}: a contract names {match[0]}: what a contract cites stands in specs/"
+
+
+def heads_in(crate):
+    """The heads of a crate's public functions by name, each as one line and without what only an export has."""
+    files = sorted((CRATES / crate / "src").glob("*.rt"))
+    heads = {name: head for file in files for name, head in heads_of(file, "pub").items()}
+    return {name: " ".join(head.replace('extern "C" ', "").split()).replace("( ", "(").replace(", )", ")") for name, head in heads.items()}
+
+
+def other_exports():
+    """Exports that promise something else than the library's function of their name, or have none, and functions that are not exported."""
+    exported, called = heads_in("smocurant_c"), heads_in("smocurant")
+    for name in sorted({*exported, *called}):
+        if exported.get(name) != called.get(name):
+            yield f"{name}: smocurant_c does not state what smocurant does, word for word"
 
 
 def in_order(nodes, needs):
@@ -224,7 +239,7 @@ def row(place):
 
 
 def crate_names():
-    return re.findall(r"^(\w+):", (ROOT / "crates.txt").read_text(encoding="utf-8"), re.M)
+    return re.findall(r"^(\w+)[^:\n]*:", (ROOT / "crates.txt").read_text(encoding="utf-8"), re.M)
 
 
 def listed_files(crate, reached):
@@ -261,6 +276,7 @@ def main():
     reached, contracts, modules = closure(faults)
     faults += [f"{shown(file)} is not among what must be believed, and stands outside specs/Inner/" for file in strays(reached)]
     faults += cited_proofs()
+    faults += other_exports()
     for fault in sorted(set(faults)):
         print(f"trusted.py: {fault}")
     if faults:
