@@ -1,2 +1,1 @@
-pub mod ArrayLent
 pub mod EntryLaws
