@@ -6,6 +6,7 @@ ghost use Rattle.std.specs.Prelude.{◌≡◌, ◌+◌, ◌≤◌, ◌<◌, min,
 ghost use Rattle.gregorian.specs.Days.{day_count};
 
 use gregorian::{Date, Moment};
+use std::io;
 
 // Europe/London from autumn 2024 to autumn 2025: the clock goes back, on, and back.
 const INSTANTS: [i64; 3] = [1729990800, 1743296400, 1761440400];
@@ -15,19 +16,18 @@ const OFFSETS: [i64; 3] = [0, 3600, 0];
 const SUMMER: i64 = 3600;
 
 // UTC of midnight, where a day begins.
-fn utc_of_day(day: u32)
+fn utc_of_day(rt: &impl Print, day: u32) -> io::Result<()>
     requires { day < day_count }
 {
     let instants = INSTANTS;
     let offsets = OFFSETS;
     let local = calendar::seconds::seconds_of(Moment { day, second: 0 });
     if !zone::valid(SUMMER, &instants, &offsets) {
-        show::text(b"no zone table");
-        return;
+        return show::text(rt, b"no zone table");
     }
     let mut hint = 0;
-    show::seconds(zone::utc(SUMMER, &instants, &offsets, local, &mut hint));
-    show::text(b"Z");
+    show::seconds(rt, zone::utc(SUMMER, &instants, &offsets, local, &mut hint))?;
+    show::text(rt, b"Z")
 }
 
 // The days from a to b that lie in the week from a Monday on.
@@ -56,70 +56,68 @@ fn sooner(a: u32, b: u32) -> u32
     b
 }
 
-fn show_week(a: u32, b: u32, monday: u32)
+fn show_week(rt: &impl Print, a: u32, b: u32, monday: u32) -> io::Result<()>
     requires { (b < day_count) × ((a ≤ b) × ((monday ≤ b) × (a < monday + 7))) }
 {
-    show::text(b"  week of ");
-    show::date(calendar::days::date_of(monday));
-    show::text(b": shut on ");
-    show::number(days_in_week(a, b, monday) as u64);
-    show::text(b" of 7 days\n");
+    show::text(rt, b"  week of ")?;
+    show::date(rt, calendar::days::date_of(monday))?;
+    show::text(rt, b": shut on ")?;
+    show::number(rt, days_in_week(a, b, monday) as u64)?;
+    show::text(rt, b" of 7 days\n")
 }
 
 // The weeks from that of day a to that of day b.
-fn show_weeks(a: u32, b: u32)
+fn show_weeks(rt: &impl Print, a: u32, b: u32) -> io::Result<()>
     requires { (b < day_count) × (a ≤ b) }
 {
     let since = calendar::days::weekday(a);
     if a < since {
-        return;
+        return Ok(());
     }
     let mut monday = a - since;
     while monday <= b {
-        show_week(a, b, monday);
+        show_week(rt, a, b, monday)?;
         monday += 7;
     }
+    Ok(())
 }
 
 // A closure from one date to another, both shut.
-fn closure(first: Date, last: Date) {
+fn closure(rt: &impl Print, first: Date, last: Date) -> io::Result<()> {
     if !calendar::days::is_date(first) {
-        show::text(b"no date\n");
-        return;
+        return show::text(rt, b"no date\n");
     }
     if !calendar::days::is_date(last) {
-        show::text(b"no date\n");
-        return;
+        return show::text(rt, b"no date\n");
     }
     let a = calendar::days::day_number(first);
     let b = calendar::days::day_number(last);
-    show::text(b"shut from ");
-    show::date(first);
-    show::text(b" to ");
-    show::date(last);
-    show_span(a, b);
+    show::text(rt, b"shut from ")?;
+    show::date(rt, first)?;
+    show::text(rt, b" to ")?;
+    show::date(rt, last)?;
+    show_span(rt, a, b)
 }
 
 // When the closure starts and ends, and its weeks.
-fn show_span(a: u32, b: u32) {
+fn show_span(rt: &impl Print, a: u32, b: u32) -> io::Result<()> {
     if b < a {
-        show::text(b": ends before it starts\n");
-        return;
+        return show::text(rt, b": ends before it starts\n");
     }
     if 3068035 < b {
-        show::text(b": ends with the calendar\n");
-        return;
+        return show::text(rt, b": ends with the calendar\n");
     }
-    show::text(b"\n  UTC from ");
-    utc_of_day(a);
-    show::text(b" to ");
-    utc_of_day(b + 1);
-    show::text(b"\n");
-    show_weeks(a, b);
+    show::text(rt, b"\n  UTC from ")?;
+    utc_of_day(rt, a)?;
+    show::text(rt, b" to ")?;
+    utc_of_day(rt, b + 1)?;
+    show::text(rt, b"\n")?;
+    show_weeks(rt, a, b)
 }
 
-fn main() {
+fn main(rt: HostRuntime) -> io::Result<()> {
     closure(
+        &rt,
         Date {
             year: 2024,
             month: 12,
@@ -130,8 +128,9 @@ fn main() {
             month: 1,
             day: 5,
         },
-    );
+    )?;
     closure(
+        &rt,
         Date {
             year: 2025,
             month: 5,
@@ -142,5 +141,5 @@ fn main() {
             month: 5,
             day: 5,
         },
-    );
+    )
 }
