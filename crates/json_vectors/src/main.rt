@@ -4,52 +4,54 @@
 
 ghost use Rattle.std.specs.Prelude.{◌≤◌, length};
 
+use std::io;
+use std::io::Read;
+
 // What parts the texts.
 const MARK: u8 = 0x1E;
+
+const BLOCK: u64 = 262144;
 
 // The end of the text that begins at a place.
 fn text_end(all: &[u8], from: usize) -> usize
     requires { from ≤ length all.now }
     ensures { (from ≤ result) × (result ≤ length all.now) }
 {
-    let mut i = from;
-    while i < all.len() {
+    for i in from..all.len() {
         if all[i] == MARK {
             return i;
         }
-        i += 1;
     }
-    i
+    all.len()
 }
 
-fn judge_all(all: &[u8]) {
+fn judge_all(rt: &impl Print, all: &[u8]) -> io::Result<()> {
     let mut from = 0;
     while from < all.len() {
         let end = text_end(all, from);
         let answer = json_strict::answer::answer(&all[from..end]);
-        io::print_decimal(1, answer as u64);
-        io::write_all(1, b"\n");
+        println!(rt; "{answer}")?;
         if end == all.len() {
-            return;
+            return Ok(());
         }
         from = end + 1;
     }
+    Ok(())
 }
 
 // Judges the texts of one block of the input; says whether there was one.
-fn judge_block() -> bool {
-    let mut buffer = [0u8; 262144];
-    let n = io::read_full(0, &mut buffer);
-    judge_all(&buffer[..n]);
-    0 < n
+fn judge_block(rt: &(impl Print + Input + Alloc)) -> io::Result<bool> {
+    let mut block = Vec::new(rt.alloc());
+    let n = rt.reader().take(BLOCK).read_to_end(&mut block)?;
+    judge_all(rt, &block)?;
+    Ok(0 < n)
 }
 
-fn main() {
-    let mut blocks: usize = 4;
-    while 0 < blocks {
-        if !judge_block() {
-            return;
+fn main(rt: HostRuntime) -> io::Result<()> {
+    for _ in 0..4 {
+        if !judge_block(&rt)? {
+            return Ok(());
         }
-        blocks -= 1;
     }
+    Ok(())
 }
