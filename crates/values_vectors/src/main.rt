@@ -9,120 +9,100 @@ use duration::Span;
 use fault::First;
 use json_text::bytes::byte;
 use keywords::{FreeBusy, Named, Privacy, Rate};
-use libc::{STDIN_FILENO, STDOUT_FILENO};
+use std::io;
+use std::io::Read;
 
-fn number(n: u64) {
-    io::print_decimal(STDOUT_FILENO, n);
+// The input is read as far as this.
+const LONGEST: u64 = 65536;
+
+fn number(rt: &impl Print, n: u64) -> io::Result<()> {
+    print!(rt; "{n}")
 }
 
-fn fault(n: u32) {
-    io::write_all(STDOUT_FILENO, b"fault ");
-    number(n as u64);
+fn fault(rt: &impl Print, n: u32) -> io::Result<()> {
+    rt.write_all(b"fault ")?;
+    number(rt, n as u64)
 }
 
-fn date_time(d: DateTime) {
+fn date_time(rt: &impl Print, d: DateTime) -> io::Result<()> {
     match d {
-        DateTime::At(n) => number(n),
-        DateTime::Fault(n) => fault(n),
+        DateTime::At(n) => number(rt, n),
+        DateTime::Fault(n) => fault(rt, n),
     }
 }
 
-fn span(s: Span) {
+fn span(rt: &impl Print, s: Span) -> io::Result<()> {
     match s {
         Span::Of(d, n) => {
-            number(d);
-            io::write_all(STDOUT_FILENO, b" days ");
-            number(n);
+            number(rt, d)?;
+            rt.write_all(b" days ")?;
+            number(rt, n)
         }
-        Span::Fault(n) => fault(n),
+        Span::Fault(n) => fault(rt, n),
     }
 }
 
-fn named(n: Named) {
+fn named(rt: &impl Print, n: Named) -> io::Result<()> {
     match n {
-        Named::Number(k) => number(k as u64),
-        Named::Wrong(k) => fault(k),
+        Named::Number(k) => number(rt, k as u64),
+        Named::Wrong(k) => fault(rt, k),
     }
 }
 
-fn rate(r: Rate) {
+fn rate(rt: &impl Print, r: Rate) -> io::Result<()> {
     match r {
-        Rate::Daily => number(1),
-        Rate::Weekly => number(2),
-        Rate::Monthly => number(3),
-        Rate::Yearly => number(4),
-        Rate::Fault(n) => fault(n),
+        Rate::Daily => number(rt, 1),
+        Rate::Weekly => number(rt, 2),
+        Rate::Monthly => number(rt, 3),
+        Rate::Yearly => number(rt, 4),
+        Rate::Fault(n) => fault(rt, n),
     }
 }
 
-fn free_busy(s: FreeBusy) {
+fn free_busy(rt: &impl Print, s: FreeBusy) -> io::Result<()> {
     match s {
-        FreeBusy::Free => number(0),
-        FreeBusy::Busy => number(1),
-        FreeBusy::Fault(n) => fault(n),
+        FreeBusy::Free => number(rt, 0),
+        FreeBusy::Busy => number(rt, 1),
+        FreeBusy::Fault(n) => fault(rt, n),
     }
 }
 
-fn privacy(p: Privacy) {
+fn privacy(rt: &impl Print, p: Privacy) -> io::Result<()> {
     match p {
-        Privacy::Public => number(0),
-        Privacy::Private => number(1),
-        Privacy::Secret => number(2),
+        Privacy::Public => number(rt, 0),
+        Privacy::Private => number(rt, 1),
+        Privacy::Secret => number(rt, 2),
     }
 }
 
-fn flag(b: bool) {
+fn flag(rt: &impl Print, b: bool) -> io::Result<()> {
     if b {
-        number(1);
-        return;
+        return number(rt, 1);
     }
-    number(0);
+    number(rt, 0)
 }
 
 // The words of a rule, by the letter of the reader.
-fn rule_word(kind: u8, raw: &[u8]) {
-    if kind == b'f' {
-        rate(keywords::rules::frequency(raw));
-        return;
+fn rule_word(rt: &impl Print, kind: u8, raw: &[u8]) -> io::Result<()> {
+    match kind {
+        b'f' => rate(rt, keywords::rules::frequency(raw)),
+        b'w' => named(rt, keywords::rules::weekday(raw)),
+        b'm' => named(rt, keywords::months::month(raw)),
+        b'k' => fault(rt, keywords::rules::skip(raw)),
+        _ => fault(rt, keywords::rules::rscale(raw)),
     }
-    if kind == b'w' {
-        named(keywords::rules::weekday(raw));
-        return;
-    }
-    if kind == b'm' {
-        named(keywords::months::month(raw));
-        return;
-    }
-    if kind == b'k' {
-        fault(keywords::rules::skip(raw));
-        return;
-    }
-    fault(keywords::rules::rscale(raw));
 }
 
 // The other words.
-fn word(kind: u8, raw: &[u8]) {
-    if kind == b'b' {
-        free_busy(keywords::marks::free_busy(raw));
-        return;
+fn word(rt: &impl Print, kind: u8, raw: &[u8]) -> io::Result<()> {
+    match kind {
+        b'b' => free_busy(rt, keywords::marks::free_busy(raw)),
+        b'p' => privacy(rt, keywords::marks::privacy(raw)),
+        b'E' => flag(rt, keywords::types::is_event(raw)),
+        b'R' => flag(rt, keywords::types::is_rule(raw)),
+        b'N' => flag(rt, keywords::types::is_nday(raw)),
+        _ => rule_word(rt, kind, raw),
     }
-    if kind == b'p' {
-        privacy(keywords::marks::privacy(raw));
-        return;
-    }
-    if kind == b'E' {
-        flag(keywords::types::is_event(raw));
-        return;
-    }
-    if kind == b'R' {
-        flag(keywords::types::is_rule(raw));
-        return;
-    }
-    if kind == b'N' {
-        flag(keywords::types::is_nday(raw));
-        return;
-    }
-    rule_word(kind, raw);
 }
 
 // A fault in three digits at a place of the line: two for its number, 00 for none, and one for its place.
@@ -134,46 +114,33 @@ fn fault_in(raw: &[u8], at: usize) -> First
 }
 
 // The one of two faults that decides.
-fn join(raw: &[u8]) {
+fn join(rt: &impl Print, raw: &[u8]) -> io::Result<()> {
     let decided = fault::lower(fault_in(raw, 0), fault_in(raw, 4));
-    fault(fault::number_of(decided));
-    io::write_all(STDOUT_FILENO, b" at ");
-    number(fault::place_of(decided) as u64);
+    fault(rt, fault::number_of(decided))?;
+    rt.write_all(b" at ")?;
+    number(rt, fault::place_of(decided) as u64)
 }
 
 // Date-times and durations, the join of two faults, and words.
-fn value(kind: u8, raw: &[u8]) {
-    if kind == b's' {
-        date_time(date_time::local::local(raw, 9998));
-        return;
+fn value(rt: &impl Print, kind: u8, raw: &[u8]) -> io::Result<()> {
+    match kind {
+        b's' => date_time(rt, date_time::local::local(raw, 9998)),
+        b'u' => date_time(rt, date_time::local::local(raw, 9999)),
+        b'z' => flag(rt, date_time::utc::is_utc(raw)),
+        b'd' => span(rt, duration::length::length(raw)),
+        b'j' => join(rt, raw),
+        _ => word(rt, kind, raw),
     }
-    if kind == b'u' {
-        date_time(date_time::local::local(raw, 9999));
-        return;
-    }
-    if kind == b'z' {
-        flag(date_time::utc::is_utc(raw));
-        return;
-    }
-    if kind == b'd' {
-        span(duration::length::length(raw));
-        return;
-    }
-    if kind == b'j' {
-        join(raw);
-        return;
-    }
-    word(kind, raw);
 }
 
-fn line(s: &[u8]) {
+fn line(rt: &impl Print, s: &[u8]) -> io::Result<()> {
     if s.len() < 2 {
-        return;
+        return Ok(());
     }
-    io::write_all(STDOUT_FILENO, s);
-    io::write_all(STDOUT_FILENO, b" -> ");
-    value(s[0], &s[2..]);
-    io::write_all(STDOUT_FILENO, b"\n");
+    rt.write_all(s)?;
+    rt.write_all(b" -> ")?;
+    value(rt, s[0], &s[2..])?;
+    rt.write_all(b"\n")
 }
 
 // Where the line that starts at a place ends.
@@ -181,27 +148,26 @@ fn line_end(text: &[u8], at: usize) -> usize
     requires { at ≤ length text.now }
     ensures { (at ≤ result) × (result ≤ length text.now) }
 {
-    let mut i = at;
-    while i < text.len() {
+    for i in at..text.len() {
         if text[i] == b'\n' {
             return i;
         }
-        i += 1;
     }
-    i
+    text.len()
 }
 
-fn lines(text: &[u8]) {
+fn lines(rt: &impl Print, text: &[u8]) -> io::Result<()> {
     let mut at = 0;
     while at < text.len() {
         let end = line_end(text, at);
-        line(&text[at..end]);
+        line(rt, &text[at..end])?;
         at = end + 1;
     }
+    Ok(())
 }
 
-fn main() {
-    let mut buffer = io::large_buffer();
-    let n = io::read_full(STDIN_FILENO, &mut buffer);
-    lines(&buffer[..n]);
+fn main(rt: HostRuntime) -> io::Result<()> {
+    let mut text = Vec::new(rt.alloc());
+    rt.reader().take(LONGEST).read_to_end(&mut text)?;
+    lines(&rt, &text)
 }
