@@ -4,7 +4,10 @@
 // text with byte 0x1E after it.
 #![tactic(auto)]
 
-ghost use Rattle.std.specs.Prelude.{◌≤◌, ◌<◌, length};
+ghost use Rattle.std.specs.Prelude.{◌≤◌, length};
+
+use std::io;
+use std::io::Read;
 
 mod calls;
 mod numbers;
@@ -14,22 +17,23 @@ mod zones;
 // What ends a text.
 const MARK: u8 = 0x1E;
 
+// The input is read as far as this.
+const LONGEST: u64 = 524288;
+
 // The end of the text that begins at a place.
 fn text_end(all: &[u8], from: usize) -> usize
     requires { from ≤ length all.now }
     ensures { (from ≤ result) × (result ≤ length all.now) }
 {
-    let mut i = from;
-    while i < all.len() {
+    for i in from..all.len() {
         if all[i] == MARK {
             return i;
         }
-        i += 1;
     }
-    i
+    all.len()
 }
 
-fn read_all(all: &[u8]) {
+fn read_all(rt: &impl Print, all: &[u8]) -> io::Result<()> {
     let mut at = 0;
     while at < all.len() {
         let zone = numbers::number_at(all, at);
@@ -39,21 +43,23 @@ fn read_all(all: &[u8]) {
         let text = room.next;
         let end = text_end(all, text);
         if end == all.len() {
-            return;
+            return Ok(());
         }
         calls::call(
+            rt,
             &all[text..end],
             zone.value,
             from.value,
             to.value,
             room.value,
-        );
+        )?;
         at = end + 1;
     }
+    Ok(())
 }
 
-fn main() {
-    let mut input = [0u8; 524288];
-    let n = io::read_full(0, &mut input);
-    read_all(&input[..n]);
+fn main(rt: HostRuntime) -> io::Result<()> {
+    let mut input = Vec::new(rt.alloc());
+    rt.reader().take(LONGEST).read_to_end(&mut input)?;
+    read_all(&rt, &input)
 }

@@ -22,15 +22,19 @@ pub(crate) fn number_at(all: &[u8], from: usize) -> Number
     requires { from ≤ length all.now }
     ensures { (from ≤ result.next) × ((result.next ≤ length all.now) × (result.value < 2 ^ 60)) }
 {
-    let mut i = from;
     let mut n = 0;
-    while i < all.len() {
+    for i in from..all.len() {
         let byte = all[i];
-        i += 1;
         if byte == 0x20 {
-            return Number { value: n, next: i };
+            return Number {
+                value: n,
+                next: i + 1,
+            };
         }
         n = append(n, byte);
     }
-    Number { value: n, next: i }
+    Number {
+        value: n,
+        next: all.len(),
+    }
 }

@@ -1,12 +1,12 @@
 // Numbers and bytes on the output.
-ghost use Rattle.std.specs.Prelude.{◌≤◌, length};
+use std::io;
 
-pub(crate) fn say(words: &[u8]) {
-    io::write_all(1, words);
+pub(crate) fn say(rt: &impl Print, words: &[u8]) -> io::Result<()> {
+    rt.write_all(words)
 }
 
-pub(crate) fn number(n: u64) {
-    io::print_decimal(1, n);
+pub(crate) fn number(rt: &impl Print, n: u64) -> io::Result<()> {
+    print!(rt; "{n}")
 }
 
 // One of 0 to 9 and a to f.
@@ -19,12 +19,10 @@ fn digit(n: u8) -> u8 {
 }
 
 // Two digits for each byte.
-pub(crate) fn hexadecimal(bytes: &[u8]) {
-    let mut i = 0;
-    while i < bytes.len() {
-        let byte = bytes[i];
-        let pair = [digit(byte / 16), digit(byte)];
-        say(&pair);
-        i += 1;
+pub(crate) fn hexadecimal(rt: &impl Print, bytes: &[u8]) -> io::Result<()> {
+    for byte in bytes {
+        let pair = [digit(*byte / 16), digit(*byte)];
+        say(rt, &pair)?;
     }
+    Ok(())
 }

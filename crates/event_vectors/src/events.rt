@@ -7,55 +7,59 @@ use keywords::Privacy;
 use override_text::Own;
 use override_text::patches::patch;
 use property::Place;
+use std::io;
 
-fn privacy(p: Privacy) {
+fn privacy(rt: &impl Print, p: Privacy) -> io::Result<()> {
     match p {
-        Privacy::Public => number(0),
-        Privacy::Private => number(1),
-        Privacy::Secret => number(2),
+        Privacy::Public => number(rt, 0),
+        Privacy::Private => number(rt, 1),
+        Privacy::Secret => number(rt, 2),
     }
 }
 
-fn details(text: &[u8], own: Own) {
-    say(b" start ");
-    number(own.start);
-    say(b" days ");
-    number(own.days);
-    say(b" seconds ");
-    number(own.seconds);
-    mark(b" busy ", own.busy);
-    mark(b" allday ", own.allday);
-    let title = own.title;
-    passage(b" title ", text, title);
-    let description = own.description;
-    passage(b" description ", text, description);
-    say(b"\n");
+fn details(rt: &impl Print, text: &[u8], own: Own) -> io::Result<()> {
+    say(rt, b" start ")?;
+    number(rt, own.start)?;
+    say(rt, b" days ")?;
+    number(rt, own.days)?;
+    say(rt, b" seconds ")?;
+    number(rt, own.seconds)?;
+    mark(rt, b" busy ", own.busy)?;
+    mark(rt, b" allday ", own.allday)?;
+    passage(rt, b" title ", text, own.title)?;
+    passage(rt, b" description ", text, own.description)?;
+    say(rt, b"\n")
 }
 
 fn own_of(head: Head) -> Own {
-    let title = head.title;
-    let description = head.description;
     Own {
         start: head.start,
         days: head.days,
         seconds: head.seconds,
         busy: head.busy,
         allday: head.allday,
-        title,
-        description,
+        title: head.title,
+        description: head.description,
     }
 }
 
-fn override_line(text: &[u8], ends: &[u32], own: Own, id: u64, gone: bool, at: usize)
+fn override_line(
+    rt: &impl Print,
+    text: &[u8],
+    ends: &[u32],
+    own: Own,
+    id: u64,
+    gone: bool,
+    at: usize,
+) -> io::Result<()>
     requires { Ends text.now ends.now }
 {
-    say(b"override ");
-    number(id);
-    mark(b" excluded ", gone);
+    say(rt, b"override ")?;
+    number(rt, id)?;
+    mark(rt, b" excluded ", gone)?;
     let p = patch(text, ends, at, own, id);
-    let title = p.title;
-    let description = p.description;
     details(
+        rt,
         text,
         Own {
             start: p.start,
@@ -63,67 +67,59 @@ fn override_line(text: &[u8], ends: &[u32], own: Own, id: u64, gone: bool, at: u
             seconds: p.seconds,
             busy: p.busy,
             allday: p.allday,
-            title,
-            description,
+            title: p.title,
+            description: p.description,
         },
-    );
+    )
 }
 
-fn overrides(text: &[u8], ends: &[u32], own: Own, at: usize)
+fn overrides(rt: &impl Print, text: &[u8], ends: &[u32], own: Own, at: usize) -> io::Result<()>
     requires { Ends text.now ends.now }
 {
     let mut ids = [0u64; 256];
     let mut gone = [false; 256];
     let mut places = [0usize; 256];
     let n = override_text::lists::overrides(text, ends, at, &mut ids, &mut gone, &mut places);
-    let mut i: usize = 0;
-    while i < 256 {
-        if n <= i {
-            return;
-        }
-        override_line(text, ends, own, ids[i], gone[i], places[i]);
-        i += 1;
+    for i in 0..n.min(256) {
+        override_line(rt, text, ends, own, ids[i], gone[i], places[i])?;
     }
+    Ok(())
 }
 
-fn accepted(text: &[u8], ends: &[u32], head: Head)
+fn accepted(rt: &impl Print, text: &[u8], ends: &[u32], head: Head) -> io::Result<()>
     requires { Ends text.now ends.now }
 {
     let own = own_of(head);
-    say(b"event privacy ");
-    let access = head.privacy;
-    privacy(access);
-    let zone = head.zone;
-    passage(b" zone ", text, zone);
-    details(text, own);
-    let rules = head.rules;
-    crate::rules::rules(b"rule ", text, ends, rules);
-    let excluded = head.excluded;
-    crate::rules::rules(b"excluded ", text, ends, excluded);
-    let patches = head.overrides;
-    match patches {
-        Place::None => {}
-        Place::At(at) => overrides(text, ends, own, at),
+    say(rt, b"event privacy ")?;
+    privacy(rt, head.privacy)?;
+    passage(rt, b" zone ", text, head.zone)?;
+    details(rt, text, own)?;
+    crate::rules::rules(rt, b"rule ", text, ends, head.rules)?;
+    crate::rules::rules(rt, b"excluded ", text, ends, head.excluded)?;
+    match head.overrides {
+        Place::None => Ok(()),
+        Place::At(at) => overrides(rt, text, ends, own, at),
     }
 }
 
-fn judged(text: &[u8], ends: &[u32])
+fn judged(rt: &impl Print, text: &[u8], ends: &[u32]) -> io::Result<()>
     requires { Ends text.now ends.now }
 {
     let head = event_text::heads::head(text, ends);
     let first = event_text::whole::event_first(text, ends, head);
     let answer = fault::number_of(first);
-    number(answer as u64);
-    say(b" ");
-    number(fault::place_of(first) as u64);
-    say(b"\n");
+    number(rt, answer as u64)?;
+    say(rt, b" ")?;
+    number(rt, fault::place_of(first) as u64)?;
+    say(rt, b"\n")?;
     if answer == 0 {
-        accepted(text, ends, head);
+        return accepted(rt, text, ends, head);
     }
+    Ok(())
 }
 
-pub(crate) fn event(text: &[u8]) {
+pub(crate) fn event(rt: &impl Print, text: &[u8]) -> io::Result<()> {
     let mut ends = [0u32; 65536];
     json_strict::answer::judge(text, &mut ends);
-    judged(text, &ends);
+    judged(rt, text, &ends)
 }

@@ -4,6 +4,9 @@
 
 ghost use Rattle.std.specs.Prelude.{◌≤◌, length};
 
+use std::io;
+use std::io::Read;
+
 mod events;
 mod print;
 mod rules;
@@ -11,47 +14,47 @@ mod rules;
 // What ends a text.
 const MARK: u8 = 0x1E;
 
+const BLOCK: u64 = 262144;
+
 // The end of the text that begins at a place.
 fn text_end(all: &[u8], from: usize) -> usize
     requires { from ≤ length all.now }
     ensures { (from ≤ result) × (result ≤ length all.now) }
 {
-    let mut i = from;
-    while i < all.len() {
+    for i in from..all.len() {
         if all[i] == MARK {
             return i;
         }
-        i += 1;
     }
-    i
+    all.len()
 }
 
-fn read_all(all: &[u8]) {
+fn read_all(rt: &impl Print, all: &[u8]) -> io::Result<()> {
     let mut from = 0;
     while from < all.len() {
         let end = text_end(all, from);
         if end == all.len() {
-            return;
+            return Ok(());
         }
-        events::event(&all[from..end]);
+        events::event(rt, &all[from..end])?;
         from = end + 1;
     }
+    Ok(())
 }
 
 // Reads the texts of one block of the input; says whether there was one.
-fn read_block() -> bool {
-    let mut buffer = [0u8; 262144];
-    let n = io::read_full(0, &mut buffer);
-    read_all(&buffer[..n]);
-    0 < n
+fn read_block(rt: &(impl Print + Input + Alloc)) -> io::Result<bool> {
+    let mut block = Vec::new(rt.alloc());
+    let n = rt.reader().take(BLOCK).read_to_end(&mut block)?;
+    read_all(rt, &block)?;
+    Ok(0 < n)
 }
 
-fn main() {
-    let mut blocks: usize = 4;
-    while 0 < blocks {
-        if !read_block() {
-            return;
+fn main(rt: HostRuntime) -> io::Result<()> {
+    for _ in 0..4 {
+        if !read_block(&rt)? {
+            return Ok(());
         }
-        blocks -= 1;
     }
+    Ok(())
 }

@@ -1,46 +1,40 @@
 // Numbers, marks and texts on the output.
 use property::Place;
 use property::strings::word;
+use std::io;
 
-pub(crate) fn say(words: &[u8]) {
-    io::write_all(1, words);
+pub(crate) fn say(rt: &impl Print, words: &[u8]) -> io::Result<()> {
+    rt.write_all(words)
 }
 
-pub(crate) fn number(n: u64) {
-    io::print_decimal(1, n);
+pub(crate) fn number(rt: &impl Print, n: u64) -> io::Result<()> {
+    print!(rt; "{n}")
 }
 
-pub(crate) fn small(n: u32) {
-    number(n as u64);
+pub(crate) fn small(rt: &impl Print, n: u32) -> io::Result<()> {
+    number(rt, n as u64)
 }
 
-pub(crate) fn signed(z: i64) {
-    let below = signed::negative_part(z);
-    if 0 < below {
-        say(b"-");
-        number(below);
-        return;
-    }
-    number(signed::positive_part(z));
+pub(crate) fn signed(rt: &impl Print, z: i64) -> io::Result<()> {
+    print!(rt; "{z}")
 }
 
-pub(crate) fn mark(name: &[u8], set: bool) {
-    say(name);
+pub(crate) fn mark(rt: &impl Print, name: &[u8], set: bool) -> io::Result<()> {
+    say(rt, name)?;
     if set {
-        number(1);
-        return;
+        return number(rt, 1);
     }
-    number(0);
+    number(rt, 0)
 }
 
-pub(crate) fn passage(name: &[u8], text: &[u8], place: Place) {
-    say(name);
+pub(crate) fn passage(rt: &impl Print, name: &[u8], text: &[u8], place: Place) -> io::Result<()> {
+    say(rt, name)?;
     match place {
-        Place::None => say(b"-"),
+        Place::None => say(rt, b"-"),
         Place::At(at) => {
-            say(b"\"");
-            say(word(text, at));
-            say(b"\"");
+            say(rt, b"\"")?;
+            say(rt, word(text, at))?;
+            say(rt, b"\"")
         }
     }
 }

@@ -4,133 +4,109 @@ ghost use Rattle.json_ends.specs.Inner.Ends.{Ends};
 use crate::print::{number, say, signed, small};
 use property::Place;
 use rule::{End, Frequency, Rule};
+use std::io;
 
-fn frequency(rate: Frequency) {
+fn frequency(rt: &impl Print, rate: Frequency) -> io::Result<()> {
     match rate {
-        Frequency::Daily => number(0),
-        Frequency::Weekly => number(1),
-        Frequency::Monthly => number(2),
-        Frequency::Yearly => number(3),
+        Frequency::Daily => number(rt, 0),
+        Frequency::Weekly => number(rt, 1),
+        Frequency::Monthly => number(rt, 2),
+        Frequency::Yearly => number(rt, 3),
     }
 }
 
-fn end(end: End) {
+fn end(rt: &impl Print, end: End) -> io::Result<()> {
     match end {
-        End::Never => say(b" never"),
+        End::Never => say(rt, b" never"),
         End::Until(last) => {
-            say(b" until ");
-            number(last);
+            say(rt, b" until ")?;
+            number(rt, last)
         }
         End::Count(most) => {
-            say(b" count ");
-            number(most);
+            say(rt, b" count ")?;
+            number(rt, most)
         }
     }
 }
 
 // The first entries of a list.
-fn numbers(name: &[u8], list: &[i64], count: usize) {
-    say(name);
-    let mut i = 0;
-    while i < list.len() {
-        if count <= i {
-            return;
-        }
-        say(b" ");
-        let z = list[i];
-        signed(z);
-        i += 1;
+fn numbers(rt: &impl Print, name: &[u8], list: &[i64], count: usize) -> io::Result<()> {
+    say(rt, name)?;
+    for z in list.iter().take(count) {
+        say(rt, b" ")?;
+        signed(rt, *z)?;
     }
+    Ok(())
 }
 
-fn months(list: &[u32], count: usize) {
-    say(b" months");
-    let mut i = 0;
-    while i < list.len() {
-        if count <= i {
-            return;
-        }
-        say(b" ");
-        let month = list[i];
-        small(month);
-        i += 1;
+fn months(rt: &impl Print, list: &[u32], count: usize) -> io::Result<()> {
+    say(rt, b" months")?;
+    for month in list.iter().take(count) {
+        say(rt, b" ")?;
+        small(rt, *month)?;
     }
+    Ok(())
 }
 
-fn days(weekdays: &[u32], nths: &[i64], count: usize) {
-    say(b" days");
-    let mut i = 0;
-    while i < weekdays.len() {
-        if count <= i {
-            return;
-        }
-        if nths.len() <= i {
-            return;
-        }
-        say(b" ");
-        let weekday = weekdays[i];
-        small(weekday);
-        say(b":");
-        let z = nths[i];
-        signed(z);
-        i += 1;
+fn days(rt: &impl Print, weekdays: &[u32], nths: &[i64], count: usize) -> io::Result<()> {
+    say(rt, b" days")?;
+    for (weekday, z) in weekdays.iter().zip(nths).take(count) {
+        say(rt, b" ")?;
+        small(rt, *weekday)?;
+        say(rt, b":")?;
+        signed(rt, *z)?;
     }
+    Ok(())
 }
 
-fn lists(rule: Rule) {
-    let weekdays = rule.weekdays;
-    let nths = rule.nths;
-    let dates = rule.dates;
-    let year = rule.months;
-    let positions = rule.positions;
-    days(&weekdays, &nths, rule.days);
-    numbers(b" dates", &dates, rule.datecount);
-    months(&year, rule.monthcount);
-    numbers(b" positions", &positions, rule.positioncount);
+fn lists(rt: &impl Print, rule: Rule) -> io::Result<()> {
+    days(rt, &rule.weekdays, &rule.nths, rule.days)?;
+    numbers(rt, b" dates", &rule.dates, rule.datecount)?;
+    months(rt, &rule.months, rule.monthcount)?;
+    numbers(rt, b" positions", &rule.positions, rule.positioncount)
 }
 
-fn line(kind: &[u8], text: &[u8], ends: &[u32], at: usize)
+fn line(rt: &impl Print, kind: &[u8], text: &[u8], ends: &[u32], at: usize) -> io::Result<()>
     requires { Ends text.now ends.now }
 {
     let read = rule_text::rules::read_rule(text, ends, at);
-    let first = read.fault;
-    if fault::number_of(first) == 0 {
-        let rule = read.rule;
-        say(kind);
-        let rate = rule.frequency;
-        frequency(rate);
-        say(b" interval ");
-        number(rule.interval);
-        say(b" first ");
-        small(rule.first);
-        lists(rule);
-        let last = rule.end;
-        end(last);
-        say(b"\n");
+    if fault::number_of(read.fault) != 0 {
+        return Ok(());
     }
+    let rule = read.rule;
+    say(rt, kind)?;
+    frequency(rt, rule.frequency)?;
+    say(rt, b" interval ")?;
+    number(rt, rule.interval)?;
+    say(rt, b" first ")?;
+    small(rt, rule.first)?;
+    lists(rt, rule)?;
+    end(rt, rule.end)?;
+    say(rt, b"\n")
 }
 
-fn all(kind: &[u8], text: &[u8], ends: &[u32], at: usize)
+fn all(rt: &impl Print, kind: &[u8], text: &[u8], ends: &[u32], at: usize) -> io::Result<()>
     requires { Ends text.now ends.now }
 {
     let mut places = [0usize; 8];
     let n = rule_text::places::rule_places(text, ends, at, &mut places);
-    let mut i: usize = 0;
-    while i < 8 {
-        if n <= i {
-            return;
-        }
-        let place = places[i];
-        line(kind, text, ends, place);
-        i += 1;
+    for place in places.iter().take(n) {
+        line(rt, kind, text, ends, *place)?;
     }
+    Ok(())
 }
 
-pub(crate) fn rules(kind: &[u8], text: &[u8], ends: &[u32], place: Place)
+pub(crate) fn rules(
+    rt: &impl Print,
+    kind: &[u8],
+    text: &[u8],
+    ends: &[u32],
+    place: Place,
+) -> io::Result<()>
     requires { Ends text.now ends.now }
 {
     match place {
-        Place::None => {}
-        Place::At(at) => all(kind, text, ends, at),
+        Place::None => Ok(()),
+        Place::At(at) => all(rt, kind, text, ends, at),
     }
 }
