@@ -14,8 +14,8 @@ refused one, and what keeps a program safe (a sum that fits, an index in range, 
 `rt` keeps nothing of what the prover said, so each edit is tried here once more, over what a check of the crate as it stands proves. Two kinds
 of wrong programs are then tried again, since nothing is known of them yet:
 - The prover does not search for the facts of a function that calls a refused one. It is tried without the wrong programs that it waits for.
-- A condition has its name from its text: `x < 3` is `if-x-lt3`, and `x < 2` in its place is `if-x-lt2`. Where the function's own proof still
-  has the old name, it is tried with the new one there, which changes nothing that is proved. A fact is named as in the wrong program.
+- A condition has its name from its text, and so has a loop: `x < 3` is `if-x-lt3`, and `x < 2` in its place is `if-x-lt2`. Where the function's
+  own proof still has the old name, it is tried with the new one there, which changes nothing that is said. A fact is named as in the wrong program.
 
 What was said is in target/must-fail/CRATE/EDIT/.log, and of the further tries in 1.log and so on beside it.
 
@@ -24,19 +24,17 @@ What was said is in target/must-fail/CRATE/EDIT/.log, and of the further tries i
 --after-ci: the libraries below are those that `rt ci` has just built in this checkout, where nothing was kept before. Else they are built.
 """
 import difflib
-import importlib.machinery
-import importlib.util
-import os
 import pathlib
 import re
 import shutil
-import subprocess
 import sys
 import threading
 
-ROOT = pathlib.Path(__file__).resolve().parent.parent
+import kit
+from kit import ROOT
+
 WAITS = re.compile(r"was not admitted|\d+ declarations? that depends? on ")
-LOST = re.compile(r"has no field|has no `|expected type `tie\.|is not in scope|is no name|takes \d+ arguments?")
+LOST = re.compile(r"has no field|has no `|expected type `tie\.|is not in scope|is no name")
 # The names of the prover's own goals: first those of a promise, then those of safety. In a cycle of calls the function's name stands before them.
 PROMISED = re.compile(r"(.*-)?returns(-.*)?$|.*-requires(-.*)?$|(.*-)?loop-.*-(init|preserved|smaller)(-.*)?$")
 SAFETY = re.compile(
@@ -102,10 +100,15 @@ def files_of(crate, function):
 def renamed(text, names):
     """A proof with other names for conditions and goals."""
     for old, new in names.items():
+        if old.startswith("if-not-") and not new.startswith("if-not-"):
+            # What is known of `x` where `!x` is tested is there by another name than where `x` is.
+            text = re.sub(rf"(?<![\w'-]){re.escape(old)}\.(true|false)-raw(?![\w'-])", rf"{new}.\1", text)
         text = re.sub(rf"(?<![\w'-]){re.escape(old)}(?![\w'-])", new, text)
-        # The places that a condition names.
+        # A condition names places, and a loop its goals.
         if old.startswith("if-"):
-            text = re.sub(rf"(?<=[tThHeE]en-|[lL]se-){re.escape(old[3:])}(?![\w'-])", new[3:], text)
+            text = re.sub(rf"(?<=[Tt]hen-|[Ee]lse-){re.escape(old[3:])}(?![\w'-])", new[3:], text)
+        elif old.startswith("loop-"):
+            text = re.sub(rf"(?<![\w']){re.escape(old)}(?![\w']|-\d)", new, text)
     return text
 
 
@@ -121,8 +124,12 @@ def new_names(crate, program, log):
         for text in lost:
             field = re.search(r"has no field `(if-[^`]*)` \(nearest: ([^)]*)\)", text)
             goal = re.search(r"`goal\.([^`]*)`: module `[^`]*` has no `", text)
+            loop = re.search(r"`goal\.invariant-(loop-[^`]*)`: module `[^`]*` has no `", text)
             if field:
                 old, near = field[1], [it for it in re.findall(r"\.([\w'-]+)", field[2]) if it.startswith("if-")]
+            elif loop:
+                here = re.search(rf"^help: `Given` has no `invariant-{re.escape(loop[1])}`: the names here are ([^;]*);", log, re.M)
+                old, near = loop[1], re.findall(r"`invariant-(loop-[^`]*)`", here[1]) if here else []
             elif goal:
                 asked = re.search(rf"^help: `\w+` has no `{re.escape(goal[1])}`; rattle asks for ([^;]*);", log, re.M)
                 names = re.findall(r"`([^`]*)`", asked[1]) if asked else []
@@ -156,7 +163,8 @@ def verdict(crate, program, log):
     else:
         errors = [it for path in files_of(crate, target) for it in errors_in(path, log)]
         errors += searched(crate, target, log)
-    if any(LOST.search(text) for _, text in errors):
+    # What has no name was not even read.
+    if any(not name or LOST.search(text) for name, text in errors):
         return "refused by its shape"
     names = [name for name, _ in errors]
     if fact and fact not in names:
@@ -167,29 +175,27 @@ def verdict(crate, program, log):
     return None
 
 
-def load_rt():
-    """The command `rt` of the kit as a module: how it applies an edit, and the words that it gives the prover."""
-    page = subprocess.run(["rt", "doc"], capture_output=True, text=True, check=True).stdout.strip()
-    loader = importlib.machinery.SourceFileLoader("rt", f"{os.path.dirname(page)}/bin/rt")
-    made = importlib.util.module_from_spec(importlib.util.spec_from_loader("rt", loader))
-    loader.exec_module(made)
-    return made
-
-
 class Tries:
     """The tries of one crate's edits, over what a check of the crate as it stands proves."""
 
     def __init__(self, rt, crate, edits):
         self.rt, self.crate, self.edits = rt, crate, edits
         self.folder, self.seed, self.left, self.counting = pathlib.Path(crate.folder), None, len(edits), threading.Lock()
+        self.kept, self.faults = {}, []
 
     def begin(self, jobs):
         self.seed = self.rt.seeded(self.crate, ["--jobs", str(jobs)], self.rt.work_for(self.crate))
+        if self.seed:
+            self.kept = self.rt.listing(f"{self.seed}/seed")
+        else:
+            self.faults.append(f"{self.crate.name}: the crate as it stands is not proved")
 
     def end(self):
         with self.counting:
             self.left -= 1
             if not self.left and self.seed:
+                if self.rt.listing(f"{self.seed}/seed") != self.kept:
+                    self.faults.append(f"{self.crate.name}: a try changed what the others began with")
                 shutil.rmtree(self.seed, ignore_errors=True)
 
     def said(self, programs, name):
@@ -217,7 +223,7 @@ class Tries:
         try:
             programs, faults = programs_of(edit)
             if not self.seed:
-                return [f"{self.crate.name}: the crate as it stands is not proved"], len(programs)
+                return faults, len(programs)
             room = ROOT / "target" / "must-fail" / self.crate.name / edit.stem
             shutil.rmtree(room, ignore_errors=True)
             room.mkdir(parents=True)
@@ -249,22 +255,16 @@ class Tries:
 
 
 def main(words):
-    rt = load_rt()
-    rt.rtlib.guarded()
-    after_ci, names = "--after-ci" in words, {it for it in words if not it.startswith("-")}
-    os.chdir(ROOT)
-    crates = [it for it in rt.rtlib.crates_below(str(ROOT)) if not names or it.name in names]
+    rt, names = kit.rt(), {it for it in words if not it.startswith("-")}
+    crates = [it for it in kit.crates() if not names or it.name in names]
     edits = {it.name: sorted(pathlib.Path(it.folder).glob("must-fail/*.edit")) for it in crates}
     crates = [it for it in crates if edits[it.name]]
-    below = list(dict.fromkeys(dep for it in crates for dep in it.below()))
-    # What `rt ci` builds has no stamp: such libraries fit one another, and no others.
-    is_built = after_ci and all(os.path.isdir(it.rlib) and not os.path.exists(f"{os.path.dirname(it.rlib)}/stamp") for it in below)
-    rt.share_work(False)
-    if not is_built and any(it.build_rlib([], anew=False) for it in below):
+    if not kit.builds(crates, "--after-ci" in words):
         sys.exit("refused.py: FAILED: a library is not proved")
-    tasks, results = {}, {}
+    tasks, results, every = {}, {}, []
     for crate in crates:
         tries, lines, need = Tries(rt, crate, edits[crate.name]), crate.count(rb"\n"), rt.need(crate)
+        every.append(tries)
         tasks[crate.name, "seed"] = ([], 0, need, lambda given, jobs, it=tries: it.begin(jobs))
         for edit in edits[crate.name]:
             key = (crate.name, "edits", edit.name)
@@ -272,7 +272,7 @@ def main(words):
             results[key] = None
     given = rt.in_lanes(tasks)
     found = [given[key] for key in results]
-    faults = [fault for some, _ in found for fault in some]
+    faults = [fault for it in every for fault in it.faults] + [fault for some, _ in found for fault in some]
     for fault in faults:
         print(f"refused.py: {fault}")
     print(f"refused.py: {sum(n for _, n in found)} wrong programs in {len(found)} edits, {len(faults)} faults")
