@@ -19,20 +19,22 @@ of wrong programs are then tried again, since nothing is known of them yet:
 
 What was said is in target/must-fail/CRATE/EDIT/.log, and of the further tries in 1.log and so on beside it.
 
-    tests/refused.py [--after-ci] [CRATE ..]
+    tests/refused.py [CRATE ..]
 
---after-ci: the libraries below are those that `rt ci` has just built in this checkout, where nothing was kept before. Else they are built.
+It begins with what `rt check` kept of the crates, as `rt must-fail` does, and else proves them first.
 """
 import difflib
+import importlib.machinery
+import importlib.util
+import os
 import pathlib
 import re
 import shutil
+import subprocess
 import sys
 import threading
 
-import kit
-from kit import ROOT
-
+ROOT = pathlib.Path(__file__).resolve().parent.parent
 WAITS = re.compile(r"was not admitted|\d+ declarations? that depends? on ")
 LOST = re.compile(r"has no field|has no `|expected type `tie\.|is not in scope|is no name")
 # The names of the prover's own goals: first those of a promise, then those of safety. In a cycle of calls the function's name stands before them.
@@ -175,6 +177,17 @@ def verdict(crate, program, log):
     return None
 
 
+def load_rt():
+    """The command `rt` of the kit as a module: how it applies an edit, and the words that it gives the prover."""
+    page = subprocess.run(["rt", "doc"], capture_output=True, text=True, check=True).stdout.strip()
+    loader = importlib.machinery.SourceFileLoader("rt", f"{os.path.dirname(page)}/bin/rt")
+    made = importlib.util.module_from_spec(importlib.util.spec_from_loader("rt", loader))
+    loader.exec_module(made)
+    made.rtlib.guarded()
+    made.share_work(False)
+    return made
+
+
 class Tries:
     """The tries of one crate's edits, over what a check of the crate as it stands proves."""
 
@@ -255,11 +268,11 @@ class Tries:
 
 
 def main(words):
-    rt, names = kit.rt(), {it for it in words if not it.startswith("-")}
-    crates = [it for it in kit.crates() if not names or it.name in names]
+    rt, names = load_rt(), set(words)
+    crates = [it for it in rt.rtlib.crates_below(str(ROOT)) if not names or it.name in names]
     edits = {it.name: sorted(pathlib.Path(it.folder).glob("must-fail/*.edit")) for it in crates}
     crates = [it for it in crates if edits[it.name]]
-    if not kit.builds(crates, "--after-ci" in words):
+    if any(dep.build_rlib([], anew=False) for it in crates for dep in it.below()):
         sys.exit("refused.py: FAILED: a library is not proved")
     tasks, results, every = {}, {}, []
     for crate in crates:
