@@ -1,5 +1,4 @@
 -- `digits::four` meets its contract.
-use borrow.Author.Rules.{rules}
 use Rattle.digits.specs.Digits.{four_at}
 use Rattle.digits.proofs.four.Goals as goal
 

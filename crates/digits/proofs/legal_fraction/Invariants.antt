@@ -1,12 +1,9 @@
 -- `digits::legal_fraction` meets its contract: what is left to judge from i on, with the digit before it, is the same as at the start.
 use Prim.Native.Nat.{◌-◌}
-use mathlib.Core.Path.{◌≡◌, sym, ◌∙◌}
+use mathlib.Core.Path.{◌≡◌}
 use lib.ListN.{length, drop}
-use borrow.Author.Rules.{rules}
-use borrow.Author.Tests.{not-true, not-false}
 use Rattle.digits.specs.Fraction.{legal_fraction}
 use Rattle.digits.specs.Inner.Judged.{judged}
-use Rattle.digits.proofs.Laws.{judged-legal, judged-turn, judged-end}
 use Rattle.digits.proofs.legal_fraction.Given as goal
 
 abbrev pub invariant-loop-i : goal.invariant-loop-i

@@ -1,6 +1,5 @@
 -- `digits::two` meets its contract: a byte is below 256, so no sum on the way is large.
 use native.Mathlib.Omega.{arith}
-use borrow.Author.Rules.{rules}
 use Rattle.digits.specs.Digits.{two_at}
 use Rattle.digits.proofs.two.Goals as goal
 

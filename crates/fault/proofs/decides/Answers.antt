@@ -1,7 +1,6 @@
 -- `decides` meets its contract.
 use Rattle.fault.specs.Fault.{decides}
 use borrow.Author.Tests.{le-ltb, lt-ltb}
-use borrow.Author.Rules.{rules}
 use Rattle.fault.proofs.decides.Goals as goal
 
 pub returns-then-x-y : goal.returns-then-x-y

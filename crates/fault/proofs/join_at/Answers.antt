@@ -3,7 +3,6 @@ use mathlib.Core.Path.{sym}
 use Rattle.fault.specs.Fault.{faults_at, first}
 use Rattle.fault.proofs.Laws.{lower-none, fault-here}
 use borrow.Author.Tests.{eq-eqb, ne_eqb}
-use borrow.Author.Rules.{rules}
 use Rattle.fault.proofs.join_at.Goals as goal
 
 pub returns-then-number-eq0 : goal.returns-then-number-eq0

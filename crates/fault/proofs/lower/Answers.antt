@@ -1,6 +1,5 @@
 -- `lower` meets its contract.
 use Rattle.fault.specs.Fault.{lower}
-use borrow.Author.Rules.{rules}
 use Rattle.fault.proofs.lower.Goals as goal
 
 pub returns-then-decides : goal.returns-then-decides

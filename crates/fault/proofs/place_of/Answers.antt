@@ -1,7 +1,6 @@
 -- `place_of` meets its contract.
 use Rattle.fault.specs.Fault.{is_wrong}
 use borrow.Author.Tests.{le-leb, lt-leb}
-use borrow.Author.Rules.{rules}
 use Rattle.fault.proofs.place_of.Goals as goal
 
 pub returns-then-n-ge20 : goal.returns-then-n-ge20

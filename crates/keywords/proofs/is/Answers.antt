@@ -1,10 +1,7 @@
 -- `keywords::is` meets its contract: what is left to compare from i on is the same as at the start.
 use Prim.Native.Nat.{◌-◌}
-use mathlib.Core.Path.{◌≡◌, refl, sym}
-use lib.ListN.{length, drop}
-use borrow.Author.Rules.{rules}
+use mathlib.Core.Path.{sym}
 use borrow.Author.Tests.{eq-eqb, ne_eqb}
-use Rattle.json_walk.specs.Strings.{same}
 use Rattle.keywords.proofs.Laws.{same_start, same_turn, same_end, same-apart}
 use Rattle.keywords.proofs.is.Goals as goal
 

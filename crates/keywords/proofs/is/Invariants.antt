@@ -1,11 +1,8 @@
 -- `keywords::is` meets its contract: what is left to compare from i on is the same as at the start.
 use Prim.Native.Nat.{◌-◌}
-use mathlib.Core.Path.{◌≡◌, refl, sym}
+use mathlib.Core.Path.{◌≡◌}
 use lib.ListN.{length, drop}
-use borrow.Author.Rules.{rules}
-use borrow.Author.Tests.{eq-eqb, ne_eqb}
 use Rattle.json_walk.specs.Strings.{same}
-use Rattle.keywords.proofs.Laws.{same_start, same_turn, same_end, same-apart}
 use Rattle.keywords.proofs.is.Given as goal
 
 abbrev pub invariant-loop-i : goal.invariant-loop-i

@@ -1,11 +1,8 @@
 -- `little_endian::put` meets its contract. The loop's invariant: what is left to be stored makes of the buffer what the whole would have made
 -- of it at entry.
-use Prim.Native.Nat.{◌+◌, ◌≤◌}
-use mathlib.Core.Path.{◌≡◌, refl, sym, ◌∙◌}
+use mathlib.Core.Path.{refl, sym, ◌∙◌}
 use native.Mathlib.Omega.{arith}
-use lib.ListN.{length, length-set}
-use lib.Seq.{sets}
-use Rattle.little_endian.specs.Bytes.{bytes_of}
+use lib.ListN.{length-set}
 use Rattle.little_endian.proofs.ByteLaws.{sets_more, sets-none}
 use Rattle.little_endian.proofs.put.Goals as goal
 
@@ -29,12 +26,12 @@ loop-left-smaller c = omega arith
 
 pub loop-left-preserved : goal.loop-left-preserved
 loop-left-preserved c = let l = c.loop-left in (
-      simp length-set (omega arith),
-      (
-        simp length-set (omega arith),
-        sym (sets_more l.buf l.i l.left l.rest c.loop-left-test.true) ∙ l.invariant.1.1,
-      ),
-    )
+  simp length-set (omega arith),
+  (
+    simp length-set (omega arith),
+    sym (sets_more l.buf l.i l.left l.rest c.loop-left-test.true) ∙ l.invariant.1.1,
+  ),
+)
 
 pub shape_of-buf : goal.shape_of-buf
 shape_of-buf c = c.loop-left.invariant.1.0

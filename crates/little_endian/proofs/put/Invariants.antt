@@ -1,12 +1,10 @@
 -- `little_endian::put` meets its contract. The loop's invariant: what is left to be stored makes of the buffer what the whole would have made
 -- of it at entry.
 use Prim.Native.Nat.{◌+◌, ◌≤◌}
-use mathlib.Core.Path.{◌≡◌, refl, sym, ◌∙◌}
-use native.Mathlib.Omega.{arith}
-use lib.ListN.{length, length-set}
+use mathlib.Core.Path.{◌≡◌}
+use lib.ListN.{length}
 use lib.Seq.{sets}
 use Rattle.little_endian.specs.Bytes.{bytes_of}
-use Rattle.little_endian.proofs.ByteLaws.{sets_more, sets-none}
 use Rattle.little_endian.proofs.put.Given as goal
 
 abbrev pub invariant-loop-left : goal.invariant-loop-left

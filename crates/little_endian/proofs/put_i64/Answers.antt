@@ -4,7 +4,6 @@ use mathlib.Core.Path.{◌≡◌, ◌∙◌, ap}
 use lib.Seq.{sets}
 use mir.Facts.{to_z-of_z}
 use Rattle.little_endian.specs.Bytes.{bytes_of, twos}
-use borrow.Author.Rules.{rules}
 use Rattle.little_endian.proofs.put_i64.Goals as goal
 
 pub returns : goal.returns

@@ -1,5 +1,4 @@
 -- `little_endian::twos` meets its contract, by the sign.
-use borrow.Author.Rules.{rules}
 use native.Mathlib.Omega.{arith}
 use mathlib.Core.Path.{◌≡◌, ◌∙◌}
 use mir.Facts.{to_z-of_z}

@@ -1,5 +1,4 @@
 -- `signed::difference` meets its contract: both counts fit an i64, and so does what lies between them.
-use borrow.Author.Rules.{rules}
 use Rattle.signed.proofs.Leaves.{difference-fits, difference-result}
 use Rattle.signed.proofs.difference.Goals as goal
 

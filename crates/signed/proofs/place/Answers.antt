@@ -1,5 +1,4 @@
 -- `signed::place` meets its contract: each return is a case of the definition by the parts of the number.
-use borrow.Author.Rules.{rules}
 use native.Mathlib.Omega.{arith}
 use mathlib.Core.Path.{◌∙◌}
 use Rattle.signed.specs.Parts.{pos_part, neg_part}

@@ -11,7 +11,6 @@ use Rattle.zone.proofs.PassLaws.{both, and-false}
 use Rattle.zone.proofs.Machine.{again}
 use Rattle.zone.specs.Table.{within, all_within, valid_table}
 use borrow.Author.Tests.{eq-eqb, le-leb, lt-leb, ne_eqb, not-false, not-true}
-use borrow.Author.Rules.{rules}
 use Rattle.zone.proofs.valid.Goals as goal
 
 -- what the calls answer of the initial offset as it is passed, they answer of it
@@ -32,19 +31,19 @@ returns-then-instants-gt1024 c = rw (lt-leb _ _ c.if-instants-gt1024.true)
 pub returns-then-instants-offsets : goal.returns-then-instants-offsets
 unfolding valid_table
 returns-then-instants-offsets c = rw (
-      le-leb _ _ c.if-instants-gt1024.false,
-      ne_eqb _ _ c.if-instants-offsets.true,
-    )
+  le-leb _ _ c.if-instants-gt1024.false,
+  ne_eqb _ _ c.if-instants-offsets.true,
+)
 
 pub returns-then-not-increasing : goal.returns-then-not-increasing
 unfolding valid_table
 returns-then-not-increasing c = rw (
-      le-leb _ _ c.if-instants-gt1024.false,
-      eq-eqb _ _ c.if-instants-offsets.false,
-      ← c.increasing.ensures,
-      not-true c.increasing.result c.if-not-increasing.true-raw,
-      and-false (all_within 1099511627776 c.args.instants.now),
-    )
+  le-leb _ _ c.if-instants-gt1024.false,
+  eq-eqb _ _ c.if-instants-offsets.false,
+  ← c.increasing.ensures,
+  not-true c.increasing.result c.if-not-increasing.true-raw,
+  and-false (all_within 1099511627776 c.args.instants.now),
+)
 
 pub ends_within-requires : goal.ends_within-requires
 ends_within-requires c = true-as c.increasing.ensures c.if-not-increasing.false-raw
@@ -52,26 +51,26 @@ ends_within-requires c = true-as c.increasing.ensures c.if-not-increasing.false-
 pub returns-then-not-ends_within : goal.returns-then-not-ends_within
 unfolding valid_table
 returns-then-not-ends_within c = rw (
-      le-leb _ _ c.if-instants-gt1024.false,
-      eq-eqb _ _ c.if-instants-offsets.false,
-      ← c.increasing.ensures,
-      not-false c.increasing.result c.if-not-increasing.false-raw,
-      ← c.ends_within.ensures,
-      not-true c.ends_within.result c.if-not-ends_within.true-raw,
-    )
+  le-leb _ _ c.if-instants-gt1024.false,
+  eq-eqb _ _ c.if-instants-offsets.false,
+  ← c.increasing.ensures,
+  not-false c.increasing.result c.if-not-increasing.false-raw,
+  ← c.ends_within.ensures,
+  not-true c.ends_within.result c.if-not-ends_within.true-raw,
+)
 
 pub returns-then-not-within : goal.returns-then-not-within
 unfolding valid_table
 returns-then-not-within c = rw (
-      le-leb _ _ c.if-instants-gt1024.false,
-      eq-eqb _ _ c.if-instants-offsets.false,
-      ← c.increasing.ensures,
-      not-false c.increasing.result c.if-not-increasing.false-raw,
-      ← c.ends_within.ensures,
-      not-false c.ends_within.result c.if-not-ends_within.false-raw,
-      ← given-initial _ c.ranges.initial _ c.within.ensures,
-      not-true c.within.result c.if-not-within.true-raw,
-    )
+  le-leb _ _ c.if-instants-gt1024.false,
+  eq-eqb _ _ c.if-instants-offsets.false,
+  ← c.increasing.ensures,
+  not-false c.increasing.result c.if-not-increasing.false-raw,
+  ← c.ends_within.ensures,
+  not-false c.ends_within.result c.if-not-ends_within.false-raw,
+  ← given-initial _ c.ranges.initial _ c.within.ensures,
+  not-true c.within.result c.if-not-within.true-raw,
+)
 
 pub in_order-requires : goal.in_order-requires
 in_order-requires c = record {
@@ -83,13 +82,13 @@ in_order-requires c = record {
 pub returns : goal.returns
 unfolding valid_table
 returns c = rw (
-      le-leb _ _ c.if-instants-gt1024.false,
-      eq-eqb _ _ c.if-instants-offsets.false,
-      ← c.increasing.ensures,
-      not-false c.increasing.result c.if-not-increasing.false-raw,
-      ← c.ends_within.ensures,
-      not-false c.ends_within.result c.if-not-ends_within.false-raw,
-      ← given-initial _ c.ranges.initial _ c.within.ensures,
-      not-false c.within.result c.if-not-within.false-raw,
-      ← given_both _ c.ranges.initial _ _ _ c.in_order.ensures,
-    )
+  le-leb _ _ c.if-instants-gt1024.false,
+  eq-eqb _ _ c.if-instants-offsets.false,
+  ← c.increasing.ensures,
+  not-false c.increasing.result c.if-not-increasing.false-raw,
+  ← c.ends_within.ensures,
+  not-false c.ends_within.result c.if-not-ends_within.false-raw,
+  ← given-initial _ c.ranges.initial _ c.within.ensures,
+  not-false c.within.result c.if-not-within.false-raw,
+  ← given_both _ c.ranges.initial _ _ _ c.in_order.ensures,
+)

@@ -1,6 +1,5 @@
 -- `calendar::days::date_of` meets its contract: it is the date whose day number is the day, and there is only one.
 use Rattle.calendar.proofs.WithinLaws.{rest-within, made-date}
-use borrow.Author.Rules.{rules}
 use Rattle.calendar.proofs.days.date_of.Goals as goal
 
 pub month_in_year-month-requires : goal.month_in_year-month-requires

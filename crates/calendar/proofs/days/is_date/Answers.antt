@@ -1,7 +1,6 @@
 -- `calendar::days::is_date` meets its contract: the definition's tests in its order.
 use Rattle.gregorian.specs.Days.{is_date}
 use borrow.Author.Tests.{le-leb, lt-leb}
-use borrow.Author.Rules.{rules}
 use Rattle.calendar.proofs.days.is_date.Goals as goal
 
 pub returns-then-year-lt1600 : goal.returns-then-year-lt1600

@@ -1,6 +1,5 @@
 -- `calendar::days::month_in_year` meets its contract.
 use Rattle.calendar.proofs.WithinLaws.{month-asks, month-here, month-after}
-use borrow.Author.Rules.{rules}
 use Rattle.calendar.proofs.days.month_in_year.Goals as goal
 
 pub month_start-requires : goal.month_start-requires

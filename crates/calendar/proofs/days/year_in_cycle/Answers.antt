@@ -1,6 +1,5 @@
 -- `calendar::days::year_in_cycle` meets its contract.
 use Rattle.calendar.proofs.WithinLaws.{year-here, year-next}
-use borrow.Author.Rules.{rules}
 use Rattle.calendar.proofs.days.year_in_cycle.Goals as goal
 
 pub returns-then-first_in_cycle-r : goal.returns-then-first_in_cycle-r

@@ -6,7 +6,6 @@ use Rattle.signed.proofs.Parts.{passed}
 use Rattle.signed.proofs.PlaceLaws.{place-most}
 use Rattle.gregorian.proofs.MonthLaws.{month-most}
 use Rattle.gregorian.specs.Month.{month_day}
-use borrow.Author.Rules.{rules}
 use Rattle.calendar.proofs.month.month_day.Goals as goal
 
 pub overflow_cast-result : goal.overflow_cast-result

@@ -3,7 +3,6 @@ use Rattle.gregorian.specs.Month.{length_in}
 use Rattle.gregorian.proofs.MonthLaws.{month-none, month-february, month-other}
 use mathlib.Core.Bool.{true, false}
 use mathlib.Core.Path.{sym, ◌∙◌}
-use borrow.Author.Rules.{rules}
 use Rattle.calendar.proofs.month.month_length.Goals as goal
 
 pub returns-then-month-gt12 : goal.returns-then-month-gt12

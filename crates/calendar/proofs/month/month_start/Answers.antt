@@ -4,9 +4,6 @@ use mathlib.Core.Path.{sym, ap, ◌∙◌}
 use native.Mathlib.Omega.{arith}
 use Rattle.gregorian.specs.Month.{start_in, length_in}
 use Rattle.gregorian.proofs.MonthLaws.{start-rule, start-most, month-early, month-leap, month-common}
-use Rattle.gregorian.specs.Month.{month_start}
-use borrow.Author.Tests.{lt-ltb}
-use borrow.Author.Rules.{rules}
 use Rattle.calendar.proofs.month.month_start.Goals as goal
 
 pub returns-then-month-lt3 : goal.returns-then-month-lt3

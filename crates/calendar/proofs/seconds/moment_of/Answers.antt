@@ -3,7 +3,6 @@ use native.Mathlib.Omega.{arith}
 use Rattle.signed.specs.Parts.{pos_part, neg_part}
 use Rattle.signed.proofs.Parts.{passed}
 use Rattle.gregorian.proofs.SecondLaws.{day-since, second-since}
-use borrow.Author.Rules.{rules}
 use Rattle.calendar.proofs.seconds.moment_of.Goals as goal
 
 pub overflow_add-since : goal.overflow_add-since

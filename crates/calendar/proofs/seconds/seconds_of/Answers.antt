@@ -2,7 +2,6 @@
 use mathlib.Core.Path.{sym, ◌∙◌}
 use Rattle.signed.proofs.Parts.{back}
 use Rattle.gregorian.proofs.SecondLaws.{counted}
-use borrow.Author.Rules.{rules}
 use Rattle.calendar.proofs.seconds.seconds_of.Goals as goal
 
 pub returns : goal.returns

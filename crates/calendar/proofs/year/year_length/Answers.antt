@@ -1,5 +1,4 @@
 use Rattle.gregorian.specs.Year.{year_length}
-use borrow.Author.Rules.{rules}
 use Rattle.calendar.proofs.year.year_length.Reads as reads
 use Rattle.calendar.proofs.year.year_length.Lts as lts
 use Rattle.calendar.proofs.year.is_leap.Reads as is-leap-reads

@@ -1,10 +1,9 @@
 -- `calendar::year::year_start` meets its contract: whole cycles of 400 years, and the table for the rest.
 use native.Mathlib.Omega.{arith}
-use mathlib.Core.Path.{◌≡◌, ap, ◌∙◌}
-use Prim.Native.Nat.{ℕ, ◌+◌, ◌*◌, ◌-◌, ◌/◌, ◌%◌}
+use mathlib.Core.Path.{◌≡◌}
+use Prim.Native.Nat.{◌+◌, ◌*◌, ◌-◌, ◌/◌, ◌%◌}
 use Rattle.gregorian.specs.Year.{first_of_year}
 use Rattle.gregorian.proofs.YearLaws.{first-cycle, first-most}
-use borrow.Author.Rules.{rules}
 use Rattle.calendar.proofs.year.year_start.Reads as reads
 use Rattle.calendar.proofs.year.year_start.Lts as lts
 use Rattle.calendar.proofs.year.first_in_cycle.Reads as first-in-cycle-reads

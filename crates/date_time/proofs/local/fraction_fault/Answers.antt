@@ -2,7 +2,6 @@
 use Rattle.date_time.proofs.Laws.{part-rest}
 use Rattle.date_time.specs.Local.{fraction_fault}
 use borrow.Author.Tests.{eq-eqb, ne_eqb}
-use borrow.Author.Rules.{rules}
 use Rattle.date_time.proofs.local.fraction_fault.Goals as goal
 
 pub returns-then-byte-ne46 : goal.returns-then-byte-ne46

@@ -1,7 +1,6 @@
 -- `date_time::local::is_local` meets its contract: the definition's tests in its order.
 use Rattle.date_time.specs.Local.{is_local}
 use borrow.Author.Tests.{le-leb, lt-leb, not-false, not-true}
-use borrow.Author.Rules.{rules}
 use Rattle.date_time.proofs.local.is_local.Goals as goal
 
 -- OLD

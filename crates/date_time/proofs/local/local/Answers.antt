@@ -3,7 +3,6 @@ use mathlib.Core.Path.{sym, ◌∙◌}
 use Rattle.date_time.proofs.Laws.{local-date}
 use Rattle.date_time.specs.Local.{local_of}
 use borrow.Author.Tests.{eq-eqb, ne_eqb, not-false, not-true}
-use borrow.Author.Rules.{rules}
 use Rattle.date_time.proofs.local.local.Goals as goal
 
 pub returns-then-not-is_local : goal.returns-then-not-is_local

@@ -1,6 +1,5 @@
 -- `date_time::local::seconds` meets its contract: the definition's tests in its order.
 use Rattle.date_time.specs.Local.{seconds_at}
-use borrow.Author.Rules.{rules}
 use Rattle.date_time.proofs.local.seconds.Goals as goal
 
 pub day_number-day-requires : goal.day_number-day-requires

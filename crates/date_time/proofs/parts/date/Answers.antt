@@ -1,7 +1,6 @@
 -- `date_time::parts::date` meets its contract: the definition's tests in its order.
 use Rattle.date_time.specs.Parts.{date_at}
 use Rattle.digits.specs.Digits.{two_at}
-use borrow.Author.Rules.{rules}
 use Rattle.date_time.proofs.parts.date.Goals as goal
 
 pub returns : goal.returns

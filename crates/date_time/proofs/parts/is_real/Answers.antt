@@ -1,7 +1,6 @@
 -- `date_time::parts::is_real` meets its contract: the definition's tests in its order.
 use Rattle.date_time.specs.Parts.{is_real}
 use borrow.Author.Tests.{le-ltb, lt-ltb}
-use borrow.Author.Rules.{rules}
 use Rattle.date_time.proofs.parts.is_real.Goals as goal
 
 pub returns-then-day-lt1 : goal.returns-then-day-lt1

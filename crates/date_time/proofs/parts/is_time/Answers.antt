@@ -2,7 +2,6 @@
 use Rattle.date_time.specs.Parts.{is_time}
 use Rattle.digits.specs.Digits.{two_at}
 use borrow.Author.Tests.{le-ltb, lt-ltb}
-use borrow.Author.Rules.{rules}
 use Rattle.date_time.proofs.parts.is_time.Goals as goal
 
 pub returns-then-two-gt23 : goal.returns-then-two-gt23

@@ -1,7 +1,6 @@
 -- `date_time::parts::second_of_day` meets its contract: the definition's tests in its order.
 use Rattle.date_time.specs.Parts.{second_of_day}
 use Rattle.digits.specs.Digits.{two_at}
-use borrow.Author.Rules.{rules}
 use Rattle.date_time.proofs.parts.second_of_day.Goals as goal
 
 pub returns : goal.returns

@@ -1,10 +1,7 @@
 -- `date_time::picture::follows` meets its contract: what is left to compare from i on is the same as at the start.
-use Prim.Native.Nat.{◌-◌, ◌≤◌}
-use mathlib.Core.Path.{◌≡◌, refl, sym}
-use lib.ListN.{length, drop}
-use borrow.Author.Rules.{rules}
+use Prim.Native.Nat.{◌-◌}
+use mathlib.Core.Path.{refl, sym}
 use borrow.Author.Tests.{not-true, not-false}
-use Rattle.date_time.specs.Picture.{follows}
 use Rattle.date_time.proofs.Laws.{follows-turn, follows-end, follows-short}
 use Rattle.date_time.proofs.picture.follows.Goals as goal
 

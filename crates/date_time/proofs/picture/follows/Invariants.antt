@@ -1,11 +1,8 @@
 -- `date_time::picture::follows` meets its contract: what is left to compare from i on is the same as at the start.
 use Prim.Native.Nat.{◌-◌, ◌≤◌}
-use mathlib.Core.Path.{◌≡◌, refl, sym}
+use mathlib.Core.Path.{◌≡◌}
 use lib.ListN.{length, drop}
-use borrow.Author.Rules.{rules}
-use borrow.Author.Tests.{not-true, not-false}
 use Rattle.date_time.specs.Picture.{follows}
-use Rattle.date_time.proofs.Laws.{follows-turn, follows-end, follows-short}
 use Rattle.date_time.proofs.picture.follows.Given as goal
 
 abbrev pub invariant-loop-i : goal.invariant-loop-i

@@ -1,7 +1,6 @@
 -- `date_time::picture::meets` meets its contract: the definition's tests in its order.
 use Rattle.date_time.specs.Picture.{meets}
 use borrow.Author.Tests.{eq-eqb, ne_eqb}
-use borrow.Author.Rules.{rules}
 use Rattle.date_time.proofs.picture.meets.Goals as goal
 
 pub returns-then-p-eq48 : goal.returns-then-p-eq48

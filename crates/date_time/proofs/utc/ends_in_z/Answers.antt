@@ -1,7 +1,6 @@
 -- `date_time::utc::ends_in_z` meets its contract: the definition's tests in its order.
 use Rattle.date_time.specs.Utc.{ends_in_z}
 use borrow.Author.Tests.{eq-eqb, le-ltb, lt-ltb, ne_eqb}
-use borrow.Author.Rules.{rules}
 use Rattle.date_time.proofs.utc.ends_in_z.Goals as goal
 
 pub returns-then-n-eq20 : goal.returns-then-n-eq20

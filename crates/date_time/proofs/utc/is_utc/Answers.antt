@@ -1,7 +1,6 @@
 -- `date_time::utc::is_utc` meets its contract: the definition's tests in its order.
 use Rattle.date_time.specs.Utc.{is_utc}
 use borrow.Author.Tests.{not-false, not-true}
-use borrow.Author.Rules.{rules}
 use Rattle.date_time.proofs.utc.is_utc.Goals as goal
 
 -- OLD

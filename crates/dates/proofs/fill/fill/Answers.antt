@@ -1,5 +1,5 @@
 -- `dates::fill::fill` meets its contract: the rows of the excluded rules are all those after the rules' own.
-use Prim.Native.Nat.{ℕ, ◌-◌, ◌≤◌}
+use Prim.Native.Nat.{◌-◌}
 use mathlib.Core.Bool.{Bool}
 use mathlib.Core.List.{List}
 use mathlib.Core.Path.{◌≡◌, sym, subst, ◌∙◌, ap}

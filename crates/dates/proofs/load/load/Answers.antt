@@ -2,12 +2,9 @@
 use lib.ListN.{length, take, drop}
 use Prim.Native.Nat.{◌+◌, ◌-◌, ◌*◌}
 use Rattle.matcher.specs.Inner.Layout.{row_size}
-use Rattle.dates.proofs.LoadLaws.{row-added, rows_kept, row_back}
+use Rattle.dates.proofs.LoadLaws.{row-added}
 use Rattle.track.proofs.PlainLaws.{part-size}
-use lib.Seq.{length-take-le}
 use native.Mathlib.Omega.{arith}
-use mathlib.Core.Path.{◌≡◌, sym, ap, ◌∙◌, subst}
-use borrow.Author.Rules.{rules}
 use Rattle.dates.proofs.load.load.Goals as goal
 
 pub returns : goal.returns

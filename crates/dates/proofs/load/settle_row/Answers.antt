@@ -1,10 +1,8 @@
 -- `dates::load::settle_row` meets its contract.
 use Rattle.track.specs.Inner.Settle.{SettledBy}
-use lib.ListN.{replicate}
-use mathlib.Core.Path.{◌≡◌, sym, ap, ◌∙◌, subst}
+use mathlib.Core.Path.{subst}
 use mathlib.Core.List.{List}
 use mathlib.Core.Bool.{Bool}
-use borrow.Author.Rules.{rules}
 use Rattle.dates.proofs.load.settle_row.Goals as goal
 
 pub returns : goal.returns

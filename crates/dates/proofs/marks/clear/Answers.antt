@@ -1,10 +1,9 @@
 -- `dates::marks::clear` meets its contract.
 use mathlib.Core.Bool.{false}
-use Rattle.dates.proofs.MarkLaws.{ClearAt, clear-starts, clear-goes-on, clear-ends}
-use lib.ListN.{length, length-set}
+use Rattle.dates.proofs.MarkLaws.{clear-starts, clear-goes-on, clear-ends}
+use lib.ListN.{length-set}
 use native.Mathlib.Omega.{arith}
 use Prim.Native.Nat.{◌-◌}
-use borrow.Author.Rules.{rules}
 use Rattle.dates.proofs.marks.clear.Goals as goal
 
 pub loop-i-init : goal.loop-i-init

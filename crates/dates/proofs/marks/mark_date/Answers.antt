@@ -1,7 +1,6 @@
 -- `dates::marks::mark_date` meets its contract.
 use Rattle.dates.proofs.MarkLaws.{date-not-counted, date-not-timed, date-early, date-late, date-here}
 use borrow.Author.Tests.{not-true, not-false}
-use borrow.Author.Rules.{rules}
 use Rattle.dates.proofs.marks.mark_date.Goals as goal
 
 pub returns-then-not-counted : goal.returns-then-not-counted

@@ -1,9 +1,6 @@
 -- `dates::marks::mark_ids` meets its contract.
-use Rattle.dates.proofs.MarkLaws.{IdsAt, ids-start, ids-go-on, ids-end}
-use lib.ListN.{length}
-use native.Mathlib.Omega.{arith}
+use Rattle.dates.proofs.MarkLaws.{ids-start, ids-go-on, ids-end}
 use Prim.Native.Nat.{◌-◌}
-use borrow.Author.Rules.{rules}
 use Rattle.dates.proofs.marks.mark_ids.Goals as goal
 
 pub loop-i-init : goal.loop-i-init

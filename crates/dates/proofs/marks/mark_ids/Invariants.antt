@@ -1,9 +1,7 @@
 -- `dates::marks::mark_ids` meets its contract.
-use Rattle.dates.proofs.MarkLaws.{IdsAt, ids-start, ids-go-on, ids-end}
+use Rattle.dates.proofs.MarkLaws.{IdsAt}
 use lib.ListN.{length}
-use native.Mathlib.Omega.{arith}
 use Prim.Native.Nat.{◌-◌}
-use borrow.Author.Rules.{rules}
 use Rattle.dates.proofs.marks.mark_ids.Given as goal
 
 abbrev pub invariant-loop-i : goal.invariant-loop-i

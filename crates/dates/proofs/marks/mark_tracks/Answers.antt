@@ -1,11 +1,9 @@
 -- `dates::marks::mark_tracks` meets its contract.
-use Rattle.dates.proofs.TrackLaws.{marking, row_is, tracks-length, track-at, EachAt, each-starts, each-goes-on, each-ends, weeks-at}
+use Rattle.dates.proofs.TrackLaws.{marking, row_is, each-starts, each-goes-on, each-ends}
 use lib.Seq.{get_or-take, length-take-le}
-use lib.ListN.{length, take}
 use native.Mathlib.Omega.{arith}
-use mathlib.Core.Path.{◌≡◌, sym, ◌∙◌, ap, refl}
+use mathlib.Core.Path.{sym}
 use Prim.Native.Nat.{◌-◌}
-use borrow.Author.Rules.{rules}
 use Rattle.dates.proofs.marks.mark_tracks.Goals as goal
 
 pub loop-i-init : goal.loop-i-init

@@ -1,11 +1,7 @@
 -- `dates::marks::mark_tracks` meets its contract.
-use Rattle.dates.proofs.TrackLaws.{marking, row_is, tracks-length, track-at, EachAt, each-starts, each-goes-on, each-ends, weeks-at}
-use lib.Seq.{get_or-take, length-take-le}
-use lib.ListN.{length, take}
-use native.Mathlib.Omega.{arith}
-use mathlib.Core.Path.{◌≡◌, sym, ◌∙◌, ap, refl}
+use Rattle.dates.proofs.TrackLaws.{EachAt}
+use lib.ListN.{take}
 use Prim.Native.Nat.{◌-◌}
-use borrow.Author.Rules.{rules}
 use Rattle.dates.proofs.marks.mark_tracks.Given as goal
 
 abbrev pub invariant-loop-i : goal.invariant-loop-i

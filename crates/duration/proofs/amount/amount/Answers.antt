@@ -1,12 +1,9 @@
 -- `duration::amount::amount` meets its contract: from i on, with n before it, the number is the same as from the start, as far as it is counted.
-use Prim.Native.Nat.{◌-◌, ◌≤◌}
-use mathlib.Core.Path.{◌≡◌, refl}
+use Prim.Native.Nat.{◌-◌}
+use mathlib.Core.Path.{refl}
 use native.Mathlib.Omega.{arith}
-use lib.ListN.{length, drop}
-use borrow.Author.Rules.{rules}
 use borrow.Author.Tests.{eq-eqb, ne_eqb}
-use Rattle.duration.specs.Amount.{before, amount_of}
-use Rattle.duration.specs.Inner.Capped.{enough, capped}
+use Rattle.duration.specs.Amount.{amount_of}
 use Rattle.duration.proofs.Laws.{capped-before, before-turn, before-end, capped_same}
 use Rattle.duration.proofs.amount.amount.Goals as goal
 

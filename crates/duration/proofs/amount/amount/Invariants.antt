@@ -1,13 +1,9 @@
 -- `duration::amount::amount` meets its contract: from i on, with n before it, the number is the same as from the start, as far as it is counted.
 use Prim.Native.Nat.{◌-◌, ◌≤◌}
-use mathlib.Core.Path.{◌≡◌, refl}
-use native.Mathlib.Omega.{arith}
+use mathlib.Core.Path.{◌≡◌}
 use lib.ListN.{length, drop}
-use borrow.Author.Rules.{rules}
-use borrow.Author.Tests.{eq-eqb, ne_eqb}
 use Rattle.duration.specs.Amount.{before, amount_of}
 use Rattle.duration.specs.Inner.Capped.{enough, capped}
-use Rattle.duration.proofs.Laws.{capped-before, before-turn, before-end, capped_same}
 use Rattle.duration.proofs.amount.amount.Given as goal
 
 abbrev pub invariant-loop-i : goal.invariant-loop-i

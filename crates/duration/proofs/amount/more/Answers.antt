@@ -1,5 +1,4 @@
 -- `duration::amount::more` meets its contract.
-use borrow.Author.Rules.{rules}
 use Rattle.duration.proofs.amount.more.Goals as goal
 
 pub returns : goal.returns

@@ -1,7 +1,6 @@
 -- `duration::length::days` meets its contract: capped numbers give the capped sum.
 use Rattle.duration.specs.Length.{days_of}
 use Rattle.duration.proofs.Laws.{capped-days}
-use borrow.Author.Rules.{rules}
 use Rattle.duration.proofs.length.days.Goals as goal
 
 pub returns : goal.returns

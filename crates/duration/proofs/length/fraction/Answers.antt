@@ -1,9 +1,7 @@
 -- `duration::length::fraction` meets its contract: within the limit the numbers are not capped.
 use borrow.Author.Tests.{le-leb, lt-leb, not-true, not-false}
-use native.Mathlib.Omega.{arith}
 use Rattle.duration.specs.Length.{fraction_of}
 use Rattle.duration.proofs.Laws.{total-reaches, total-below, no_fraction}
-use borrow.Author.Rules.{rules}
 use Rattle.duration.proofs.length.fraction.Goals as goal
 
 pub returns-then-end-from : goal.returns-then-end-from

@@ -1,7 +1,6 @@
 -- `duration::length::length` meets its contract.
 use borrow.Author.Tests.{lt-ltb, le-ltb, not-true, not-false}
 use Rattle.duration.specs.Length.{length_of}
-use borrow.Author.Rules.{rules}
 use Rattle.duration.proofs.length.length.Goals as goal
 
 pub returns-then-not-is_duration : goal.returns-then-not-is_duration

@@ -1,11 +1,9 @@
 -- `duration::length::point` meets its contract: the first point from i on is the first of all.
 use Prim.Native.Nat.{◌-◌}
-use mathlib.Core.Path.{◌≡◌, refl, sym, ◌∙◌}
+use mathlib.Core.Path.{◌≡◌}
 use lib.ListN.{length}
-use borrow.Author.Rules.{rules}
 use Rattle.json_text.specs.Bytes.{past}
 use Rattle.duration.specs.Length.{point_at, no_point}
-use Rattle.duration.proofs.Laws.{point-more, point-stop, point-end}
 use Rattle.duration.proofs.length.point.Given as goal
 
 abbrev pub invariant-loop-i : goal.invariant-loop-i

@@ -1,7 +1,6 @@
 -- `duration::length::seconds` meets its contract: capped numbers give the capped sum.
 use Rattle.duration.specs.Length.{seconds_of}
 use Rattle.duration.proofs.Laws.{capped-seconds}
-use borrow.Author.Rules.{rules}
 use Rattle.duration.proofs.length.seconds.Goals as goal
 
 pub returns : goal.returns

@@ -2,7 +2,6 @@
 use borrow.Author.Tests.{lt-ltb, le-ltb}
 use Rattle.duration.specs.Length.{whole_of}
 use Rattle.duration.proofs.Laws.{total-over, days-within, seconds-within}
-use borrow.Author.Rules.{rules}
 use Rattle.duration.proofs.length.whole.Goals as goal
 
 pub returns-then-days-seconds-gt-LIMIT : goal.returns-then-days-seconds-gt-LIMIT

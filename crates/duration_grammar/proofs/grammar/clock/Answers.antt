@@ -1,6 +1,5 @@
 -- `duration_grammar::grammar::clock` meets its contract: the definition's tests in its order.
 use Rattle.duration_grammar.specs.Grammar.{clock_at}
-use borrow.Author.Rules.{rules}
 use Rattle.duration_grammar.proofs.grammar.clock.Goals as goal
 
 pub returns : goal.returns

@@ -1,6 +1,5 @@
 -- `duration_grammar::grammar::dated` meets its contract: the definition's tests in its order.
 use Rattle.duration_grammar.specs.Grammar.{dated_at}
-use borrow.Author.Rules.{rules}
 use Rattle.duration_grammar.proofs.grammar.dated.Goals as goal
 
 pub returns-in-To : goal.returns-in-To

@@ -1,5 +1,4 @@
 -- `duration_grammar::grammar::either` meets its contract: the definition's tests in its order.
-use borrow.Author.Rules.{rules}
 use Rattle.duration_grammar.proofs.grammar.either.Goals as goal
 
 pub returns-in-To : goal.returns-in-To

@@ -3,7 +3,6 @@ use native.Mathlib.Omega.{arith}
 use Rattle.duration_grammar.proofs.Laws.{some-letter}
 use Rattle.duration_grammar.specs.Grammar.{letter_at}
 use borrow.Author.Tests.{eq-eqb, ne_eqb}
-use borrow.Author.Rules.{rules}
 use Rattle.duration_grammar.proofs.grammar.letter.Goals as goal
 
 pub returns-then-upper-c : goal.returns-then-upper-c

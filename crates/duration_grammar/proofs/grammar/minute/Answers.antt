@@ -1,6 +1,5 @@
 -- `duration_grammar::grammar::minute` meets its contract: the definition's tests in its order.
 use Rattle.duration_grammar.specs.Grammar.{minute_at}
-use borrow.Author.Rules.{rules}
 use Rattle.duration_grammar.proofs.grammar.minute.Goals as goal
 
 pub returns-in-To : goal.returns-in-To

@@ -1,6 +1,5 @@
 -- `duration_grammar::grammar::second` meets its contract: the definition's tests in its order.
 use Rattle.duration_grammar.specs.Grammar.{second_at}
-use borrow.Author.Rules.{rules}
 use Rattle.duration_grammar.proofs.grammar.second.Goals as goal
 
 pub returns-in-To-frac : goal.returns-in-To-frac

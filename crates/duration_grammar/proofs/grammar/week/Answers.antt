@@ -1,6 +1,5 @@
 -- `duration_grammar::grammar::week` meets its contract: the definition's tests in its order.
 use Rattle.duration_grammar.specs.Grammar.{week_at}
-use borrow.Author.Rules.{rules}
 use Rattle.duration_grammar.proofs.grammar.week.Goals as goal
 
 pub returns-in-To : goal.returns-in-To

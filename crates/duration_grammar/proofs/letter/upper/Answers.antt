@@ -1,7 +1,6 @@
 -- `duration_grammar::letter::upper` meets its contract: the definition's tests in its order.
 use Rattle.duration_grammar.specs.Letter.{upper}
 use borrow.Author.Tests.{le-leb, le-ltb, lt-leb, lt-ltb}
-use borrow.Author.Rules.{rules}
 use Rattle.duration_grammar.proofs.letter.upper.Goals as goal
 
 pub returns-then-b-lt97 : goal.returns-then-b-lt97

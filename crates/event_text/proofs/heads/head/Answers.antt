@@ -2,7 +2,6 @@
 use borrow.Author.Tests.{eq-eqb, ne_eqb}
 use Rattle.event_text.specs.Inner.Front.{inner}
 use Rattle.event_text.proofs.Objects.{front-object, front-none}
-use borrow.Author.Rules.{rules}
 use Rattle.event_text.proofs.heads.head.Goals as goal
 
 pub returns-then-byte-ne123 : goal.returns-then-byte-ne123

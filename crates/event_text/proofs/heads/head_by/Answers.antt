@@ -9,7 +9,6 @@ use Rattle.property.proofs.RowLaws.{value}
 use Rattle.property.specs.Inner.Vocabulary.{vocabulary, word_of}
 use Rattle.json_text.specs.Ascii.{ascii}
 use native.Mathlib.Omega.{arith}
-use borrow.Author.Rules.{rules}
 use Rattle.event_text.proofs.heads.head_by.Goals as goal
 
 pub own_details-own-requires : goal.own_details-own-requires

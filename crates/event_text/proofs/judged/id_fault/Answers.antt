@@ -5,7 +5,6 @@ use Rattle.event.specs.Reading.{unsupported}
 use Rattle.property.proofs.RowLaws.{here, missing}
 use Rattle.property.specs.Inner.Vocabulary.{vocabulary, word_of}
 use Rattle.json_text.specs.Ascii.{ascii}
-use borrow.Author.Rules.{rules}
 use Rattle.event_text.proofs.judged.id_fault.Goals as goal
 
 pub returns-in-At : goal.returns-in-At

@@ -1,7 +1,6 @@
 -- `event_text::judged::is_missing` meets its contract.
 use Rattle.event.specs.Event.{missing}
 use Rattle.property.proofs.Fields.{member-tree}
-use borrow.Author.Rules.{rules}
 use Rattle.event_text.proofs.judged.is_missing.Goals as goal
 
 pub returns-in-Here : goal.returns-in-Here

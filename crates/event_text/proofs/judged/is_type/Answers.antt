@@ -2,7 +2,6 @@
 use Rattle.event.specs.Values.{is_text}
 use borrow.Author.Tests.{eq-eqb, ne_eqb}
 use Rattle.property.proofs.Words.{string-text}
-use borrow.Author.Rules.{rules}
 use Rattle.event_text.proofs.judged.is_type.Goals as goal
 
 pub returns-then-byte-ne34 : goal.returns-then-byte-ne34

@@ -1,7 +1,6 @@
 -- `event_text::judged::no_event` meets its contract.
 use borrow.Author.Tests.{not-true, not-false}
 use Rattle.event.specs.Event.{no_event}
-use borrow.Author.Rules.{rules}
 use Rattle.event_text.proofs.judged.no_event.Goals as goal
 
 pub returns-then-not-is_event : goal.returns-then-not-is_event

@@ -1,5 +1,4 @@
 -- `event_text::marks::mark` meets its contract.
-use borrow.Author.Rules.{rules}
 use Rattle.event_text.proofs.marks.mark.Goals as goal
 
 pub returns-in-Is : goal.returns-in-Is

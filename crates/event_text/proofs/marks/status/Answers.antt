@@ -1,5 +1,4 @@
 -- `event_text::marks::status` meets its contract.
-use borrow.Author.Rules.{rules}
 use Rattle.event_text.proofs.marks.status.Goals as goal
 
 pub returns-in-Free : goal.returns-in-Free

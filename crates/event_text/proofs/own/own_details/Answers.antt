@@ -4,7 +4,6 @@ use Rattle.event.specs.Event.{details_in}
 use Rattle.event.specs.Reading.{placed}
 use Rattle.property.specs.Inner.Vocabulary.{vocabulary, word_of}
 use native.Mathlib.Omega.{arith}
-use borrow.Author.Rules.{rules}
 use Rattle.event_text.proofs.own.own_details.Goals as goal
 
 pub all_day-allday-requires : goal.all_day-allday-requires

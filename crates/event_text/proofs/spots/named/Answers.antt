@@ -1,5 +1,4 @@
 -- `event_text::spots::named` meets its contract.
-use borrow.Author.Rules.{rules}
 use Rattle.event_text.proofs.spots.named.Goals as goal
 
 pub returns-in-Floating : goal.returns-in-Floating

@@ -1,5 +1,4 @@
 -- `event_text::spots::passage` meets its contract.
-use borrow.Author.Rules.{rules}
 use Rattle.event_text.proofs.spots.passage.Goals as goal
 
 pub returns-in-At : goal.returns-in-At

@@ -1,7 +1,6 @@
 -- `event_text::spots::words` meets its contract.
 use Rattle.event.specs.Reading.{optional}
 use Rattle.property.proofs.RowLaws.{here, missing}
-use borrow.Author.Rules.{rules}
 use Rattle.event_text.proofs.spots.words.Goals as goal
 
 pub returns-in-At : goal.returns-in-At

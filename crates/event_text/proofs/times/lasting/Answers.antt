@@ -1,5 +1,4 @@
 -- `event_text::times::lasting` meets its contract.
-use borrow.Author.Rules.{rules}
 use Rattle.event_text.proofs.times.lasting.Goals as goal
 
 pub returns-in-Of : goal.returns-in-Of

@@ -1,5 +1,4 @@
 -- `event_text::times::moment` meets its contract.
-use borrow.Author.Rules.{rules}
 use Rattle.event_text.proofs.times.moment.Goals as goal
 
 pub returns-in-At : goal.returns-in-At

@@ -3,7 +3,6 @@ use borrow.Author.Tests.{eq-eqb, ne_eqb}
 use Rattle.event_text.proofs.Events.{first-none, first_some}
 use Rattle.event_text.proofs.Objects.{tree-object, tree-none}
 use Rattle.event_text.specs.Inner.Front.{inner}
-use borrow.Author.Rules.{rules}
 use Rattle.event_text.proofs.whole.event_first.Goals as goal
 
 pub returns-then-byte-ne123 : goal.returns-then-byte-ne123

@@ -1,7 +1,6 @@
 -- `event_text::whole::lists_fault` meets its contract.
 use Rattle.fault.proofs.Laws.{first-all}
 use Rattle.event_text.specs.Inner.Front.{lists_faults}
-use borrow.Author.Rules.{rules}
 use Rattle.event_text.proofs.whole.lists_fault.Goals as goal
 
 pub returns : goal.returns

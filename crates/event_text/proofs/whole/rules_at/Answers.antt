@@ -1,7 +1,6 @@
 -- `event_text::whole::rules_at` meets its contract.
 use Rattle.fault.specs.Fault.{first}
 use Rattle.event.specs.Reading.{present}
-use borrow.Author.Rules.{rules}
 use Rattle.event_text.proofs.whole.rules_at.Goals as goal
 
 pub returns-in-None : goal.returns-in-None

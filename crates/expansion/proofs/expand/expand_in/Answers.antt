@@ -1,5 +1,4 @@
 -- `expand_in` meets its contract: 1 to 9, 10 to 12, then the trailer alone or the table.
-use borrow.Author.Rules.{rules}
 use Rattle.opening.proofs.TextLaws.{was-refused, was-accepted}
 use Rattle.expansion.proofs.CallLaws.{text-refused}
 use Rattle.expansion.proofs.AcceptedLaws.{refused-gives, secret-gives, visible-gives, visible-needs}

@@ -2,7 +2,6 @@
 use Prim.Native.Nat.{◌+◌, ◌-◌, ◌*◌, ◌≤◌}
 use mathlib.Core.Path.{sym, ◌∙◌}
 use native.Mathlib.Omega.{arith}
-use borrow.Author.Rules.{rules}
 use borrow.Author.Tests.{not-false, not-true}
 use lib.ListN.{length}
 use lib.Seq.{length-take-le}
@@ -16,7 +15,7 @@ use Rattle.writer.specs.Inner.Writes.{row_for}
 use Rattle.writer.proofs.TableLaws.{ids-few, table-refused, trailer-fits, table-given}
 use Rattle.writer.proofs.WritesLaws.{writes_again}
 use Rattle.writer.proofs.WroteLaws.{wrote-start, wrote-next, wrote-asks, wrote-end}
-use Rattle.expansion.proofs.PutLaws.{PutAt, handed-here, span_rest, no_room, room_for}
+use Rattle.expansion.proofs.PutLaws.{handed-here, span_rest, no_room, room_for}
 use Rattle.expansion.proofs.table.put_table.Goals as goal
 
 pub ids_from-chunk-requires : goal.ids_from-chunk-requires

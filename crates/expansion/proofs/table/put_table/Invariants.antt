@@ -1,22 +1,8 @@
 -- `expansion::table::put_table` meets its contract: nothing is written where it has no room, and each turn writes a chunk and asks for the next.
-use Prim.Native.Nat.{◌+◌, ◌-◌, ◌*◌, ◌≤◌}
-use mathlib.Core.Path.{sym, ◌∙◌}
-use native.Mathlib.Omega.{arith}
-use borrow.Author.Rules.{rules}
-use borrow.Author.Tests.{not-false, not-true}
-use lib.ListN.{length}
-use lib.Seq.{length-take-le}
-use mir.Syntax.{w64}
-use mir.Val.{to_z, of_z}
-use mir.Facts.{to_z-of_z}
+use Prim.Native.Nat.{◌-◌}
 use Rattle.dates.specs.Inner.Dates.{dates_in}
-use Rattle.window.specs.Inner.Lists.{list_in}
-use Rattle.window.proofs.HandLaws.{chunk-early, handed-few}
 use Rattle.writer.specs.Inner.Writes.{row_for}
-use Rattle.writer.proofs.TableLaws.{ids-few, table-refused, trailer-fits, table-given}
-use Rattle.writer.proofs.WritesLaws.{writes_again}
-use Rattle.writer.proofs.WroteLaws.{wrote-start, wrote-next, wrote-asks, wrote-end}
-use Rattle.expansion.proofs.PutLaws.{PutAt, handed-here, span_rest, no_room, room_for}
+use Rattle.expansion.proofs.PutLaws.{PutAt}
 use Rattle.expansion.proofs.table.put_table.Given as goal
 
 abbrev pub invariant-loop-second : goal.invariant-loop-second

@@ -2,7 +2,6 @@
 use mathlib.Core.Path.{refl, sym}
 use native.Mathlib.Omega.{arith}
 use lib.Seq.{length-take-le}
-use borrow.Author.Rules.{rules}
 use Rattle.expansion.proofs.VisibleLaws.{within, table-needs, table-put}
 use Rattle.expansion.proofs.visible.put_visible.Goals as goal
 

@@ -4,7 +4,6 @@ use native.Mathlib.Omega.{arith}
 use Rattle.sheet.proofs.Accepted.{rows_before}
 use Rattle.sheet.specs.Fetching.{fetch_fault}
 use borrow.Author.Tests.{eq-eqb, le-leb, lt-leb, ne_eqb}
-use borrow.Author.Rules.{rules}
 use Rattle.fetch.proofs.refusals.fetch_fault.Goals as goal
 
 pub returns-then-fault-ne0 : goal.returns-then-fault-ne0

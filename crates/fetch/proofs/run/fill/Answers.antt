@@ -5,7 +5,6 @@ use mathlib.Core.Path.{◌≡◌, refl, subst}
 use Rattle.sheet.specs.Runs.{tabulate}
 use Rattle.fetch.specs.Inner.Filling.{Filled}
 use Rattle.fetch.proofs.FillLaws.{ids-same, starts-same, ends_same, marks-same, block_room, block-filled}
-use borrow.Author.Rules.{rules}
 use Rattle.fetch.proofs.run.fill.Goals as goal
 
 pub loop-i-init : goal.loop-i-init

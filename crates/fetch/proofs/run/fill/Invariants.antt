@@ -1,11 +1,6 @@
 -- `fetch::run::fill` meets its contract: the first i elements of each slice have their numbers.
-use Prim.Native.Nat.{ℕ, ◌+◌, ◌-◌, ◌≤◌}
-use native.Mathlib.Omega.{arith}
-use mathlib.Core.Path.{◌≡◌, refl, subst}
-use Rattle.sheet.specs.Runs.{tabulate}
+use Prim.Native.Nat.{◌-◌, ◌≤◌}
 use Rattle.fetch.specs.Inner.Filling.{Filled}
-use Rattle.fetch.proofs.FillLaws.{ids-same, starts-same, ends_same, marks-same, block_room, block-filled}
-use borrow.Author.Rules.{rules}
 use Rattle.fetch.proofs.run.fill.Given as goal
 
 abbrev pub invariant-loop-i : goal.invariant-loop-i

@@ -1,7 +1,6 @@
 -- `fetch::run::fill_block` meets its contract: the elements from i to e of each slice have one number of the records each.
 use Rattle.sheet.specs.Records.{id_at, start_at, end_at, marks_at}
 use Rattle.fetch.proofs.PartLaws.{part_filled}
-use borrow.Author.Rules.{rules}
 use Rattle.fetch.proofs.run.fill_block.Goals as goal
 
 pub returns : goal.returns

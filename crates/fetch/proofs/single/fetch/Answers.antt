@@ -2,7 +2,6 @@
 use mathlib.Core.Path.{sym, ◌∙◌}
 use Rattle.signed.proofs.Parts.{back}
 use Rattle.sheet.proofs.FetchLaws.{record-inside, fetch-refused, fetch-read}
-use borrow.Author.Rules.{rules}
 use Rattle.fetch.proofs.single.fetch.Goals as goal
 
 pub returns-then-fault-ne0 : goal.returns-then-fault-ne0

@@ -3,7 +3,6 @@ use mathlib.Core.Path.{sym, ◌∙◌}
 use native.Mathlib.Omega.{arith}
 use Rattle.sheet.proofs.Accepted.{rows_before}
 use Rattle.sheet.proofs.FetchLaws.{summary-refused, summary-read}
-use borrow.Author.Rules.{rules}
 use Rattle.fetch.proofs.summary.summary.Goals as goal
 
 pub returns-then-fault-ne0 : goal.returns-then-fault-ne0

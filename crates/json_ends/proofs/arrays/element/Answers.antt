@@ -1,6 +1,5 @@
 -- `json_ends::arrays::element` meets its contract.
 use Rattle.json_walk.specs.Walk.{element_at}
-use borrow.Author.Rules.{rules}
 use Rattle.json_ends.proofs.arrays.element.Goals as goal
 
 pub returns-in-To : goal.returns-in-To

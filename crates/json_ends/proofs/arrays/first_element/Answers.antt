@@ -1,6 +1,5 @@
 -- `json_ends::arrays::first_element` meets its contract.
 use Rattle.json_walk.specs.Walk.{first_element_at}
-use borrow.Author.Rules.{rules}
 use Rattle.json_ends.proofs.arrays.first_element.Goals as goal
 
 pub returns-in-More : goal.returns-in-More

@@ -1,7 +1,6 @@
 -- `json_ends::keeping::keep` meets its contract.
 use native.Mathlib.Omega.{arith}
 use Rattle.json_ends.proofs.Laws.{ends-keep}
-use borrow.Author.Rules.{rules}
 use Rattle.json_ends.proofs.keeping.keep.Goals as goal
 
 pub returns-then-at-ends : goal.returns-then-at-ends

@@ -1,6 +1,5 @@
 -- `json_ends::objects::first_member` meets its contract.
 use Rattle.json_walk.specs.Walk.{first_member_at}
-use borrow.Author.Rules.{rules}
 use Rattle.json_ends.proofs.objects.first_member.Goals as goal
 
 pub returns-in-More : goal.returns-in-More

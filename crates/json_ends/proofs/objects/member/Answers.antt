@@ -1,6 +1,5 @@
 -- `json_ends::objects::member` meets its contract.
 use Rattle.json_walk.specs.Walk.{member_at}
-use borrow.Author.Rules.{rules}
 use Rattle.json_ends.proofs.objects.member.Goals as goal
 
 pub returns-in-To-past : goal.returns-in-To-past

@@ -1,6 +1,5 @@
 -- `json_ends::objects::next_member` meets its contract.
 use Rattle.json_walk.specs.Walk.{next_member_at}
-use borrow.Author.Rules.{rules}
 use Rattle.json_ends.proofs.objects.next_member.Goals as goal
 
 pub returns-in-More : goal.returns-in-More

@@ -1,7 +1,6 @@
 -- `json_ends::table::entry` meets its contract.
 use mathlib.Core.Path.{sym}
 use lib.ListN.{get_or-eq_default}
-use borrow.Author.Rules.{rules}
 use Rattle.json_ends.proofs.table.entry.Goals as goal
 
 pub returns : goal.returns

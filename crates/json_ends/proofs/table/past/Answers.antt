@@ -1,5 +1,4 @@
 -- A value that the table knows ends where the table says.
-use borrow.Author.Rules.{rules}
 use Rattle.json_ends.proofs.Laws.{ends-say}
 use Rattle.json_ends.proofs.table.past.Goals as goal
 

@@ -2,7 +2,6 @@
 use borrow.Author.Tests.{ne_eqb}
 use Rattle.json_text.specs.Strings.{string_at}
 use Rattle.json_ends.proofs.Laws.{strings-say}
-use borrow.Author.Rules.{rules}
 use Rattle.json_ends.proofs.table.string_past.Goals as goal
 
 pub returns-then-byte-ne34 : goal.returns-then-byte-ne34

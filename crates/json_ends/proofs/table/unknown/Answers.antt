@@ -1,5 +1,4 @@
 -- A table of one entry that says nothing is a table of ends of any text.
-use borrow.Author.Rules.{rules}
 use Rattle.json_ends.proofs.Laws.{ends-none}
 use Rattle.json_ends.proofs.table.unknown.Goals as goal
 

@@ -1,8 +1,8 @@
 -- The cycle of walks: each finds a fault exactly where its definition does.
-use Rattle.std.proofs.Common.{◌≡◌, ℕ, ◌+◌, ◌*◌, ◌<◌, ◌≤◌, length, sym, ◌∙◌, arith, rules, eq-eqb, ne_eqb}
-use Rattle.json_names.specs.Inner.Names.{any_element, fault_at}
+use Rattle.std.proofs.Common.{sym, ◌∙◌, arith, rules, eq-eqb, ne_eqb}
+use Rattle.json_names.specs.Inner.Names.{any_element}
 use Rattle.json_names.specs.Inner.Walked.{any_fault}
-use Rattle.json_walk.specs.Walk.{elements_from, elements_of, members_from, members_of}
+use Rattle.json_walk.specs.Walk.{elements_of, members_of}
 use Rattle.json_walk.proofs.Walks.{members-one, members-end, members-none, elements-one, elements-end, elements-none}
 use Rattle.json_names.proofs.Laws.{fault-step, fault-none}
 use Rattle.json_names.proofs.Walked.{object-fault, closed}

@@ -1,9 +1,6 @@
 use Rattle.json_walk.proofs.Walks.{members-one, members-end}
 use Rattle.json_walk.proofs.Walks.{members-none}
 use Rattle.json_names.specs.Inner.Names.{named}
-use Rattle.json_walk.specs.Strings.{raw_at}
-use Rattle.json_walk.specs.Walk.{members_from, next_member_at}
-use Rattle.std.proofs.Common.{◌≡◌, rules}
 use Rattle.json_names.proofs.names.among.Goals as goal
 
 pub loop-n-init : goal.loop-n-init

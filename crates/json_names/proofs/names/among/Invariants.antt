@@ -1,9 +1,7 @@
-use Rattle.json_walk.proofs.Walks.{members-one, members-end}
-use Rattle.json_walk.proofs.Walks.{members-none}
 use Rattle.json_names.specs.Inner.Names.{named}
 use Rattle.json_walk.specs.Strings.{raw_at}
 use Rattle.json_walk.specs.Walk.{members_from, next_member_at}
-use Rattle.std.proofs.Common.{◌≡◌, rules}
+use Rattle.std.proofs.Common.{◌≡◌}
 use Rattle.json_names.proofs.names.among.Given as goal
 
 abbrev pub invariant-loop-n : goal.invariant-loop-n

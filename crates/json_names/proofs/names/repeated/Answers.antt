@@ -1,8 +1,7 @@
 use Rattle.json_walk.proofs.Walks.{members-one, members-end}
 use Rattle.json_walk.proofs.Walks.{members-none}
 use Rattle.json_names.specs.Inner.Names.{repeats}
-use Rattle.json_walk.specs.Walk.{members_from, members_of}
-use Rattle.std.proofs.Common.{◌≡◌, rules}
+use Rattle.json_walk.specs.Walk.{members_of}
 use Rattle.json_names.proofs.names.repeated.Goals as goal
 
 pub loop-n-init : goal.loop-n-init

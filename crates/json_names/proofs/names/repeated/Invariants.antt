@@ -1,8 +1,6 @@
-use Rattle.json_walk.proofs.Walks.{members-one, members-end}
-use Rattle.json_walk.proofs.Walks.{members-none}
 use Rattle.json_names.specs.Inner.Names.{repeats}
 use Rattle.json_walk.specs.Walk.{members_from, members_of}
-use Rattle.std.proofs.Common.{◌≡◌, rules}
+use Rattle.std.proofs.Common.{◌≡◌}
 use Rattle.json_names.proofs.names.repeated.Given as goal
 
 abbrev pub invariant-loop-n : goal.invariant-loop-n

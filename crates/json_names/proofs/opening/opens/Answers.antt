@@ -1,4 +1,4 @@
-use Rattle.std.proofs.Common.{rules, eq-eqb, ne_eqb}
+use Rattle.std.proofs.Common.{eq-eqb, ne_eqb}
 use Rattle.json_names.specs.Inner.Walked.{opener}
 use Rattle.json_names.proofs.opening.opens.Goals as goal
 

@@ -1,5 +1,4 @@
-use Rattle.std.proofs.Common.{◌≡◌, ℕ, ◌-◌, ◌≤◌, true, false, length, rules}
-use Rattle.json_names.specs.Inner.Slashes.{NoSlash}
+use Rattle.std.proofs.Common.{◌-◌, true, false, rules}
 use Rattle.json_names.proofs.Clean.{clean-none, clean-more, clean_all, not-clean}
 use Rattle.json_names.proofs.slashes.slash_free.Goals as goal
 

@@ -1,6 +1,5 @@
-use Rattle.std.proofs.Common.{◌≡◌, ℕ, ◌-◌, ◌≤◌, true, false, length, rules}
+use Rattle.std.proofs.Common.{◌≡◌, ◌-◌, ◌≤◌, length}
 use Rattle.json_names.specs.Inner.Slashes.{NoSlash}
-use Rattle.json_names.proofs.Clean.{clean-none, clean-more, clean_all, not-clean}
 use Rattle.json_names.proofs.slashes.slash_free.Given as goal
 
 abbrev pub invariant-loop-i : goal.invariant-loop-i

@@ -1,4 +1,3 @@
-use Rattle.std.proofs.Common.{rules}
 use Rattle.json_names.proofs.Clean.{clean-name}
 use Rattle.json_names.proofs.slashes.slash_named.Goals as goal
 

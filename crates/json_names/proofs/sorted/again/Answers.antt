@@ -1,8 +1,7 @@
 use Rattle.json_walk.proofs.Walks.{members-one}
 use Rattle.json_names.proofs.Sorting.{repeats-here, repeats-later, not-both}
-use Rattle.json_names.specs.Inner.Names.{repeats}
-use Rattle.json_walk.specs.Walk.{members_from, members_of}
-use Rattle.std.proofs.Common.{◌≡◌, true, rules}
+use Rattle.json_walk.specs.Walk.{members_of}
+use Rattle.std.proofs.Common.{true}
 use Rattle.json_names.proofs.sorted.again.Goals as goal
 
 pub loop-n-init : goal.loop-n-init

@@ -1,8 +1,7 @@
-use Rattle.std.proofs.Common.{sym, ◌∙◌, rules}
+use Rattle.std.proofs.Common.{sym, ◌∙◌}
 use Rattle.json_walk.proofs.Walks.{members-one, members-end, members-none}
 use Rattle.json_names.proofs.Sorting.{not-both}
-use Rattle.json_names.specs.Inner.Order.{Covered}
-use Rattle.json_walk.specs.Walk.{members_from, members_of}
+use Rattle.json_walk.specs.Walk.{members_of}
 use Rattle.json_names.proofs.sorted.covered.Goals as goal
 
 pub loop-n-init : goal.loop-n-init

@@ -1,6 +1,3 @@
-use Rattle.std.proofs.Common.{sym, ◌∙◌, rules}
-use Rattle.json_walk.proofs.Walks.{members-one, members-end, members-none}
-use Rattle.json_names.proofs.Sorting.{not-both}
 use Rattle.json_names.specs.Inner.Order.{Covered}
 use Rattle.json_walk.specs.Walk.{members_from, members_of}
 use Rattle.json_names.proofs.sorted.covered.Given as goal

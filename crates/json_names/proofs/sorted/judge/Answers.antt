@@ -1,4 +1,4 @@
-use Rattle.std.proofs.Common.{◌+◌, ◌≤◌, sym, arith, rules}
+use Rattle.std.proofs.Common.{◌+◌, ◌≤◌, sym, arith}
 use Rattle.json_names.proofs.Sorting.{distinct}
 use Rattle.json_names.proofs.sorted.judge.Goals as goal
 

@@ -1,4 +1,4 @@
-use Rattle.std.proofs.Common.{◌-◌, rules, below_none, below_more}
+use Rattle.std.proofs.Common.{◌-◌, below_none, below_more}
 use borrow.Author.Tests.{not-false}
 use Rattle.json_names.specs.Inner.Order.{Rising}
 use Rattle.json_names.proofs.sorted.rising.Goals as goal

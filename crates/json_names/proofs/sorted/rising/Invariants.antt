@@ -1,5 +1,4 @@
-use Rattle.std.proofs.Common.{◌-◌, rules, below_none, below_more}
-use borrow.Author.Tests.{not-false}
+use Rattle.std.proofs.Common.{◌-◌}
 use Rattle.json_names.specs.Inner.Order.{Rising}
 use Rattle.json_names.proofs.sorted.rising.Given as goal
 

@@ -1,4 +1,3 @@
-use Rattle.std.proofs.Common.{rules}
 use Rattle.json_names.proofs.whole.text_fault.Goals as goal
 
 pub returns-then-text-le2048 : goal.returns-then-text-le2048

@@ -1,4 +1,3 @@
-use borrow.Author.Rules.{rules}
 use Rattle.json_ends.proofs.Laws.{ends-none}
 use Rattle.json_strict.proofs.answer.long_answer.Goals as goal
 

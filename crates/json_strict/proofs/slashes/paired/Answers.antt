@@ -1,4 +1,3 @@
-use borrow.Author.Rules.{rules}
 use Rattle.json_strict.proofs.Free.{free-pairs}
 use Rattle.json_strict.proofs.slashes.paired.Goals as goal
 

@@ -1,5 +1,4 @@
 use native.Mathlib.Omega.{arith}
-use borrow.Author.Rules.{rules}
 use Rattle.json_strict.proofs.Free.{no_front}
 use Rattle.json_strict.proofs.slashes.seen.Goals as goal
 

@@ -1,10 +1,7 @@
-use Prim.Native.Nat.{ℕ, ◌≤◌, ◌-◌}
-use mathlib.Core.Bool.{true, false}
+use Prim.Native.Nat.{◌≤◌, ◌-◌}
 use mathlib.Core.Path.{◌≡◌}
-use borrow.Author.Rules.{rules}
 use lib.ListN.{length}
 use Rattle.json_strict.specs.Inner.Slashes.{NoFront}
-use Rattle.json_strict.proofs.Free.{free-none, free_more, free_all, not-both}
 use Rattle.json_strict.proofs.slashes.surrogate_free.Given as goal
 
 abbrev pub invariant-loop-i : goal.invariant-loop-i

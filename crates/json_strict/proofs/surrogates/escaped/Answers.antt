@@ -1,6 +1,5 @@
 use Rattle.json_strict.specs.Surrogates.{escaped_at}
 use borrow.Author.Tests.{eq-eqb, ne_eqb}
-use borrow.Author.Rules.{rules}
 use Rattle.json_strict.proofs.surrogates.escaped.Goals as goal
 
 pub returns-then-byte-ne92 : goal.returns-then-byte-ne92

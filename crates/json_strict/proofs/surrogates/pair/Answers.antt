@@ -1,5 +1,4 @@
 use Rattle.json_strict.specs.Surrogates.{pair_at}
-use borrow.Author.Rules.{rules}
 use Rattle.json_strict.proofs.surrogates.pair.Goals as goal
 
 pub returns-then-is_second : goal.returns-then-is_second

@@ -2,8 +2,6 @@ use Rattle.json_strict.proofs.Laws.{pairs-none, pairs-step}
 use Rattle.json_strict.specs.Surrogates.{pairs_at}
 use borrow.Author.Rules.{rules}
 use borrow.Author.Tests.{le-leb, lt-leb}
-use lib.ListN.{length}
-use mathlib.Core.Path.{◌≡◌}
 use Rattle.json_strict.proofs.surrogates.pairs.Goals as goal
 
 pub loop-n-init : goal.loop-n-init

@@ -1,5 +1,4 @@
 use Rattle.json_strict.specs.Surrogates.{hex_value, unit_at}
-use borrow.Author.Rules.{rules}
 use Rattle.json_strict.proofs.surrogates.unit.Goals as goal
 
 pub returns : goal.returns

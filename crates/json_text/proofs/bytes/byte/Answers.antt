@@ -2,7 +2,6 @@
 use mathlib.Core.Path.{refl, sym}
 use native.Mathlib.Omega.{arith}
 use lib.ListN.{get_or-eq_default}
-use borrow.Author.Rules.{rules}
 use Rattle.json_text.proofs.bytes.byte.Goals as goal
 
 pub returns-then-i-text : goal.returns-then-i-text

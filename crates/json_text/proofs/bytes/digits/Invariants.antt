@@ -1,13 +1,7 @@
 use Prim.Native.Nat.{◌-◌}
-use Rattle.json_text.proofs.Laws.{digits_more, digits-stop, some-digit}
-use Rattle.json_text.specs.Bytes.{digits_at, past}
-use borrow.Author.Rules.{rules}
+use Rattle.json_text.specs.Bytes.{digits_at}
 use lib.ListN.{length}
-use mathlib.Core.Path.{◌≡◌, sym}
-use native.Mathlib.Omega.{arith}
-use Rattle.json_text.proofs.Laws.{some-digit, digits_more, digits-stop}
-use native.Mathlib.Omega.{arith}
-use mathlib.Core.Path.{sym}
+use mathlib.Core.Path.{◌≡◌}
 use Rattle.json_text.proofs.bytes.digits.Given as goal
 
 abbrev pub invariant-loop-i : goal.invariant-loop-i

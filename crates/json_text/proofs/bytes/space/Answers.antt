@@ -1,11 +1,5 @@
 use Prim.Native.Nat.{◌-◌}
 use Rattle.json_text.proofs.Laws.{some-space, space-more, space-stop}
-use Rattle.json_text.specs.Bytes.{past, space_at}
-use borrow.Author.Rules.{rules}
-use lib.ListN.{length}
-use mathlib.Core.Path.{◌≡◌, sym}
-use native.Mathlib.Omega.{arith}
-use Rattle.json_text.proofs.Laws.{some-space, space-more, space-stop}
 use native.Mathlib.Omega.{arith}
 use mathlib.Core.Path.{sym}
 use Rattle.json_text.proofs.bytes.space.Goals as goal

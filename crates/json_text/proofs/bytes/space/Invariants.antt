@@ -1,13 +1,7 @@
 use Prim.Native.Nat.{◌-◌}
-use Rattle.json_text.proofs.Laws.{some-space, space-more, space-stop}
-use Rattle.json_text.specs.Bytes.{past, space_at}
-use borrow.Author.Rules.{rules}
+use Rattle.json_text.specs.Bytes.{space_at}
 use lib.ListN.{length}
-use mathlib.Core.Path.{◌≡◌, sym}
-use native.Mathlib.Omega.{arith}
-use Rattle.json_text.proofs.Laws.{some-space, space-more, space-stop}
-use native.Mathlib.Omega.{arith}
-use mathlib.Core.Path.{sym}
+use mathlib.Core.Path.{◌≡◌}
 use Rattle.json_text.proofs.bytes.space.Given as goal
 
 abbrev pub invariant-loop-i : goal.invariant-loop-i

@@ -1,6 +1,5 @@
 use Rattle.json_text.specs.Numbers.{exp_at}
 use borrow.Author.Tests.{eq-eqb, ne_eqb}
-use borrow.Author.Rules.{rules}
 use Rattle.json_text.proofs.numbers.exp.Goals as goal
 
 pub returns-then-b-eq101 : goal.returns-then-b-eq101

@@ -1,6 +1,5 @@
 use Rattle.json_text.specs.Numbers.{frac_at}
 use borrow.Author.Tests.{eq-eqb, ne_eqb}
-use borrow.Author.Rules.{rules}
 use Rattle.json_text.proofs.numbers.frac.Goals as goal
 
 pub returns-then-byte-eq46 : goal.returns-then-byte-eq46

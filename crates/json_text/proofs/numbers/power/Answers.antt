@@ -1,6 +1,5 @@
 use Rattle.json_text.specs.Numbers.{power_at}
 use borrow.Author.Tests.{eq-eqb, ne_eqb}
-use borrow.Author.Rules.{rules}
 use Rattle.json_text.proofs.numbers.power.Goals as goal
 
 pub returns-then-b-eq45 : goal.returns-then-b-eq45

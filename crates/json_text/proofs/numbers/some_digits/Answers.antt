@@ -2,7 +2,6 @@ use Rattle.json_text.proofs.Laws.{some-digit}
 use native.Mathlib.Omega.{arith}
 use Rattle.json_text.specs.Numbers.{some_digits_at}
 use borrow.Author.Tests.{not-false, not-true}
-use borrow.Author.Rules.{rules}
 use Rattle.json_text.proofs.numbers.some_digits.Goals as goal
 
 pub returns-then-not-is_digit : goal.returns-then-not-is_digit

@@ -1,5 +1,4 @@
 use Rattle.json_text.specs.Numbers.{unsigned_at}
-use borrow.Author.Rules.{rules}
 use Rattle.json_text.proofs.numbers.unsigned.Goals as goal
 
 pub returns-in-To-frac : goal.returns-in-To-frac

@@ -1,7 +1,5 @@
-use Prim.Native.Nat.{ℕ, ◌≤◌, ◌-◌}
-use mathlib.Core.Path.{◌≡◌}
+use Prim.Native.Nat.{◌-◌}
 use borrow.Author.Rules.{rules}
-use Rattle.json_text.specs.Inner.Plain.{PlainRun}
 use Rattle.json_text.proofs.Blocks.{run_none, run_more, run-all, not-both}
 use Rattle.json_text.proofs.plain.block.Goals as goal
 

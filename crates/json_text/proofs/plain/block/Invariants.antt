@@ -1,8 +1,6 @@
-use Prim.Native.Nat.{ℕ, ◌≤◌, ◌-◌}
+use Prim.Native.Nat.{◌≤◌, ◌-◌}
 use mathlib.Core.Path.{◌≡◌}
-use borrow.Author.Rules.{rules}
 use Rattle.json_text.specs.Inner.Plain.{PlainRun}
-use Rattle.json_text.proofs.Blocks.{run_none, run_more, run-all, not-both}
 use Rattle.json_text.proofs.plain.block.Given as goal
 
 abbrev pub invariant-loop-i : goal.invariant-loop-i

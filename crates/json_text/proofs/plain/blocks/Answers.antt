@@ -1,10 +1,7 @@
-use Prim.Native.Nat.{ℕ, ◌+◌, ◌*◌, ◌≤◌}
-use mathlib.Core.Path.{◌≡◌, ◌∙◌}
+use mathlib.Core.Path.{◌∙◌}
 use native.Mathlib.Omega.{arith}
 use borrow.Author.Rules.{rules}
 use borrow.Author.Tests.{not-false}
-use lib.ListN.{length}
-use Rattle.json_text.specs.Inner.Plain.{plain_at}
 use Rattle.json_text.proofs.Blocks.{run_on}
 use Rattle.json_text.proofs.plain.blocks.Goals as goal
 

@@ -1,5 +1,4 @@
 use native.Mathlib.Omega.{arith}
-use borrow.Author.Rules.{rules}
 use Rattle.json_text.proofs.Blocks.{is-plain}
 use Rattle.json_text.proofs.plain.mixed.Goals as goal
 

@@ -1,10 +1,6 @@
 -- `plain` meets its contract: each turn passes one more byte of the run, and blocks pass many.
-use mathlib.Core.Path.{◌≡◌, sym, ◌∙◌}
-use native.Mathlib.Omega.{arith}
-use borrow.Author.Rules.{rules}
-use Rattle.json_text.specs.Bytes.{past}
+use mathlib.Core.Path.{◌≡◌}
 use Rattle.json_text.specs.Inner.Plain.{plain_at}
-use Rattle.json_text.proofs.Skip.{some-plain, plain_more, plain-stop}
 use Rattle.json_text.proofs.plain.plain.Given as goal
 
 abbrev pub invariant-loop-at : goal.invariant-loop-at

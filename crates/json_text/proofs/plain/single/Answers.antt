@@ -1,11 +1,7 @@
 -- `single` meets its contract: each turn passes one more byte of the run, so what is left of the text falls.
 use Prim.Native.Nat.{◌-◌}
-use mathlib.Core.Path.{◌≡◌, sym}
+use mathlib.Core.Path.{sym}
 use native.Mathlib.Omega.{arith}
-use lib.ListN.{length}
-use borrow.Author.Rules.{rules}
-use Rattle.json_text.specs.Bytes.{past}
-use Rattle.json_text.specs.Inner.Plain.{plain_at}
 use Rattle.json_text.proofs.Skip.{some-plain, plain_more, plain-stop}
 use Rattle.json_text.proofs.plain.single.Goals as goal
 

@@ -1,12 +1,8 @@
 -- `single` meets its contract: each turn passes one more byte of the run, so what is left of the text falls.
 use Prim.Native.Nat.{◌-◌}
-use mathlib.Core.Path.{◌≡◌, sym}
-use native.Mathlib.Omega.{arith}
+use mathlib.Core.Path.{◌≡◌}
 use lib.ListN.{length}
-use borrow.Author.Rules.{rules}
-use Rattle.json_text.specs.Bytes.{past}
 use Rattle.json_text.specs.Inner.Plain.{plain_at}
-use Rattle.json_text.proofs.Skip.{some-plain, plain_more, plain-stop}
 use Rattle.json_text.proofs.plain.single.Given as goal
 
 abbrev pub invariant-loop-i : goal.invariant-loop-i

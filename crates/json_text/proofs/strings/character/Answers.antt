@@ -1,6 +1,5 @@
 use Rattle.json_text.specs.Strings.{char_at}
 use borrow.Author.Tests.{eq-eqb, le-ltb, lt-ltb, ne_eqb}
-use borrow.Author.Rules.{rules}
 use Rattle.json_text.proofs.strings.character.Goals as goal
 
 pub returns-then-b-eq92 : goal.returns-then-b-eq92

@@ -2,7 +2,6 @@ use Rattle.json_text.proofs.Laws.{some-escaped}
 use native.Mathlib.Omega.{arith}
 use Rattle.json_text.specs.Strings.{escape_at}
 use borrow.Author.Tests.{eq-eqb, ne_eqb}
-use borrow.Author.Rules.{rules}
 use Rattle.json_text.proofs.strings.escape.Goals as goal
 
 pub overflow_add-result : goal.overflow_add-result

@@ -2,7 +2,6 @@ use Rattle.json_text.proofs.Laws.{some-hex}
 use native.Mathlib.Omega.{arith}
 use Rattle.json_text.specs.Strings.{hex_at}
 use borrow.Author.Tests.{not-false, not-true}
-use borrow.Author.Rules.{rules}
 use Rattle.json_text.proofs.strings.hex.Goals as goal
 
 pub returns-then-not-is_hex : goal.returns-then-not-is_hex

@@ -1,6 +1,5 @@
 use Rattle.json_text.specs.Strings.{is_hex}
 use borrow.Author.Tests.{le-leb, le-ltb, lt-leb, lt-ltb}
-use borrow.Author.Rules.{rules}
 use Rattle.json_text.proofs.strings.is_hex.Goals as goal
 
 pub returns-then-is_digit : goal.returns-then-is_digit

@@ -3,10 +3,9 @@
 use Rattle.json_text.proofs.Laws.{chars-none, chars-step}
 use Rattle.json_text.proofs.Blocks.{plain-front}
 use Rattle.json_text.proofs.Skip.{some-plain, plain-on, plain-some, chars-skip, chars-quote, chars-short}
-use Rattle.json_text.specs.Strings.{chars_at, string_at}
-use borrow.Author.Rules.{rules}
+use Rattle.json_text.specs.Strings.{string_at}
 use borrow.Author.Tests.{eq-eqb, ne_eqb}
-use mathlib.Core.Path.{◌≡◌, sym}
+use mathlib.Core.Path.{sym}
 use native.Mathlib.Omega.{arith}
 use Rattle.json_text.proofs.strings.string.Goals as goal
 

@@ -1,13 +1,7 @@
 -- `string` meets its contract: what is left to read, from here with n chars, stays what there was at the start. A turn is either
 -- a run of plain bytes, which is stepped over at once, or one char.
-use Rattle.json_text.proofs.Laws.{chars-none, chars-step}
-use Rattle.json_text.proofs.Blocks.{plain-front}
-use Rattle.json_text.proofs.Skip.{some-plain, plain-on, plain-some, chars-skip, chars-quote, chars-short}
 use Rattle.json_text.specs.Strings.{chars_at, string_at}
-use borrow.Author.Rules.{rules}
-use borrow.Author.Tests.{eq-eqb, ne_eqb}
-use mathlib.Core.Path.{◌≡◌, sym}
-use native.Mathlib.Omega.{arith}
+use mathlib.Core.Path.{◌≡◌}
 use Rattle.json_text.proofs.strings.string.Given as goal
 
 abbrev pub invariant-loop-n : goal.invariant-loop-n

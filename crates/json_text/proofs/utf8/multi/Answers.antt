@@ -1,6 +1,5 @@
 use Rattle.json_text.specs.Utf8.{multi_at}
 use borrow.Author.Tests.{eq-eqb, le-ltb, lt-ltb, ne_eqb}
-use borrow.Author.Rules.{rules}
 use Rattle.json_text.proofs.utf8.multi.Goals as goal
 
 pub returns-then-b-lt194 : goal.returns-then-b-lt194

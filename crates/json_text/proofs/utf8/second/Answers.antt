@@ -1,6 +1,5 @@
 use Rattle.json_text.specs.Utf8.{second_at}
 use borrow.Author.Tests.{le-ltb, lt-ltb}
-use borrow.Author.Rules.{rules}
 use Rattle.json_text.proofs.utf8.second.Goals as goal
 
 pub returns-then-b-low : goal.returns-then-b-low

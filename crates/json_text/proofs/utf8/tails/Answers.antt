@@ -1,10 +1,6 @@
 use Rattle.json_text.proofs.Laws.{some-tail, tails-none, tails-step}
 use Rattle.json_text.specs.Utf8.{tails_at}
-use borrow.Author.Rules.{rules}
 use borrow.Author.Tests.{not-false, not-true}
-use mathlib.Core.Path.{◌≡◌}
-use native.Mathlib.Omega.{arith}
-use Rattle.json_text.proofs.Laws.{some-tail}
 use native.Mathlib.Omega.{arith}
 use Rattle.json_text.proofs.utf8.tails.Goals as goal
 

@@ -1,6 +1,5 @@
 use Rattle.json_text.proofs.WordLaws.{four_bytes}
 use borrow.Author.Tests.{eq-eqb, ne_eqb}
-use borrow.Author.Rules.{rules}
 use Rattle.json_text.proofs.words.four.Goals as goal
 
 pub returns-then-byte-a : goal.returns-then-byte-a

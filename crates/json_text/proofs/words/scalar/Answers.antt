@@ -1,6 +1,5 @@
 use Rattle.json_text.specs.Words.{word_at, scalar_at}
 use borrow.Author.Tests.{eq-eqb, ne_eqb}
-use borrow.Author.Rules.{rules}
 use Rattle.json_text.proofs.words.scalar.Goals as goal
 
 pub returns-then-b-eq34 : goal.returns-then-b-eq34

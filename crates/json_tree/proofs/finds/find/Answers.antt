@@ -1,9 +1,7 @@
 use Rattle.json_walk.proofs.Walks.{members-one, members-end}
 use Rattle.json_tree.specs.Inner.Members.{find_in}
 use Rattle.json_walk.proofs.Walks.{members-none}
-use Rattle.json_walk.specs.Walk.{members_from, members_of}
-use borrow.Author.Rules.{rules}
-use mathlib.Core.Path.{◌≡◌}
+use Rattle.json_walk.specs.Walk.{members_of}
 use Rattle.json_tree.proofs.finds.find.Goals as goal
 
 pub loop-n-init : goal.loop-n-init

@@ -1,6 +1,5 @@
 use Rattle.json_tree.specs.Integers.{size_at}
 use borrow.Author.Tests.{le-leb, lt-leb}
-use borrow.Author.Rules.{rules}
 use Rattle.json_tree.proofs.integers.sized.Goals as goal
 
 pub returns-then-goes_on : goal.returns-then-goes_on

@@ -1,5 +1,4 @@
 use Rattle.json_tree.specs.Integers.{whole_at}
-use borrow.Author.Rules.{rules}
 use Rattle.json_tree.proofs.integers.unsigned.Goals as goal
 
 pub returns-then-is_digit : goal.returns-then-is_digit

@@ -1,6 +1,5 @@
 use Rattle.json_tree.specs.Inner.Kinds.{kind_at}
 use borrow.Author.Tests.{eq-eqb, ne_eqb}
-use borrow.Author.Rules.{rules}
 use Rattle.json_tree.proofs.kinds.kind.Goals as goal
 
 pub returns-then-b-eq123 : goal.returns-then-b-eq123

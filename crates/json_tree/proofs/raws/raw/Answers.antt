@@ -1,7 +1,5 @@
 -- `json_tree::raws::raw` meets its contract.
 use Rattle.json_tree.proofs.RawLaws.{raw-part}
-use Rattle.json_walk.specs.Strings.{raw_at}
-use borrow.Author.Rules.{rules}
 use Rattle.json_tree.proofs.raws.raw.Goals as goal
 
 pub returns : goal.returns

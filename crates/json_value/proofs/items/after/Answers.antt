@@ -1,7 +1,6 @@
 -- `json_value::items::after` meets its contract.
 use Rattle.json_value.specs.Values.{after_at}
 use borrow.Author.Tests.{eq-eqb, ne_eqb}
-use borrow.Author.Rules.{rules}
 use Rattle.json_value.proofs.items.after.Goals as goal
 
 pub returns-then-b-eq44 : goal.returns-then-b-eq44

@@ -1,7 +1,6 @@
 -- `json_value::items::colon` meets its contract.
 use Rattle.json_value.specs.Values.{colon_at}
 use borrow.Author.Tests.{eq-eqb, ne_eqb}
-use borrow.Author.Rules.{rules}
 use Rattle.json_value.proofs.items.colon.Goals as goal
 
 pub returns-then-byte-eq58 : goal.returns-then-byte-eq58

@@ -1,7 +1,6 @@
 -- `json_value::items::first` meets its contract.
 use Rattle.json_value.specs.Values.{first_at}
 use borrow.Author.Tests.{eq-eqb, ne_eqb}
-use borrow.Author.Rules.{rules}
 use Rattle.json_value.proofs.items.first.Goals as goal
 
 pub returns-then-byte-close : goal.returns-then-byte-close

@@ -1,6 +1,5 @@
 use Rattle.json_walk.proofs.Laws.{bytes-ahead}
 use Rattle.json_walk.specs.Strings.{raw_at}
-use borrow.Author.Rules.{rules}
 use Rattle.json_walk.proofs.strings.has_backslash.Goals as goal
 
 pub returns : goal.returns

@@ -1,7 +1,6 @@
 use mathlib.Core.Path.{sym, ◌∙◌}
 use Rattle.json_walk.proofs.Laws.{same_word, bytes-ahead, same-all}
 use Rattle.json_walk.specs.Strings.{raw_at}
-use borrow.Author.Rules.{rules}
 use Rattle.json_walk.proofs.strings.raw_is.Goals as goal
 
 pub returns-then-n-word : goal.returns-then-n-word

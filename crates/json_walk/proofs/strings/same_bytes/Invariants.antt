@@ -1,7 +1,4 @@
-use Rattle.json_walk.proofs.Laws.{same_none, same_step}
 use Rattle.json_walk.specs.Strings.{bytes_at, same}
-use borrow.Author.Rules.{rules}
-use borrow.Author.Tests.{eq-eqb, ne_eqb}
 use mathlib.Core.Path.{◌≡◌}
 use Rattle.json_walk.proofs.strings.same_bytes.Given as goal
 

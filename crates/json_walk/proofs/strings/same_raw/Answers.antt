@@ -1,7 +1,6 @@
 use Rattle.json_walk.proofs.Laws.{same-lengths, bytes-ahead}
 use Rattle.json_walk.specs.Strings.{raw_at}
 use mathlib.Core.Path.{sym}
-use borrow.Author.Rules.{rules}
 use Rattle.json_walk.proofs.strings.same_raw.Goals as goal
 
 pub returns-then-n-m : goal.returns-then-n-m

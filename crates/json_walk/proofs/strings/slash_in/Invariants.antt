@@ -1,7 +1,4 @@
-use Rattle.json_walk.proofs.Laws.{slashed-none, slashed-step}
 use Rattle.json_walk.specs.Strings.{bytes_at, slashed}
-use borrow.Author.Rules.{rules}
-use borrow.Author.Tests.{eq-eqb, ne_eqb}
 use mathlib.Core.Path.{◌≡◌}
 use Rattle.json_walk.proofs.strings.slash_in.Given as goal
 

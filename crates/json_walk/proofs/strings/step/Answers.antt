@@ -1,6 +1,5 @@
 use Rattle.json_walk.specs.Inner.Within.{ahead}
 use borrow.Author.Tests.{le-ltb, lt-ltb}
-use borrow.Author.Rules.{rules}
 use Rattle.json_walk.proofs.strings.step.Goals as goal
 
 pub returns-then-i-text : goal.returns-then-i-text

@@ -1,6 +1,5 @@
 -- `keywords::marks::free_busy` meets its contract: the definition's tests in its order.
 use Rattle.keywords.specs.Marks.{free_busy_of}
-use borrow.Author.Rules.{rules}
 use Rattle.keywords.proofs.marks.free_busy.Goals as goal
 
 -- OLD

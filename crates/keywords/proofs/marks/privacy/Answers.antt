@@ -1,6 +1,5 @@
 -- `keywords::marks::privacy` meets its contract: the definition's tests in its order.
 use Rattle.keywords.specs.Marks.{privacy_of}
-use borrow.Author.Rules.{rules}
 use Rattle.keywords.proofs.marks.privacy.Goals as goal
 
 -- OLD

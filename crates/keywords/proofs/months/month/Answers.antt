@@ -4,7 +4,6 @@ use mathlib.Core.Path.{sym}
 use native.Mathlib.Omega.{arith}
 use Rattle.keywords.specs.Months.{month_of}
 use borrow.Author.Tests.{eq-eqb, le-leb, lt-leb, ne_eqb}
-use borrow.Author.Rules.{rules}
 use Rattle.keywords.proofs.months.month.Goals as goal
 
 pub returns-then-m-ge1 : goal.returns-then-m-ge1

@@ -1,7 +1,6 @@
 -- `keywords::months::written` meets its contract: the definition's tests in its order.
 use Rattle.keywords.specs.Months.{month_written}
 use borrow.Author.Tests.{eq-eqb, le-leb, lt-leb, ne_eqb, not-false, not-true}
-use borrow.Author.Rules.{rules}
 use Rattle.keywords.proofs.months.written.Goals as goal
 
 pub returns-then-is_digit : goal.returns-then-is_digit

@@ -1,6 +1,5 @@
 -- `keywords::rules::frequency` meets its contract: the definition's tests in its order.
 use Rattle.keywords.specs.Rules.{frequency_of}
-use borrow.Author.Rules.{rules}
 use Rattle.keywords.proofs.rules.frequency.Goals as goal
 
 -- OLD

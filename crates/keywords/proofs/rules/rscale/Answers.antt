@@ -1,6 +1,5 @@
 -- `keywords::rules::rscale` meets its contract: the definition's tests in its order.
 use Rattle.keywords.specs.Rules.{rscale_fault}
-use borrow.Author.Rules.{rules}
 use Rattle.keywords.proofs.rules.rscale.Goals as goal
 
 -- OLD

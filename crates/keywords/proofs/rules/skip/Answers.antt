@@ -1,6 +1,5 @@
 -- `keywords::rules::skip` meets its contract: the definition's tests in its order.
 use Rattle.keywords.specs.Rules.{skip_fault}
-use borrow.Author.Rules.{rules}
 use Rattle.keywords.proofs.rules.skip.Goals as goal
 
 -- OLD

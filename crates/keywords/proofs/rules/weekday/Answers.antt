@@ -1,6 +1,5 @@
 -- `keywords::rules::weekday` meets its contract: the definition's tests in its order.
 use Rattle.keywords.specs.Rules.{weekday_of}
-use borrow.Author.Rules.{rules}
 use Rattle.keywords.proofs.rules.weekday.Goals as goal
 
 -- OLD

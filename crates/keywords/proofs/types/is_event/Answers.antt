@@ -1,5 +1,4 @@
 -- `keywords::types::is_event` meets its contract.
-use borrow.Author.Rules.{rules}
 use Rattle.keywords.proofs.types.is_event.Goals as goal
 
 -- OLD

@@ -1,5 +1,4 @@
 -- `keywords::types::is_nday` meets its contract.
-use borrow.Author.Rules.{rules}
 use Rattle.keywords.proofs.types.is_nday.Goals as goal
 
 -- OLD

@@ -1,5 +1,4 @@
 -- `keywords::types::is_rule` meets its contract.
-use borrow.Author.Rules.{rules}
 use Rattle.keywords.proofs.types.is_rule.Goals as goal
 
 -- OLD

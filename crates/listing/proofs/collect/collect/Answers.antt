@@ -1,9 +1,7 @@
 -- `listing::collect::collect` meets its contract. The invariant: the days of the hits so far stand in the list.
-use Rattle.listing.proofs.CollectLaws.{CollectAt, collect-starts, collect-room, collect-one, collect-ends}
+use Rattle.listing.proofs.CollectLaws.{collect-starts, collect-room, collect-one, collect-ends}
 use Prim.Native.Nat.{◌-◌}
-use lib.ListN.{length}
 use native.Mathlib.Omega.{arith}
-use borrow.Author.Rules.{rules}
 use Rattle.listing.proofs.collect.collect.Goals as goal
 
 pub loop-k-init : goal.loop-k-init

@@ -1,9 +1,7 @@
 -- `listing::collect::copy_from` meets its contract. The invariant: the entries so far stand in the list.
-use Rattle.listing.proofs.CollectLaws.{CopyAt, copy-starts, copy-room, copy-one, copy-ends}
+use Rattle.listing.proofs.CollectLaws.{copy-starts, copy-room, copy-one, copy-ends}
 use Prim.Native.Nat.{◌-◌}
-use lib.ListN.{length}
 use native.Mathlib.Omega.{arith}
-use borrow.Author.Rules.{rules}
 use Rattle.listing.proofs.collect.copy_from.Goals as goal
 
 pub loop-k-init : goal.loop-k-init

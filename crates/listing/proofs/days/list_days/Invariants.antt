@@ -1,15 +1,10 @@
 -- `listing::days::list_days` meets its contract. The invariant: the days so far stand in the list, and what is kept of the kinds of months is right.
-use Rattle.listing.proofs.DayLaws.{DaysAt, days-start, days-stop, days-end, days-pass, days-part, days-rest}
-use Rattle.listing.proofs.PartLaws.{kinds-none, part-few}
+use Rattle.listing.proofs.DayLaws.{DaysAt}
 use Rattle.listing.specs.Inner.Parts.{Kinds}
 use Rattle.rule.specs.Day.{day_at}
 use Rattle.matcher.specs.Inner.Walk.{picks_on_by}
-use Rattle.matcher.proofs.WalkLaws.{number_is, day-again}
-use Rattle.track.proofs.PlainLaws.{month-at}
 use Prim.Native.Nat.{◌-◌}
-use native.Mathlib.Omega.{arith}
-use mathlib.Core.Path.{◌≡◌, sym, ap, ◌∙◌}
-use borrow.Author.Rules.{rules}
+use mathlib.Core.Path.{◌≡◌}
 use Rattle.listing.proofs.days.list_days.Given as goal
 
 abbrev pub invariant-loop-day : goal.invariant-loop-day

@@ -2,7 +2,6 @@
 use Rattle.listing.proofs.KindLaws.{piece-at, list-already, list-kept}
 use Rattle.track.proofs.PlainLaws.{part-size}
 use native.Mathlib.Omega.{arith}
-use borrow.Author.Rules.{rules}
 use Rattle.listing.proofs.kinds.keep_list.Goals as goal
 
 pub returns-then-lists-at-gt0 : goal.returns-then-lists-at-gt0

@@ -1,7 +1,6 @@
 -- `listing::kinds::write_list` meets its contract.
 use Rattle.listing.proofs.KindLaws.{list_written}
 use native.Mathlib.Omega.{arith}
-use borrow.Author.Rules.{rules}
 use Rattle.listing.proofs.kinds.write_list.Goals as goal
 
 pub returns : goal.returns

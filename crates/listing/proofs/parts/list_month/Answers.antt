@@ -2,7 +2,6 @@
 use Rattle.listing.proofs.PartLaws.{chosen-calendar, chosen-kind, month-number, month-few, month-fits, month-asks, month-copied}
 use mathlib.Core.Path.{refl}
 use native.Mathlib.Omega.{arith}
-use borrow.Author.Rules.{rules}
 use Rattle.listing.proofs.parts.list_month.Goals as goal
 
 pub first_weekday-weekday-requires : goal.first_weekday-weekday-requires

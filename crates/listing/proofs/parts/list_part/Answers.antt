@@ -4,7 +4,6 @@ use Rattle.matcher.proofs.WalkLaws.{in-calendar}
 use mathlib.Core.Path.{sym, ◌∙◌}
 use native.Mathlib.Omega.{arith}
 use borrow.Author.Tests.{not-true, not-false}
-use borrow.Author.Rules.{rules}
 use Rattle.listing.proofs.parts.list_part.Goals as goal
 
 pub on_month-requires : goal.on_month-requires

@@ -3,7 +3,6 @@ use Rattle.listing.proofs.KindLaws.{piece-at}
 use Rattle.track.proofs.PlainLaws.{part-size}
 use Rattle.listing.proofs.PartLaws.{chosen-calendar, chosen-kind, chosen-within, some-room, some-listed}
 use native.Mathlib.Omega.{arith}
-use borrow.Author.Rules.{rules}
 use Rattle.listing.proofs.parts.list_some.Goals as goal
 
 pub first_weekday-weekday-requires : goal.first_weekday-weekday-requires

@@ -2,7 +2,6 @@
 use mathlib.Core.Bool.{false≢true}
 use mathlib.Core.Path.{sym, ◌∙◌}
 use borrow.Author.Tests.{not-true, not-false}
-use borrow.Author.Rules.{rules}
 use Rattle.listing.proofs.whole.is_by_months.Goals as goal
 
 pub returns-then-not-positions_in_months : goal.returns-then-not-positions_in_months

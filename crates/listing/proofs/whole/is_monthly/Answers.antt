@@ -1,6 +1,5 @@
 -- `listing::whole::is_monthly` meets its contract: the tests of the definition in their order.
 use Rattle.listing.specs.Inner.Parts.{is_monthly}
-use borrow.Author.Rules.{rules}
 use Rattle.listing.proofs.whole.is_monthly.Goals as goal
 
 pub returns-in-Daily : goal.returns-in-Daily

@@ -1,6 +1,5 @@
 -- `listing::whole::list_chunk` meets its contract.
 use Rattle.listing.proofs.DayLaws.{start-before, start-behind, start-within, start-asks, start-size}
-use borrow.Author.Rules.{rules}
 use Rattle.listing.proofs.whole.list_chunk.Goals as goal
 
 pub returns-then-begin-first : goal.returns-then-begin-first

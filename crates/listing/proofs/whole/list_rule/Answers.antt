@@ -1,6 +1,5 @@
 -- `listing::whole::list_rule` meets its contract.
 use Rattle.listing.proofs.DayLaws.{rule-none, rule-stops, rule-ends}
-use borrow.Author.Rules.{rules}
 use Rattle.listing.proofs.whole.list_rule.Goals as goal
 
 pub returns-then-to-from : goal.returns-then-to-from

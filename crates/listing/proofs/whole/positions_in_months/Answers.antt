@@ -5,7 +5,6 @@ use borrow.Author.Tests.{not-true, not-false}
 use Rattle.rule.specs.declared.Frequency.{Frequency}
 use Rattle.rule.specs.declared.Frequency.TheVariants.{Daily, Weekly, Monthly, Yearly}
 use Rattle.listing.specs.Inner.Parts.{is_monthly}
-use borrow.Author.Rules.{rules}
 use Rattle.listing.proofs.whole.positions_in_months.Goals as goal
 
 monthly-is : (f : Frequency) → is_monthly f ≡ true → f ≡ Monthly

@@ -1,12 +1,10 @@
 -- `little_endian::reading::get_i64` meets its contract: the signed number of eight bytes.
 use mir.Syntax.{w64}
 use mir.Val.{SFits}
-use native.Mathlib.Omega.{arith}
 use mathlib.Core.Path.{ap, ◌∙◌}
 use mir.Facts.{to_z-of_z}
 use Rattle.little_endian.specs.Bytes.{signed_of}
 use Rattle.little_endian.proofs.ReadLaws.{signed-fits}
-use borrow.Author.Rules.{rules}
 use Rattle.little_endian.proofs.reading.get_i64.Goals as goal
 
 pub returns : goal.returns

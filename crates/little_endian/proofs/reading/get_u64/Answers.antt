@@ -1,7 +1,6 @@
 -- `little_endian::reading::get_u64` meets its contract: a number by its lower and its higher bytes.
 use native.Mathlib.Omega.{arith}
 use Rattle.little_endian.proofs.ReadLaws.{number-join}
-use borrow.Author.Rules.{rules}
 use Rattle.little_endian.proofs.reading.get_u64.Goals as goal
 
 pub returns : goal.returns

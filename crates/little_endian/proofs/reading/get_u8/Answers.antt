@@ -1,7 +1,6 @@
 -- `little_endian::reading::get_u8` meets its contract: a byte is the number of one.
 use native.Mathlib.Omega.{arith}
 use Rattle.little_endian.proofs.ReadLaws.{number-one}
-use borrow.Author.Rules.{rules}
 use Rattle.little_endian.proofs.reading.get_u8.Goals as goal
 
 pub returns : goal.returns

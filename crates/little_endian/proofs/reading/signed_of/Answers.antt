@@ -1,6 +1,5 @@
 -- `little_endian::reading::signed_of` meets its contract: below 2^63 the number itself, else what is left to 2^64, negative.
 use Rattle.little_endian.proofs.ReadLaws.{signed_low, signed_high, high_fits}
-use borrow.Author.Rules.{rules}
 use Rattle.little_endian.proofs.reading.signed_of.Goals as goal
 
 pub returns-then-v-lt9223372036854775808 : goal.returns-then-v-lt9223372036854775808

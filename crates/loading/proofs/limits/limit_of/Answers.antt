@@ -1,7 +1,6 @@
 -- `loading::limits::limit_of` meets its contract.
 use Rattle.loading.specs.Inner.Limit.{limit_of}
 use borrow.Author.Tests.{le-ltb, lt-ltb}
-use borrow.Author.Rules.{rules}
 use Rattle.loading.proofs.limits.limit_of.Goals as goal
 
 pub returns-then-day-lt3067672 : goal.returns-then-day-lt3067672

@@ -1,6 +1,5 @@
 -- `loading::lists::load_list` meets its contract: no rules, or those at the place.
 use Rattle.loading.proofs.PlaceLaws.{rules-fine, rules-none, rules-at}
-use borrow.Author.Rules.{rules}
 use Rattle.loading.proofs.lists.load_list.Goals as goal
 
 pub load_rules-requires : goal.load_rules-requires

@@ -1,6 +1,5 @@
 -- `loading::lists::load_overrides` meets its contract: no overrides, or those at the place.
 use Rattle.loading.proofs.PlaceLaws.{overrides-none, overrides-at}
-use borrow.Author.Rules.{rules}
 use Rattle.loading.proofs.lists.load_overrides.Goals as goal
 
 pub returns-in-None : goal.returns-in-None

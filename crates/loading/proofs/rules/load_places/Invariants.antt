@@ -1,9 +1,7 @@
 -- `loading::rules::load_places` meets its contract: each turn settles one rule more.
 use Prim.Native.Nat.{◌-◌}
-use mathlib.Core.Path.{sym, ◌∙◌}
 use lib.ListN.{length}
-use Rattle.loading.proofs.RuleLaws.{LoadedTo, loading-starts, room, sized, loading-goes-on, loading-ends}
-use borrow.Author.Rules.{rules}
+use Rattle.loading.proofs.RuleLaws.{LoadedTo}
 use Rattle.loading.proofs.rules.load_places.Given as goal
 
 abbrev pub invariant-loop-i : goal.invariant-loop-i

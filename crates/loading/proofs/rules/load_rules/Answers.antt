@@ -1,7 +1,6 @@
 -- `loading::rules::load_rules` meets its contract: the places that were stored are those of the list's rules.
 use mathlib.Core.Path.{refl}
 use Rattle.loading.proofs.RuleLaws.{enough, places-long, places-fine, list-settled}
-use borrow.Author.Rules.{rules}
 use Rattle.loading.proofs.rules.load_rules.Goals as goal
 
 pub slice_bounds-places-end : goal.slice_bounds-places-end

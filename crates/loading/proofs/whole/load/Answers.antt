@@ -1,7 +1,6 @@
 -- `loading::whole::load` meets its contract: what its calls say is joined by LoadLaws.
 use mathlib.Core.Path.{◌≡◌, sym, ◌∙◌}
 use lib.ListN.{length}
-use borrow.Author.Rules.{rules}
 use Rattle.matcher.specs.Inner.Layout.{list_size}
 use Rattle.loading.proofs.LoadLaws.{first-size, second-size, both-back, rules-need, excluded-need, ids_fit, ids-taken, event-kept}
 use Rattle.loading.proofs.whole.load.Goals as goal

@@ -1,6 +1,5 @@
 -- `matcher::flags::is_named` meets its contract: the flag of the place, else that of the place from the end.
 use Rattle.matcher.specs.Inner.Flags.{named}
-use borrow.Author.Rules.{rules}
 use Rattle.matcher.proofs.flags.is_named.Goals as goal
 
 pub returns-then-flags-on : goal.returns-then-flags-on

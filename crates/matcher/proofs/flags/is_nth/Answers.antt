@@ -1,6 +1,5 @@
 -- `matcher::flags::is_nth` meets its contract: the tests of the definition in their order.
 use Rattle.matcher.specs.Inner.Flags.{nth_by}
-use borrow.Author.Rules.{rules}
 use Rattle.matcher.proofs.flags.is_nth.Goals as goal
 
 pub returns : goal.returns

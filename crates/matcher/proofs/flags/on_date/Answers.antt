@@ -1,6 +1,5 @@
 -- `matcher::flags::on_date` meets its contract: the tests of the definition in their order.
 use Rattle.matcher.specs.Inner.Flags.{date_by}
-use borrow.Author.Rules.{rules}
 use Rattle.matcher.proofs.flags.on_date.Goals as goal
 
 pub returns : goal.returns

@@ -1,6 +1,5 @@
 -- `matcher::flags::on_day` meets its contract: the tests of the definition in their order.
 use Rattle.matcher.specs.Inner.Flags.{day_by}
-use borrow.Author.Rules.{rules}
 use Rattle.matcher.proofs.flags.on_day.Goals as goal
 
 pub returns-then-flags-weekday : goal.returns-then-flags-weekday

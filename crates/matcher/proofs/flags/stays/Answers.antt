@@ -1,7 +1,6 @@
 -- `matcher::flags::stays` meets its contract: the tests of the definition in their order.
 use Rattle.matcher.specs.Inner.Flags.{stays_by}
 use borrow.Author.Tests.{not-false, not-true}
-use borrow.Author.Rules.{rules}
 use Rattle.matcher.proofs.flags.stays.Goals as goal
 
 pub returns-then-not-on_month : goal.returns-then-not-on_month

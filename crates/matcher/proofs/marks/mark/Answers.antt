@@ -1,7 +1,6 @@
 -- `matcher::marks::mark` meets its contract: the tests of the definition in their order.
 use Rattle.matcher.specs.Inner.Marks.{mark_one}
 use borrow.Author.Tests.{le-ltb, lt-ltb}
-use borrow.Author.Rules.{rules}
 use Rattle.matcher.proofs.marks.mark.Goals as goal
 
 pub returns-then-i-limit : goal.returns-then-i-limit

@@ -1,8 +1,5 @@
 -- `matcher::marks::mark_all` meets its contract: what is marked from here on is what is marked from the start on.
-use native.Mathlib.Omega.{arith}
-use Rattle.matcher.proofs.MarkLaws.{AllAt, all-starts, all-goes-on, all-ends}
-use Rattle.matcher.specs.Inner.Marks.{mark_all}
-use borrow.Author.Rules.{rules}
+use Rattle.matcher.proofs.MarkLaws.{all-starts, all-goes-on, all-ends}
 use Rattle.matcher.proofs.marks.mark_all.Goals as goal
 
 pub loop-left-init : goal.loop-left-init

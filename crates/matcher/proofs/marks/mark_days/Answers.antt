@@ -1,13 +1,10 @@
 -- `matcher::marks::mark_days` meets its contract: what is marked from here on is what is marked from the start on.
 use Prim.Native.Nat.{◌-◌}
-use native.Mathlib.Omega.{arith}
-use lib.IntN.{pos}
-use lib.ListN.{length, get_or}
-use borrow.Author.Rules.{rules}
+use lib.ListN.{get_or}
 use Rattle.signed.proofs.Parts.{passed}
 use Rattle.rule.specs.Inner.Read.{nth_from}
 use Rattle.matcher.specs.Inner.Marks.{mark_nth}
-use Rattle.matcher.proofs.MarkLaws.{DaysAt, days-starts, days-goes-on, days-ends}
+use Rattle.matcher.proofs.MarkLaws.{days-starts, days-goes-on, days-ends}
 use Rattle.matcher.proofs.marks.mark_days.Goals as goal
 
 pub loop-i-init : goal.loop-i-init

@@ -1,10 +1,7 @@
 -- `matcher::marks::mark_each` meets its contract: what is marked from here on is what is marked from the start on.
 use Prim.Native.Nat.{◌-◌}
 use native.Mathlib.Omega.{arith}
-use lib.ListN.{length}
-use Rattle.matcher.proofs.MarkLaws.{EachAt, each-starts, each-goes-on, each-ends}
-use Rattle.matcher.specs.Inner.Marks.{mark_each}
-use borrow.Author.Rules.{rules}
+use Rattle.matcher.proofs.MarkLaws.{each-starts, each-goes-on, each-ends}
 use Rattle.matcher.proofs.marks.mark_each.Goals as goal
 
 pub loop-i-init : goal.loop-i-init

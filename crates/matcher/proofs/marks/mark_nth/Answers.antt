@@ -4,7 +4,6 @@ use Rattle.signed.specs.Parts.{pos_part, neg_part}
 use Rattle.signed.proofs.Parts.{passed}
 use Rattle.matcher.specs.Inner.Marks.{mark_nth}
 use Rattle.matcher.proofs.MarkLaws.{nth_on, nth-back, nth-none}
-use borrow.Author.Rules.{rules}
 use Rattle.matcher.proofs.marks.mark_nth.Goals as goal
 
 pub returns-then-positive_part-gt0 : goal.returns-then-positive_part-gt0

@@ -2,7 +2,6 @@
 use Rattle.signed.specs.Parts.{pos_part, neg_part}
 use Rattle.signed.proofs.Parts.{passed}
 use Rattle.matcher.proofs.MarkLaws.{place-made}
-use borrow.Author.Rules.{rules}
 use Rattle.matcher.proofs.marks.mark_place.Goals as goal
 
 pub returns : goal.returns

@@ -4,7 +4,6 @@ use Rattle.matcher.specs.Inner.Marks.{mark_place}
 use Rattle.matcher.proofs.MarkLaws.{weekday-made}
 use Rattle.matcher.specs.Inner.Marks.{mark_nth, mark_one}
 use borrow.Author.Tests.{le-ltb}
-use borrow.Author.Rules.{rules}
 use Rattle.matcher.proofs.marks.mark_weekday.Goals as goal
 
 pub returns-then-weekday-lt7 : goal.returns-then-weekday-lt7

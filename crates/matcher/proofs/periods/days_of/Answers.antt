@@ -1,6 +1,5 @@
 -- `matcher::periods::days_of` meets its contract: the tests of the definition in their order.
 use Rattle.rule.specs.Period.{days_of}
-use borrow.Author.Rules.{rules}
 use Rattle.matcher.proofs.periods.days_of.Goals as goal
 
 pub returns-in-Daily : goal.returns-in-Daily

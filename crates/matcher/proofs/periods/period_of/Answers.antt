@@ -1,6 +1,5 @@
 -- `matcher::periods::period_of` meets its contract: the tests of the definition in their order.
 use Rattle.rule.specs.Period.{period_of}
-use borrow.Author.Rules.{rules}
 use Rattle.matcher.proofs.periods.period_of.Goals as goal
 
 pub returns-in-Daily : goal.returns-in-Daily

@@ -1,6 +1,5 @@
 -- `matcher::periods::since_first` meets its contract: the tests of the definition in their order.
 use Rattle.rule.specs.Period.{since_first}
-use borrow.Author.Rules.{rules}
 use Rattle.matcher.proofs.periods.since_first.Goals as goal
 
 pub returns-in-Daily : goal.returns-in-Daily

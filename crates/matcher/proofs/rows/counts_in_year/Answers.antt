@@ -1,6 +1,5 @@
 -- `matcher::rows::counts_in_year` meets its contract: the tests of the definition in their order.
 use Rattle.matcher.specs.Inner.Rows.{yearly}
-use borrow.Author.Rules.{rules}
 use Rattle.matcher.proofs.rows.counts_in_year.Goals as goal
 
 pub returns-in-Daily : goal.returns-in-Daily

@@ -1,6 +1,5 @@
 -- `matcher::rows::implies_day` meets its contract: the tests of the definition in their order.
 use Rattle.matcher.specs.Inner.Rows.{implies_day}
-use borrow.Author.Rules.{rules}
 use Rattle.matcher.proofs.rows.implies_day.Goals as goal
 
 pub returns-in-Daily : goal.returns-in-Daily

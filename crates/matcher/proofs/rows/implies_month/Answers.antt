@@ -2,7 +2,6 @@
 use native.Mathlib.Omega.{arith}
 use borrow.Author.Tests.{eq-eqb, ne_eqb}
 use Rattle.matcher.specs.Inner.Rows.{implies_month}
-use borrow.Author.Rules.{rules}
 use Rattle.matcher.proofs.rows.implies_month.Goals as goal
 
 pub returns-then-dates-gt0 : goal.returns-then-dates-gt0

@@ -2,7 +2,6 @@
 use mathlib.Core.Path.{sym, ◌∙◌}
 use lib.Seq.{length-take-le}
 use Rattle.matcher.proofs.MadeLaws.{dates-made, date-made, dates-absent}
-use borrow.Author.Rules.{rules}
 use Rattle.matcher.proofs.rows.mark_dates.Goals as goal
 
 pub slice_bounds-mark_places-end : goal.slice_bounds-mark_places-end

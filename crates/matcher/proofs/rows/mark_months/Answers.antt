@@ -3,7 +3,6 @@ use mathlib.Core.Bool.{true, false}
 use mathlib.Core.Path.{sym, ◌∙◌}
 use lib.Seq.{length-take-le}
 use Rattle.matcher.proofs.MadeLaws.{months-made, month-made}
-use borrow.Author.Rules.{rules}
 use Rattle.matcher.proofs.rows.mark_months.Goals as goal
 
 pub slice_bounds-mark_each-end : goal.slice_bounds-mark_each-end

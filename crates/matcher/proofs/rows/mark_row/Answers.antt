@@ -1,8 +1,7 @@
 -- `matcher::rows::mark_row` meets its contract: the four lists, one after the other.
-use mathlib.Core.Path.{sym, ◌∙◌}
+use mathlib.Core.Path.{sym}
 use lib.Seq.{length-take-le}
 use Rattle.matcher.proofs.MadeLaws.{row_made}
-use borrow.Author.Rules.{rules}
 use Rattle.matcher.proofs.rows.mark_row.Goals as goal
 
 pub slice_bounds-mark_places-end : goal.slice_bounds-mark_places-end

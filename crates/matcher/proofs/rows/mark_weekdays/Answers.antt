@@ -4,7 +4,6 @@ use native.Mathlib.Omega.{arith}
 use mathlib.Core.Path.{sym, ◌∙◌}
 use lib.Seq.{length-take-le}
 use Rattle.matcher.proofs.MadeLaws.{days-made, day-made}
-use borrow.Author.Rules.{rules}
 use Rattle.matcher.proofs.rows.mark_weekdays.Goals as goal
 
 pub slice_bounds-mark_days-end : goal.slice_bounds-mark_days-end

@@ -1,6 +1,5 @@
 -- `matcher::rows::terms_of` meets its contract.
 use Rattle.matcher.proofs.TermLaws.{terms-read}
-use borrow.Author.Rules.{rules}
 use Rattle.matcher.proofs.rows.terms_of.Goals as goal
 
 pub returns : goal.returns

@@ -1,11 +1,6 @@
 -- `matcher::walk::count_in` meets its contract. The invariant: what was found, and what the days left hold, make the whole.
-use Prim.Native.Nat.{◌≤◌}
-use mathlib.Core.Path.{◌≡◌, sym, ◌∙◌}
-use native.Mathlib.Omega.{arith}
-use lib.ListN.{length}
-use borrow.Author.Rules.{rules}
 use Rattle.matcher.specs.Inner.Walk.{stays_on_by}
-use Rattle.matcher.proofs.WalkLaws.{Counting, counting-starts, counting-yes, counting-no, counting-ends, in-calendar, stays_on}
+use Rattle.matcher.proofs.WalkLaws.{Counting}
 use Rattle.matcher.proofs.walk.count_in.Given as goal
 
 abbrev pub invariant-loop-left : goal.invariant-loop-left

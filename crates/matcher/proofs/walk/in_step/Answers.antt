@@ -1,7 +1,6 @@
 -- `matcher::walk::in_step` meets its contract; a period before the start's has the difference 0.
 use Rattle.matcher.proofs.WalkLaws.{step-each, step-first, step-never}
 use Rattle.matcher.specs.Inner.Walk.{step_by}
-use borrow.Author.Rules.{rules}
 use Rattle.matcher.proofs.walk.in_step.Goals as goal
 
 pub returns-then-interval-eq1 : goal.returns-then-interval-eq1

@@ -3,7 +3,6 @@ use Rattle.months.proofs.RowLaws.{keeps, kept-already, kept-prepared}
 use lib.ListN.{length-set}
 use mathlib.Core.Path.{◌∙◌}
 use native.Mathlib.Omega.{arith}
-use borrow.Author.Rules.{rules}
 use Rattle.months.proofs.kinds.keep.Goals as goal
 
 pub bounds-rows-at : goal.bounds-rows-at

@@ -2,12 +2,10 @@
 use Rattle.months.proofs.RowLaws.{wrote_none, wrote-more, count_next, chosen-place, chosen_is}
 use Rattle.months.specs.Inner.Kinds.{chosen_in}
 use Rattle.months.specs.Inner.Rows.{answer_at, Wrote}
-use Rattle.rule.specs.Lists.{count_in}
 use Rattle.rule.proofs.Counting.{count_none, count_most}
-use Prim.Native.Nat.{ℕ, ◌+◌, ◌-◌, ◌≤◌}
+use Prim.Native.Nat.{ℕ, ◌+◌, ◌-◌}
 use mathlib.Core.Path.{◌≡◌, sym, ◌∙◌, subst}
 use native.Mathlib.Omega.{arith}
-use borrow.Author.Rules.{rules}
 use Rattle.months.proofs.rows.choose_days.Goals as goal
 
 pub loop-k-init : goal.loop-k-init

@@ -1,13 +1,9 @@
 -- `months::rows::choose_days` meets its contract. The invariant: the answers so far are written, and those that stay are counted.
-use Rattle.months.proofs.RowLaws.{wrote_none, wrote-more, count_next, chosen-place, chosen_is}
 use Rattle.months.specs.Inner.Kinds.{chosen_in}
 use Rattle.months.specs.Inner.Rows.{answer_at, Wrote}
 use Rattle.rule.specs.Lists.{count_in}
-use Rattle.rule.proofs.Counting.{count_none, count_most}
-use Prim.Native.Nat.{ℕ, ◌+◌, ◌-◌, ◌≤◌}
-use mathlib.Core.Path.{◌≡◌, sym, ◌∙◌, subst}
-use native.Mathlib.Omega.{arith}
-use borrow.Author.Rules.{rules}
+use Prim.Native.Nat.{◌-◌, ◌≤◌}
+use mathlib.Core.Path.{◌≡◌}
 use Rattle.months.proofs.rows.choose_days.Given as goal
 
 abbrev pub invariant-loop-k : goal.invariant-loop-k

@@ -3,10 +3,9 @@ use Rattle.months.proofs.RowLaws.{count_next}
 use Rattle.months.specs.Inner.Rows.{answer_at}
 use Rattle.rule.specs.Lists.{count_in}
 use Rattle.rule.proofs.Counting.{count_none, count_most}
-use Prim.Native.Nat.{◌-◌, ◌≤◌}
+use Prim.Native.Nat.{◌-◌}
 use mathlib.Core.Path.{◌≡◌, sym, ap, ◌∙◌}
 use native.Mathlib.Omega.{arith}
-use borrow.Author.Rules.{rules}
 use Rattle.months.proofs.rows.count_days.Goals as goal
 
 pub loop-k-init : goal.loop-k-init

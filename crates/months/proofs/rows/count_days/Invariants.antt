@@ -1,12 +1,8 @@
 -- `months::rows::count_days` meets its contract. The invariant: what was found is what the days so far hold.
-use Rattle.months.proofs.RowLaws.{count_next}
 use Rattle.months.specs.Inner.Rows.{answer_at}
 use Rattle.rule.specs.Lists.{count_in}
-use Rattle.rule.proofs.Counting.{count_none, count_most}
 use Prim.Native.Nat.{◌-◌, ◌≤◌}
-use mathlib.Core.Path.{◌≡◌, sym, ap, ◌∙◌}
-use native.Mathlib.Omega.{arith}
-use borrow.Author.Rules.{rules}
+use mathlib.Core.Path.{◌≡◌}
 use Rattle.months.proofs.rows.count_days.Given as goal
 
 abbrev pub invariant-loop-k : goal.invariant-loop-k

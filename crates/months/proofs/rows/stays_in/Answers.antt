@@ -1,7 +1,6 @@
 -- `months::rows::stays_in` meets its contract: the tests of the definition in their order.
 use Rattle.months.specs.Inner.Kinds.{stays_in}
 use borrow.Author.Tests.{not-false, not-true}
-use borrow.Author.Rules.{rules}
 use Rattle.months.proofs.rows.stays_in.Goals as goal
 
 pub returns-then-not-is_named : goal.returns-then-not-is_named

@@ -1,11 +1,7 @@
 -- `months::rows::write_each` meets its contract. The invariant: the answers so far are written.
-use Rattle.months.proofs.RowLaws.{wrote_none, wrote-more}
 use Rattle.months.specs.Inner.Kinds.{stays_in}
 use Rattle.months.specs.Inner.Rows.{Wrote}
-use Prim.Native.Nat.{ℕ, ◌-◌, ◌≤◌}
-use mathlib.Core.Path.{◌≡◌, subst}
-use native.Mathlib.Omega.{arith}
-use borrow.Author.Rules.{rules}
+use Prim.Native.Nat.{◌-◌, ◌≤◌}
 use Rattle.months.proofs.rows.write_each.Given as goal
 
 abbrev pub invariant-loop-k : goal.invariant-loop-k

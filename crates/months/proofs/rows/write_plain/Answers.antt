@@ -3,10 +3,9 @@ use Rattle.months.proofs.RowLaws.{wrote_none, wrote-more}
 use Rattle.months.proofs.WeekLaws.{plain-is}
 use Rattle.months.specs.Inner.Kinds.{stays_in}
 use Rattle.months.specs.Inner.Rows.{Wrote}
-use Prim.Native.Nat.{ℕ, ◌-◌, ◌≤◌}
+use Prim.Native.Nat.{ℕ, ◌-◌}
 use mathlib.Core.Path.{◌≡◌, subst}
 use native.Mathlib.Omega.{arith}
-use borrow.Author.Rules.{rules}
 use Rattle.months.proofs.rows.write_plain.Goals as goal
 
 pub loop-k-init : goal.loop-k-init

@@ -1,12 +1,7 @@
 -- `months::rows::write_plain` meets its contract. The invariant: the answers so far are written.
-use Rattle.months.proofs.RowLaws.{wrote_none, wrote-more}
-use Rattle.months.proofs.WeekLaws.{plain-is}
 use Rattle.months.specs.Inner.Kinds.{stays_in}
 use Rattle.months.specs.Inner.Rows.{Wrote}
-use Prim.Native.Nat.{ℕ, ◌-◌, ◌≤◌}
-use mathlib.Core.Path.{◌≡◌, subst}
-use native.Mathlib.Omega.{arith}
-use borrow.Author.Rules.{rules}
+use Prim.Native.Nat.{◌-◌, ◌≤◌}
 use Rattle.months.proofs.rows.write_plain.Given as goal
 
 abbrev pub invariant-loop-k : goal.invariant-loop-k

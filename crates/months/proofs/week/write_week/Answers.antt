@@ -3,10 +3,9 @@ use Rattle.months.specs.Inner.Layout.{kinds_size, week_size}
 use Rattle.months.proofs.RowLaws.{wrote_none, wrote-more}
 use Rattle.months.specs.Inner.Week.{week_at}
 use Rattle.months.specs.Inner.Rows.{Wrote}
-use Prim.Native.Nat.{ℕ, ◌-◌, ◌≤◌}
+use Prim.Native.Nat.{ℕ, ◌-◌}
 use mathlib.Core.Path.{◌≡◌, refl, subst}
 use native.Mathlib.Omega.{arith}
-use borrow.Author.Rules.{rules}
 use Rattle.months.proofs.week.write_week.Goals as goal
 
 pub loop-k-init : goal.loop-k-init

@@ -1,12 +1,8 @@
 -- `months::week::write_week` meets its contract. The invariant: the answers so far are written.
 use Rattle.months.specs.Inner.Layout.{kinds_size, week_size}
-use Rattle.months.proofs.RowLaws.{wrote_none, wrote-more}
 use Rattle.months.specs.Inner.Week.{week_at}
 use Rattle.months.specs.Inner.Rows.{Wrote}
-use Prim.Native.Nat.{ℕ, ◌-◌, ◌≤◌}
-use mathlib.Core.Path.{◌≡◌, refl, subst}
-use native.Mathlib.Omega.{arith}
-use borrow.Author.Rules.{rules}
+use Prim.Native.Nat.{◌-◌, ◌≤◌}
 use Rattle.months.proofs.week.write_week.Given as goal
 
 abbrev pub invariant-loop-k : goal.invariant-loop-k

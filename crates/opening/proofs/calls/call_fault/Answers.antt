@@ -1,6 +1,5 @@
 -- `call_fault` meets its contract: the tests in the order of the answers.
 use borrow.Author.Tests.{not-false, not-true}
-use borrow.Author.Rules.{rules}
 use Rattle.opening.specs.Inner.Refusal.{refusal_for}
 use Rattle.opening.proofs.RefusalLaws.{table-was, window-was}
 use Rattle.opening.proofs.calls.call_fault.Goals as goal

@@ -1,6 +1,5 @@
 -- `other_zone` meets its contract, by whether the event has a zone.
 use Rattle.call_definitions.specs.Answer.{other_zone}
-use borrow.Author.Rules.{rules}
 use Rattle.opening.proofs.calls.other_zone.Goals as goal
 
 pub returns-in-None : goal.returns-in-None

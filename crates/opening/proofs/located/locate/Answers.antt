@@ -1,6 +1,5 @@
 -- `located::locate` meets its contract: a table of zeros says nothing.
 use Rattle.json_ends.proofs.Laws.{ends-none}
-use borrow.Author.Rules.{rules}
 use Rattle.opening.proofs.located.locate.Goals as goal
 
 pub locate_in-requires : goal.locate_in-requires

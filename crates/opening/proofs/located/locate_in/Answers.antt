@@ -1,6 +1,5 @@
 -- `located::locate_in` meets its contract: what the opening found, or 0 and no place.
 use Rattle.opening.proofs.TextLaws.{refused-locates, accepted-locates}
-use borrow.Author.Rules.{rules}
 use Rattle.opening.proofs.located.locate_in.Goals as goal
 
 pub returns-in-Refused : goal.returns-in-Refused

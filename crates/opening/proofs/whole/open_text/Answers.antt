@@ -1,6 +1,5 @@
 -- `open_text` meets its contract: 1 to 4, then 5 to 9, and what they leave is accepted.
 use mathlib.Core.Path.{sym, ◌∙◌}
-use borrow.Author.Rules.{rules}
 use Rattle.opening.specs.Inner.Opens.{Opens}
 use Rattle.opening.proofs.TextLaws.{answer-first, event-next, event-none}
 use Rattle.opening.proofs.whole.open_text.Goals as goal

@@ -2,7 +2,6 @@
 use mathlib.Core.Path.{◌∙◌, ap}
 use Rattle.date_time.specs.Local.{local_of}
 use Rattle.event.specs.Properties.{from_local, date_time}
-use borrow.Author.Rules.{rules}
 use Rattle.override_text.proofs.entries.date.Goals as goal
 
 pub returns : goal.returns

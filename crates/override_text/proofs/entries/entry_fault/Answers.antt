@@ -1,6 +1,5 @@
 -- `override_text::entries::entry_fault` meets its contract.
 use Rattle.override_text.proofs.EntryLaws.{entry-joined}
-use borrow.Author.Rules.{rules}
 use Rattle.override_text.proofs.entries.entry_fault.Goals as goal
 
 pub returns : goal.returns

@@ -1,7 +1,5 @@
 -- `override_text::entries::faults` meets its contract: what was found and what is left make the whole.
-use Rattle.override_text.specs.Inner.Meaning.{details_in}
-use Rattle.override_text.proofs.EntryLaws.{Walk, walk_start, walk-next, walk_end, walk-out}
-use borrow.Author.Rules.{rules}
+use Rattle.override_text.proofs.EntryLaws.{walk_start, walk-next, walk_end, walk-out}
 use Rattle.override_text.proofs.entries.faults.Goals as goal
 
 pub loop-n-init : goal.loop-n-init

@@ -3,7 +3,6 @@ use mathlib.Core.Path.{sym}
 use borrow.Author.Tests.{lt-ltb, le-ltb}
 use Rattle.fault.specs.Fault.{faults_at, lower, first}
 use Rattle.fault.proofs.Laws.{lower-none}
-use borrow.Author.Rules.{rules}
 use Rattle.override_text.proofs.entries.limited.Goals as goal
 
 pub returns-then-count-gt256 : goal.returns-then-count-gt256

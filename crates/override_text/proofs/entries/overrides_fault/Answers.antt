@@ -1,7 +1,6 @@
 -- `override_text::entries::overrides_fault` meets its contract: an object, or none.
 use mathlib.Core.List.{List}
 use mathlib.Core.Path.{◌∙◌, sym, ap}
-use borrow.Author.Rules.{rules}
 use borrow.Author.Tests.{eq-eqb, ne_eqb}
 use Rattle.fault.specs.Fault.{faults_at, lower, first}
 use Rattle.event.specs.Types.{Override}

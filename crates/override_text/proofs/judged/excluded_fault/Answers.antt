@@ -1,6 +1,5 @@
 -- `override_text::judged::excluded_fault` meets its contract.
 use Rattle.fault.specs.Fault.{faults_at, lower, first}
-use borrow.Author.Rules.{rules}
 use Rattle.override_text.proofs.judged.excluded_fault.Goals as goal
 
 pub returns-then-alone : goal.returns-then-alone

@@ -5,7 +5,6 @@ use Rattle.fault.proofs.Laws.{first-all}
 use Rattle.override_text.proofs.NameLaws.{alone-tree, names-tree}
 use Rattle.property.specs.Inner.Vocabulary.{vocabulary, word_of}
 use native.Mathlib.Omega.{arith}
-use borrow.Author.Rules.{rules}
 use Rattle.override_text.proofs.judged.fault_by.Goals as goal
 
 pub passage-description-requires : goal.passage-description-requires

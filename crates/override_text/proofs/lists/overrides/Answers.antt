@@ -2,7 +2,6 @@
 use mathlib.Core.Path.{◌∙◌, sym}
 use borrow.Author.Tests.{eq-eqb, ne_eqb}
 use Rattle.override_text.proofs.ListLaws.{filled-yes, filled-no}
-use borrow.Author.Rules.{rules}
 use Rattle.override_text.proofs.lists.overrides.Goals as goal
 
 pub returns-then-byte-eq123 : goal.returns-then-byte-eq123

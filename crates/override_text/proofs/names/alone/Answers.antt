@@ -1,7 +1,6 @@
 -- `override_text::names::alone` meets its contract.
 use Rattle.override_text.proofs.NameLaws.{alone-two, alone-none, alone-short, is_end}
 use mathlib.Core.Path.{◌∙◌, sym, ap}
-use borrow.Author.Rules.{rules}
 use Rattle.override_text.proofs.names.alone.Goals as goal
 
 pub returns-then-text-lt2 : goal.returns-then-text-lt2

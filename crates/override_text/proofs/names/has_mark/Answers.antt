@@ -1,5 +1,4 @@
 -- `override_text::names::has_mark` meets its contract.
-use borrow.Author.Rules.{rules}
 use Rattle.json_walk.specs.Strings.{raw_at}
 use Rattle.json_walk.proofs.Laws.{bytes-ahead}
 use Rattle.override_text.proofs.names.has_mark.Goals as goal

@@ -4,7 +4,6 @@ use Rattle.json_walk.specs.Strings.{bytes_at}
 use Rattle.override_text.proofs.NameLaws.{mark-none, mark-step}
 use borrow.Author.Rules.{rules}
 use borrow.Author.Tests.{eq-eqb, ne_eqb}
-use mathlib.Core.Path.{◌≡◌}
 use Rattle.override_text.proofs.names.mark_in.Goals as goal
 
 pub loop-n-init : goal.loop-n-init

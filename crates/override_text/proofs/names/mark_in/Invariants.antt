@@ -1,9 +1,6 @@
 -- `override_text::names::mark_in` meets its contract: what is left of the bytes answers as all of them do.
 use Rattle.event.specs.Overrides.{has_mark}
 use Rattle.json_walk.specs.Strings.{bytes_at}
-use Rattle.override_text.proofs.NameLaws.{mark-none, mark-step}
-use borrow.Author.Rules.{rules}
-use borrow.Author.Tests.{eq-eqb, ne_eqb}
 use mathlib.Core.Path.{◌≡◌}
 use Rattle.override_text.proofs.names.mark_in.Given as goal
 

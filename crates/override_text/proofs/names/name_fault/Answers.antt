@@ -2,7 +2,6 @@
 use Rattle.fault.specs.Fault.{faults_at, lower, first}
 use Rattle.event.specs.Overrides.{name_fault}
 use Rattle.json_walk.specs.Strings.{raw_at}
-use borrow.Author.Rules.{rules}
 use Rattle.override_text.proofs.names.name_fault.Goals as goal
 
 -- OLD

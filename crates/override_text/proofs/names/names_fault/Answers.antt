@@ -1,9 +1,7 @@
 -- `override_text::names::names_fault` meets its contract: what was found and what is left make the whole.
 use mathlib.Core.Path.{◌∙◌, ap}
 use Rattle.fault.specs.Fault.{lower}
-use Rattle.override_text.specs.Inner.Names.{of_name}
-use Rattle.override_text.proofs.WalkLaws.{Left, left-start, left-next, left_end, left_out}
-use borrow.Author.Rules.{rules}
+use Rattle.override_text.proofs.WalkLaws.{left-start, left-next, left_end, left_out}
 use Rattle.override_text.proofs.names.names_fault.Goals as goal
 
 pub loop-n-init : goal.loop-n-init

@@ -4,7 +4,6 @@ use Rattle.event.specs.Properties.{read_length}
 use Rattle.override_text.proofs.PatchLaws.{patched-own, patched-null, patched-read}
 use Rattle.property.proofs.RowLaws.{here, missing}
 use Rattle.property.specs.Inner.Vocabulary.{vocabulary, word_of}
-use borrow.Author.Rules.{rules}
 use Rattle.override_text.proofs.patched.length.Goals as goal
 
 pub returns-then-is_null : goal.returns-then-is_null

@@ -3,7 +3,6 @@ use mathlib.Core.Path.{◌∙◌}
 use Rattle.event.specs.Properties.{read_text}
 use Rattle.override_text.proofs.PatchLaws.{patched-own, patched-null, patched-read}
 use Rattle.property.proofs.RowLaws.{here, missing}
-use borrow.Author.Rules.{rules}
 use Rattle.override_text.proofs.patched.passage.Goals as goal
 
 pub returns-then-is_null : goal.returns-then-is_null

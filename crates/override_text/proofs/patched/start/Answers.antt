@@ -3,7 +3,6 @@ use mathlib.Core.Path.{◌∙◌}
 use Rattle.override_text.proofs.PatchLaws.{start-own, start-read}
 use Rattle.property.proofs.RowLaws.{here, missing}
 use Rattle.property.specs.Inner.Vocabulary.{vocabulary, word_of}
-use borrow.Author.Rules.{rules}
 use Rattle.override_text.proofs.patched.start.Goals as goal
 
 pub returns-in-At : goal.returns-in-At

@@ -4,7 +4,6 @@ use Rattle.event.specs.Types.{Override}
 use Rattle.event.specs.Reading.{Judged}
 use borrow.Author.Tests.{eq-eqb, ne_eqb}
 use Rattle.override_text.proofs.PatchLaws.{patch-yes, patch-no}
-use borrow.Author.Rules.{rules}
 use Rattle.override_text.proofs.patches.patch.Goals as goal
 
 pub returns-then-byte-eq123 : goal.returns-then-byte-eq123

@@ -3,7 +3,6 @@ use Rattle.event.specs.Overrides.{patch_in}
 use Rattle.event.specs.Reading.{placed}
 use Rattle.property.specs.Inner.Vocabulary.{vocabulary, word_of}
 use native.Mathlib.Omega.{arith}
-use borrow.Author.Rules.{rules}
 use Rattle.override_text.proofs.patches.patch_by.Goals as goal
 
 pub passage-description-requires : goal.passage-description-requires

@@ -1,5 +1,4 @@
 -- `override_text::readings::lasting` meets its contract.
-use borrow.Author.Rules.{rules}
 use Rattle.override_text.proofs.readings.lasting.Goals as goal
 
 pub returns-in-Of : goal.returns-in-Of

@@ -1,5 +1,4 @@
 -- `override_text::readings::mark` meets its contract.
-use borrow.Author.Rules.{rules}
 use Rattle.override_text.proofs.readings.mark.Goals as goal
 
 pub returns-in-Is : goal.returns-in-Is

@@ -1,5 +1,4 @@
 -- `override_text::readings::shown` meets its contract.
-use borrow.Author.Rules.{rules}
 use Rattle.override_text.proofs.readings.shown.Goals as goal
 
 pub returns-in-At : goal.returns-in-At

@@ -1,5 +1,4 @@
 -- `override_text::readings::status` meets its contract.
-use borrow.Author.Rules.{rules}
 use Rattle.override_text.proofs.readings.status.Goals as goal
 
 pub returns-in-Free : goal.returns-in-Free

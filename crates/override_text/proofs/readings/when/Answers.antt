@@ -1,5 +1,4 @@
 -- `override_text::readings::when` meets its contract.
-use borrow.Author.Rules.{rules}
 use Rattle.override_text.proofs.readings.when.Goals as goal
 
 pub returns-in-At : goal.returns-in-At

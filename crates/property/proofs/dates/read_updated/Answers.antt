@@ -2,7 +2,6 @@
 use Rattle.event.specs.Properties.{read_updated}
 use borrow.Author.Tests.{eq-eqb, ne_eqb}
 use Rattle.property.proofs.Readings.{word_read}
-use borrow.Author.Rules.{rules}
 use Rattle.property.proofs.dates.read_updated.Goals as goal
 
 pub returns-then-wrong-ne0 : goal.returns-then-wrong-ne0

@@ -2,7 +2,6 @@
 use Rattle.event.specs.Reading.{or_wrong}
 use Rattle.event.specs.Properties.{read_boolean}
 use Rattle.property.proofs.Shapes.{shape-tree}
-use borrow.Author.Rules.{rules}
 use Rattle.property.proofs.marks.read_boolean.Goals as goal
 
 pub returns-in-False : goal.returns-in-False

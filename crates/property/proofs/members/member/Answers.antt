@@ -1,7 +1,6 @@
 -- `property::members::member` meets its contract.
 use Rattle.json_tree.specs.Inner.Members.{find_in}
 use Rattle.property.proofs.Fields.{no-members}
-use borrow.Author.Rules.{rules}
 use Rattle.property.proofs.members.member.Goals as goal
 
 pub returns : goal.returns

@@ -1,7 +1,6 @@
 -- `names::filled_fault` meets its contract.
 use Rattle.property.specs.Inner.Words.{filled_fault_at}
 use borrow.Author.Tests.{eq-eqb, ne_eqb, lt-ltb, le-ltb}
-use borrow.Author.Rules.{rules}
 use Rattle.property.proofs.names.filled_fault.Goals as goal
 
 pub returns-then-wrong-ne0 : goal.returns-then-wrong-ne0

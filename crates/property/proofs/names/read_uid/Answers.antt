@@ -2,7 +2,6 @@
 use mathlib.Core.Path.{◌∙◌}
 use Rattle.event.specs.Properties.{read_uid}
 use Rattle.property.proofs.Readings.{uid-fault}
-use borrow.Author.Rules.{rules}
 use Rattle.property.proofs.names.read_uid.Goals as goal
 
 pub returns : goal.returns

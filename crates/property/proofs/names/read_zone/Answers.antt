@@ -2,7 +2,6 @@
 use Rattle.event.specs.Properties.{read_zone}
 use borrow.Author.Tests.{eq-eqb, ne_eqb}
 use Rattle.property.proofs.Readings.{zone-read}
-use borrow.Author.Rules.{rules}
 use Rattle.property.proofs.names.read_zone.Goals as goal
 
 pub returns-then-is_null : goal.returns-then-is_null

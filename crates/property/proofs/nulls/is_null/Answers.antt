@@ -1,6 +1,5 @@
 -- `property::nulls::is_null` meets its contract.
 use Rattle.property.proofs.Words.{null-tree}
-use borrow.Author.Rules.{rules}
 use Rattle.property.proofs.nulls.is_null.Goals as goal
 
 pub returns : goal.returns

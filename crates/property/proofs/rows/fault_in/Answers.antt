@@ -4,7 +4,6 @@ use Rattle.fault.specs.Fault.{faults_at, first}
 use Rattle.event.specs.Reading.{place_in}
 use borrow.Author.Tests.{eq-eqb}
 use Rattle.property.proofs.RowLaws.{here, missing}
-use borrow.Author.Rules.{rules}
 use Rattle.property.proofs.rows.fault_in.Goals as goal
 
 pub returns-then-number-eq0 : goal.returns-then-number-eq0

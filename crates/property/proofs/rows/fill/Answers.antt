@@ -1,8 +1,6 @@
 -- `property::rows::fill` meets its contract.
-use Rattle.property.proofs.RowLaws.{Filling, filling-start, filling-next, filling-end}
-use lib.ListN.{length}
+use Rattle.property.proofs.RowLaws.{filling-start, filling-next, filling-end}
 use Rattle.json_walk.proofs.Walks.{members-end, members-none}
-use borrow.Author.Rules.{rules}
 use Rattle.property.proofs.rows.fill.Goals as goal
 
 pub loop-n-init : goal.loop-n-init

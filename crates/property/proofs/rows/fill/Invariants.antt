@@ -1,8 +1,6 @@
 -- `property::rows::fill` meets its contract.
-use Rattle.property.proofs.RowLaws.{Filling, filling-start, filling-next, filling-end}
+use Rattle.property.proofs.RowLaws.{Filling}
 use lib.ListN.{length}
-use Rattle.json_walk.proofs.Walks.{members-end, members-none}
-use borrow.Author.Rules.{rules}
 use Rattle.property.proofs.rows.fill.Given as goal
 
 abbrev pub invariant-loop-n : goal.invariant-loop-n

@@ -1,7 +1,6 @@
 -- `property::rows::first` meets its contract.
 use Rattle.property.proofs.Fields.{first_past}
 use mathlib.Core.Path.{sym}
-use borrow.Author.Rules.{rules}
 use Rattle.property.proofs.rows.first.Goals as goal
 
 pub returns : goal.returns

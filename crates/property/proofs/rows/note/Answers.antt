@@ -2,7 +2,6 @@
 use Rattle.property.specs.Inner.Rows.{noted}
 use borrow.Author.Tests.{eq-eqb, ne_eqb}
 use Rattle.property.proofs.RowLaws.{noted-out}
-use borrow.Author.Rules.{rules}
 use Rattle.property.proofs.rows.note.Goals as goal
 
 pub returns-then-row-w-eq0 : goal.returns-then-row-w-eq0

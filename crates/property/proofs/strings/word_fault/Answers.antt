@@ -2,7 +2,6 @@
 use Rattle.property.specs.Inner.Words.{word_at, word_fault_at}
 use borrow.Author.Tests.{eq-eqb, ne_eqb}
 use Rattle.property.proofs.Words.{slashed-nothing}
-use borrow.Author.Rules.{rules}
 use Rattle.property.proofs.strings.word_fault.Goals as goal
 
 pub returns-then-byte-ne34 : goal.returns-then-byte-ne34

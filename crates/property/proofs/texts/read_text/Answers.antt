@@ -3,7 +3,6 @@ use borrow.Author.Tests.{eq-eqb, ne_eqb}
 use Rattle.event.specs.Reading.{or_wrong}
 use Rattle.event.specs.Properties.{read_text}
 use Rattle.property.proofs.Words.{string-text}
-use borrow.Author.Rules.{rules}
 use Rattle.property.proofs.texts.read_text.Goals as goal
 
 pub returns-then-byte-eq34 : goal.returns-then-byte-eq34

@@ -2,7 +2,6 @@
 use Rattle.json_walk.specs.Strings.{raw_at}
 use Rattle.property.specs.Inner.Vocabulary.{of_eight}
 use borrow.Author.Tests.{eq-eqb, ne_eqb}
-use borrow.Author.Rules.{rules}
 use Rattle.property.proofs.vocabulary.eight.Goals as goal
 
 -- OLD

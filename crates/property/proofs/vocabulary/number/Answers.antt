@@ -2,7 +2,6 @@
 use Rattle.json_value.specs.Values.{array_of, object_of}
 use Rattle.json_walk.specs.Strings.{raw_at}
 use Rattle.property.specs.Inner.Vocabulary.{numbered}
-use borrow.Author.Rules.{rules}
 use Rattle.property.proofs.vocabulary.number.Goals as goal
 
 pub returns-then-raw_is : goal.returns-then-raw_is

@@ -1,7 +1,6 @@
 -- `property::vocabulary::number_of` meets its contract.
 use Rattle.property.specs.Inner.Vocabulary.{number_at, number_by}
 use borrow.Author.Tests.{eq-eqb, le-ltb, lt-ltb, ne_eqb}
-use borrow.Author.Rules.{rules}
 use Rattle.property.proofs.vocabulary.number_of.Goals as goal
 
 pub returns-then-n-lt5 : goal.returns-then-n-lt5

@@ -1,6 +1,5 @@
 -- `record::rows::marks` meets its contract: the sum of the marks that are set.
 use Rattle.record.specs.Inner.Rows.{marks_for}
-use borrow.Author.Rules.{rules}
 use Rattle.record.proofs.rows.marks.Goals as goal
 
 pub returns : goal.returns

@@ -1,7 +1,6 @@
 -- `record::rows::put_record` meets its contract: the four stores are those of a record.
 use native.Mathlib.Omega.{arith}
 use Rattle.record.proofs.RowLaws.{row-steps}
-use borrow.Author.Rules.{rules}
 use Rattle.record.proofs.rows.put_record.Goals as goal
 
 pub returns : goal.returns

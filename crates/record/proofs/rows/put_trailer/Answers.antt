@@ -1,6 +1,5 @@
 -- `record::rows::put_trailer` meets its contract: the four stores are those of the trailer.
 use Rattle.record.proofs.RowLaws.{trailer-steps}
-use borrow.Author.Rules.{rules}
 use Rattle.record.proofs.rows.put_trailer.Goals as goal
 
 pub returns : goal.returns

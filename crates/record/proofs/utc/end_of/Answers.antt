@@ -1,6 +1,5 @@
 -- `record::utc::end_of` meets its contract: what the calls give is the end.
 use Rattle.record.proofs.UtcLaws.{ending, end-converts, end_later, end_is}
-use borrow.Author.Rules.{rules}
 use Rattle.record.proofs.utc.end_of.Goals as goal
 
 pub end_offset-offset-requires : goal.end_offset-offset-requires

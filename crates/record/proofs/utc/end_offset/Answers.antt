@@ -2,7 +2,6 @@
 use mathlib.Core.Path.{◌∙◌}
 use mir.Facts.{to_z-of_z}
 use Rattle.signed.proofs.Parts.{back}
-use borrow.Author.Rules.{rules}
 use Rattle.record.proofs.UtcLaws.{no-days, end-found}
 use Rattle.record.proofs.utc.end_offset.Goals as goal
 

@@ -1,6 +1,5 @@
 -- `record::utc::later` meets its contract: the sum fits.
 use Rattle.record.proofs.UtcLaws.{later-fits, later-is}
-use borrow.Author.Rules.{rules}
 use Rattle.record.proofs.utc.later.Goals as goal
 
 pub overflow_add-result : goal.overflow_add-result

@@ -3,7 +3,6 @@ use mathlib.Core.Path.{◌∙◌}
 use mir.Facts.{to_z-of_z}
 use Rattle.signed.proofs.Parts.{back}
 use Rattle.record.specs.Inner.Utc.{offset_by}
-use borrow.Author.Rules.{rules}
 use Rattle.record.proofs.utc.offset_of.Goals as goal
 
 pub returns-then-floating : goal.returns-then-floating

@@ -1,8 +1,5 @@
 -- `record::window::since_1600` meets its contract, by the parts of the number.
-use Prim.Native.Nat.{◌≤◌, ◌<◌}
-use mathlib.Core.Path.{◌≡◌, ◌∙◌, ap}
 use native.Mathlib.Omega.{arith}
-use borrow.Author.Rules.{rules}
 use Rattle.signed.specs.Parts.{pos_part, neg_part}
 use Rattle.signed.proofs.Parts.{passed, fit-pos}
 use Rattle.record.proofs.WindowLaws.{since_none, since-some}

@@ -1,6 +1,5 @@
 -- `record::window::since_1970` meets its contract.
 use mathlib.Core.Path.{◌∙◌}
-use borrow.Author.Rules.{rules}
 use Rattle.signed.proofs.Parts.{back}
 use Rattle.call_definitions.specs.Window.{since1970}
 use Rattle.record.proofs.window.since_1970.Goals as goal

@@ -1,7 +1,6 @@
 -- `record::window::valid_window` meets its contract: each test decides, or leaves it to those after it.
 use native.Mathlib.Omega.{arith}
 use mathlib.Core.Bool.{true, false}
-use borrow.Author.Rules.{rules}
 use Rattle.signed.specs.Parts.{pos_part, neg_part}
 use Rattle.signed.proofs.Parts.{passed}
 use Rattle.record.proofs.WindowLaws.{window-early, window-turned, window-late, compared}

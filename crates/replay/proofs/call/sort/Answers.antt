@@ -1,6 +1,5 @@
 -- `replay::call::sort` meets its contract: the tallies are those of the places that were filled.
 use Rattle.replay.proofs.CallLaws.{sorted-by}
-use borrow.Author.Rules.{rules}
 use Rattle.replay.proofs.call.sort.Goals as goal
 
 pub returns : goal.returns

@@ -3,7 +3,6 @@ use native.Mathlib.Omega.{arith}
 use Prim.Native.Nat.{◌-◌}
 use Rattle.signed.specs.Parts.{pos_part, neg_part}
 use Rattle.signed.proofs.Parts.{passed, fit-pos, fit-neg}
-use borrow.Author.Rules.{rules}
 use Rattle.replay.proofs.instants.up.Goals as goal
 
 pub overflow_sub-result : goal.overflow_sub-result

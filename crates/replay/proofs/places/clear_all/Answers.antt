@@ -1,13 +1,11 @@
 -- `replay::places::clear_all` meets its contract: the places passed are 0, and those to come will be.
 use mathlib.Core.Path.{ap}
-use Prim.Native.Nat.{◌+◌, ◌-◌, ◌≤◌}
-use mathlib.Core.List.{◌++◌}
-use mathlib.Core.Path.{◌≡◌, refl, sym, ◌∙◌}
+use Prim.Native.Nat.{◌-◌}
+use mathlib.Core.Path.{refl, sym, ◌∙◌}
 use native.Mathlib.Omega.{arith}
-use lib.ListN.{length, take, length-set}
+use lib.ListN.{length-set}
 use Rattle.sheet.specs.Runs.{tabulate}
 use Rattle.replay.proofs.ClearLaws.{zeros, clear-turn, clear-done}
-use borrow.Author.Rules.{rules}
 use Rattle.replay.proofs.places.clear_all.Goals as goal
 
 pub loop-i-init : goal.loop-i-init

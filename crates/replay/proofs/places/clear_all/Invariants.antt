@@ -1,13 +1,10 @@
 -- `replay::places::clear_all` meets its contract: the places passed are 0, and those to come will be.
-use mathlib.Core.Path.{ap}
 use Prim.Native.Nat.{◌+◌, ◌-◌, ◌≤◌}
 use mathlib.Core.List.{◌++◌}
-use mathlib.Core.Path.{◌≡◌, refl, sym, ◌∙◌}
-use native.Mathlib.Omega.{arith}
-use lib.ListN.{length, take, length-set}
+use mathlib.Core.Path.{◌≡◌}
+use lib.ListN.{length, take}
 use Rattle.sheet.specs.Runs.{tabulate}
-use Rattle.replay.proofs.ClearLaws.{zeros, clear-turn, clear-done}
-use borrow.Author.Rules.{rules}
+use Rattle.replay.proofs.ClearLaws.{zeros}
 use Rattle.replay.proofs.places.clear_all.Given as goal
 
 abbrev pub invariant-loop-i : goal.invariant-loop-i

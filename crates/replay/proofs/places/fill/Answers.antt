@@ -4,7 +4,6 @@ use Rattle.weeks.specs.Inner.Places.{Below}
 use Rattle.weeks.specs.Inner.Marks.{sweep}
 use Rattle.replay.specs.Inner.Sorted.{filled}
 use Rattle.replay.proofs.SpanLaws.{sweep-below}
-use borrow.Author.Rules.{rules}
 use Rattle.replay.proofs.places.fill.Goals as goal
 
 pub upload_all-requires : goal.upload_all-requires

@@ -3,15 +3,13 @@ use mir.Facts.{to_z-of_z}
 use Prim.Native.Nat.{◌+◌}
 use mathlib.Core.Path.{◌≡◌, refl, sym, ◌∙◌}
 use native.Mathlib.Omega.{arith}
-use lib.ListN.{length, drop, get_or}
+use lib.ListN.{get_or}
 use lib.IntN.{pos}
 use lib.Signed.{le_z}
 use mir.Syntax.{w64}
 use mir.Val.{SFits}
 use borrow.Author.Tests.{not-true, not-false}
-use Rattle.weeks.specs.Replay.{ordered}
 use Rattle.replay.proofs.OrderLaws.{order-turn, order-fails, order-done}
-use borrow.Author.Rules.{rules}
 use Rattle.replay.proofs.refusals.in_order.Goals as goal
 
 pub loop-left-init : goal.loop-left-init

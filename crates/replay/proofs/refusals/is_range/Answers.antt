@@ -3,7 +3,6 @@ use borrow.Author.Tests.{not-true, not-false}
 use Rattle.signed.proofs.Parts.{passed}
 use Rattle.weeks.specs.Inner.Marks.{up}
 use Rattle.replay.proofs.RangeLaws.{range-is}
-use borrow.Author.Rules.{rules}
 use Rattle.replay.proofs.refusals.is_range.Goals as goal
 
 pub returns-then-not-is_monday : goal.returns-then-not-is_monday

@@ -5,7 +5,6 @@ use borrow.Author.Tests.{not-true, not-false, eq-eqb, ne_eqb, le-leb, lt-leb}
 use mir.Facts.{to_z-of_z}
 use Rattle.weeks.specs.Replay.{refusal}
 use Rattle.weeks.specs.Weeks.{weeks_in}
-use borrow.Author.Rules.{rules}
 use Rattle.replay.proofs.refusals.refusal.Goals as goal
 
 pub returns-then-not-in_order : goal.returns-then-not-in_order

@@ -4,7 +4,6 @@ use native.Mathlib.Omega.{arith}
 use Rattle.signed.proofs.Parts.{passed}
 use Rattle.weeks.specs.Inner.Marks.{up}
 use Rattle.replay.proofs.RangeLaws.{weeks-are}
-use borrow.Author.Rules.{rules}
 use Rattle.replay.proofs.refusals.weeks_in.Goals as goal
 
 pub returns-then-last-first : goal.returns-then-last-first

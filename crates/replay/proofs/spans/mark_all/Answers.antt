@@ -1,11 +1,10 @@
 -- `replay::spans::mark_all` meets its contract: the spans from here on are still to be marked.
 use borrow.Author.Rules.{rules}
 use native.Mathlib.Omega.{arith}
-use Prim.Native.Nat.{◌+◌, ◌*◌, ◌-◌, ◌≤◌}
-use mathlib.Core.Path.{◌≡◌, refl, sym, ap, ◌∙◌}
+use Prim.Native.Nat.{◌+◌, ◌-◌}
+use mathlib.Core.Path.{refl, sym, ap, ◌∙◌}
 use mathlib.Core.List.{List}
 use lib.IntN.{ℤ}
-use lib.ListN.{length}
 use Rattle.sheet.specs.Runs.{tabulate}
 use Rattle.weeks.specs.Inner.Marks.{span_at, raise_all}
 use Rattle.replay.proofs.SpanLaws.{raise-more, raise-none}

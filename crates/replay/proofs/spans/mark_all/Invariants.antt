@@ -1,14 +1,9 @@
 -- `replay::spans::mark_all` meets its contract: the spans from here on are still to be marked.
-use borrow.Author.Rules.{rules}
-use native.Mathlib.Omega.{arith}
 use Prim.Native.Nat.{◌+◌, ◌*◌, ◌-◌, ◌≤◌}
-use mathlib.Core.Path.{◌≡◌, refl, sym, ap, ◌∙◌}
-use mathlib.Core.List.{List}
-use lib.IntN.{ℤ}
+use mathlib.Core.Path.{◌≡◌}
 use lib.ListN.{length}
 use Rattle.sheet.specs.Runs.{tabulate}
 use Rattle.weeks.specs.Inner.Marks.{span_at, raise_all}
-use Rattle.replay.proofs.SpanLaws.{raise-more, raise-none}
 use Rattle.replay.proofs.spans.mark_all.Given as goal
 
 abbrev pub invariant-loop-left : goal.invariant-loop-left

@@ -12,7 +12,6 @@ use Rattle.signed.specs.Parts.{pos_part}
 use Rattle.signed.proofs.Parts.{passed, fit-pos}
 use Rattle.weeks.specs.Inner.Marks.{raise, larger}
 use Rattle.weeks.proofs.SweepLaws.{larger-max}
-use borrow.Author.Rules.{rules}
 use Rattle.replay.proofs.spans.raise.Goals as goal
 
 pub overflow_cast-p : goal.overflow_cast-p

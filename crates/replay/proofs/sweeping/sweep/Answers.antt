@@ -1,16 +1,14 @@
 -- `replay::sweeping::sweep` meets its contract: the places before here are done, and r is how far the spans reach.
-use borrow.Author.Rules.{rules}
 use native.Mathlib.Omega.{arith}
-use Prim.Native.Nat.{◌+◌, ◌-◌, ◌≤◌}
+use Prim.Native.Nat.{◌-◌}
 use mathlib.Core.Path.{◌≡◌, refl, sym, ap, ◌∙◌}
-use mathlib.Core.List.{◌++◌}
 use lib.IntN.{pos}
-use lib.ListN.{length, get_or, take, drop, length-set}
+use lib.ListN.{get_or, length-set}
 use mir.Syntax.{w64}
 use mir.Val.{SFits}
 use Rattle.signed.specs.Parts.{pos_part}
 use Rattle.signed.proofs.Parts.{back, passed}
-use Rattle.weeks.specs.Inner.Marks.{larger, sweep}
+use Rattle.weeks.specs.Inner.Marks.{larger}
 use Rattle.replay.proofs.SpanLaws.{sweep-turn, sweep-done}
 use Rattle.replay.proofs.sweeping.sweep.Goals as goal
 

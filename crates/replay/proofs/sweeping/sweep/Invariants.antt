@@ -1,17 +1,9 @@
 -- `replay::sweeping::sweep` meets its contract: the places before here are done, and r is how far the spans reach.
-use borrow.Author.Rules.{rules}
-use native.Mathlib.Omega.{arith}
 use Prim.Native.Nat.{◌+◌, ◌-◌, ◌≤◌}
-use mathlib.Core.Path.{◌≡◌, refl, sym, ap, ◌∙◌}
+use mathlib.Core.Path.{◌≡◌}
 use mathlib.Core.List.{◌++◌}
-use lib.IntN.{pos}
-use lib.ListN.{length, get_or, take, drop, length-set}
-use mir.Syntax.{w64}
-use mir.Val.{SFits}
-use Rattle.signed.specs.Parts.{pos_part}
-use Rattle.signed.proofs.Parts.{back, passed}
-use Rattle.weeks.specs.Inner.Marks.{larger, sweep}
-use Rattle.replay.proofs.SpanLaws.{sweep-turn, sweep-done}
+use lib.ListN.{length, take, drop}
+use Rattle.weeks.specs.Inner.Marks.{sweep}
 use Rattle.replay.proofs.sweeping.sweep.Given as goal
 
 abbrev pub invariant-loop-i : goal.invariant-loop-i

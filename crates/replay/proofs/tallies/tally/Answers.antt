@@ -1,18 +1,16 @@
 -- `replay::tallies::tally` meets its contract: what is counted, and what is to come, is the whole.
-use Prim.Native.Nat.{ℕ, ◌+◌, ◌-◌, ◌≤◌}
+use Prim.Native.Nat.{ℕ, ◌-◌}
 use lib.Dec.{eqb}
 use mathlib.Core.Path.{◌≡◌, ap, ◌∙◌}
 use native.Mathlib.Omega.{arith}
-use lib.ListN.{length, drop, get_or}
+use lib.ListN.{get_or}
 use lib.IntN.{pos}
 use mir.Syntax.{w64}
 use mir.Val.{SFits}
 use Rattle.signed.proofs.Parts.{passed}
 use Rattle.signed.specs.Choose.{if◌then◌else◌}
-use Rattle.weeks.specs.Weeks.{count}
 use Rattle.weeks.specs.Inner.Places.{class_of, in_class}
 use Rattle.replay.proofs.TallyLaws.{one-most, count_turn, count-done}
-use borrow.Author.Rules.{rules}
 use Rattle.replay.proofs.tallies.tally.Goals as goal
 
 pub loop-i-init : goal.loop-i-init

@@ -11,7 +11,6 @@ use Rattle.signed.proofs.Parts.{back, passed}
 use Rattle.weeks.specs.Inner.Marks.{up}
 use Rattle.weeks.specs.Inner.Places.{bump}
 use Rattle.replay.proofs.UploadLoops.{upload-before, upload-in, upload-past}
-use borrow.Author.Rules.{rules}
 use Rattle.replay.proofs.uploads.upload.Goals as goal
 
 pub returns-then-x-b : goal.returns-then-x-b

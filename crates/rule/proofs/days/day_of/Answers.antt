@@ -1,7 +1,6 @@
 -- `rule::days::day_of` meets its contract: the parts of the date that is looked up.
 use Rattle.rule.specs.Day.{day_at, on_date}
 use Rattle.rule.proofs.DayLaws.{looked-up-month, looked-up-day, looked-up-fits}
-use borrow.Author.Rules.{rules}
 use Rattle.rule.proofs.days.day_of.Goals as goal
 
 pub month_start-before-requires : goal.month_start-before-requires

@@ -1,7 +1,6 @@
 -- `rule::days::next_day` meets its contract: the laws of the day after, in its three cases.
 use native.Mathlib.Omega.{arith}
 use Rattle.rule.proofs.DayLaws.{of-day, step-month, step-year, step-next-year, year-fits}
-use borrow.Author.Rules.{rules}
 use Rattle.rule.proofs.days.next_day.Goals as goal
 
 pub next_weekday-weekday-requires : goal.next_weekday-weekday-requires

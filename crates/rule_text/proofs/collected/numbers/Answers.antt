@@ -2,7 +2,6 @@
 use Rattle.rule_text.proofs.CollectLaws.{collected, list-few}
 use mathlib.Core.Path.{refl}
 -- `rule_text::collected::numbers` meets its contract.
-use borrow.Author.Rules.{rules}
 use Rattle.rule_text.proofs.collected.numbers.Goals as goal
 
 pub returns : goal.returns

@@ -2,7 +2,6 @@
 use Rattle.rule_text.proofs.CollectLaws.{days-collected, list-few, list_back}
 use mathlib.Core.Path.{refl}
 -- `rule_text::collected::weekdays` meets its contract.
-use borrow.Author.Rules.{rules}
 use Rattle.rule_text.proofs.collected.weekdays.Goals as goal
 
 pub returns : goal.returns

@@ -5,7 +5,6 @@ use Rattle.signed.proofs.Parts.{passed}
 use Rattle.signed.specs.Parts.{pos_part, neg_part}
 use borrow.Author.Tests.{lt-ltb, le-ltb}
 -- `rule_text::days::or_nth` meets its contract.
-use borrow.Author.Rules.{rules}
 use Rattle.rule_text.proofs.days.or_nth.Goals as goal
 
 pub returns-then-any : goal.returns-then-any

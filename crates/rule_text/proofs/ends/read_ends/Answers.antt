@@ -6,7 +6,6 @@ use Prim.Native.Nat.{ℕ}
 use Rattle.property.proofs.RowLaws.{here, missing}
 use Rattle.property.specs.Inner.Vocabulary.{vocabulary, word_of}
 use Rattle.json_text.specs.Ascii.{ascii}
-use borrow.Author.Rules.{rules}
 use Rattle.rule_text.proofs.ends.read_ends.Goals as goal
 
 pub returns-in-At-until : goal.returns-in-At-until

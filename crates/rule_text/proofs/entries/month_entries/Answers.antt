@@ -1,13 +1,9 @@
 -- `rule_text::entries::month_entries` meets its contract.
-use Rattle.rule_text.proofs.EntryLaws.{entry-fault, entry_value, Counting, Storing, rest-stop, rest-none, counting-goes-on, storing-goes-on, counting-starts, storing-starts, entries-end}
-use Rattle.event.specs.Rules.{read_month}
-use Rattle.event.specs.Reading.{Reading, entry}
-use Rattle.json_tree.specs.Tree.{tree_at}
+use Rattle.rule_text.proofs.EntryLaws.{entry-fault, entry_value, rest-stop, rest-none, counting-goes-on, storing-goes-on, counting-starts, storing-starts, entries-end}
+use Rattle.event.specs.Reading.{Reading}
 use Rattle.json_walk.specs.Walk.{elements_of}
 use mathlib.Core.Path.{refl, ap, ◌∙◌}
 use Prim.Native.Nat.{ℕ}
-use Rattle.rule_text.specs.Inner.Reads.{entries_at}
-use borrow.Author.Rules.{rules}
 use Rattle.rule_text.proofs.entries.month_entries.Goals as goal
 
 pub loop-n-init : goal.loop-n-init

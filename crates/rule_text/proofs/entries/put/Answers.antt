@@ -1,7 +1,6 @@
 -- `rule_text::entries::put` meets its contract.
 use lib.Seq.{set_out}
 use mathlib.Core.Path.{sym}
-use borrow.Author.Rules.{rules}
 use Rattle.rule_text.proofs.entries.put.Goals as goal
 
 pub returns : goal.returns

@@ -2,7 +2,6 @@
 use lib.Seq.{set_out}
 use mathlib.Core.Path.{sym}
 -- `rule_text::entries::put_name` meets its contract.
-use borrow.Author.Rules.{rules}
 use Rattle.rule_text.proofs.entries.put_name.Goals as goal
 
 pub returns : goal.returns

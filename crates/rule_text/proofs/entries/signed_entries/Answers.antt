@@ -1,13 +1,8 @@
 -- `rule_text::entries::signed_entries` meets its contract.
 use mathlib.Core.Path.{refl}
 use Rattle.signed.proofs.Parts.{back}
-use Rattle.rule_text.proofs.EntryLaws.{entry-fault, entry_value, Counting, Storing, rest-stop, rest-none, counting-goes-on, storing-goes-on, counting-starts, storing-starts, entries-end}
-use Rattle.event.specs.Reading.{entry}
-use Rattle.event.specs.Rules.{read_signed}
-use Rattle.json_tree.specs.Tree.{tree_at}
+use Rattle.rule_text.proofs.EntryLaws.{entry-fault, entry_value, rest-stop, rest-none, counting-goes-on, storing-goes-on, counting-starts, storing-starts, entries-end}
 use Rattle.json_walk.specs.Walk.{elements_of}
-use Rattle.rule_text.specs.Inner.Reads.{entries_at}
-use borrow.Author.Rules.{rules}
 use Rattle.rule_text.proofs.entries.signed_entries.Goals as goal
 
 pub loop-n-init : goal.loop-n-init

@@ -3,7 +3,6 @@ use Rattle.rule_text.proofs.DayLaws.{days-same, days-limited, days-absent, days-
 use Rattle.rule_text.proofs.ListLaws.{by_place, at-within}
 use Rattle.property.specs.Inner.Vocabulary.{vocabulary, word_of}
 use Rattle.json_text.specs.Ascii.{ascii}
-use borrow.Author.Rules.{rules}
 use Rattle.rule_text.proofs.lists.day_list.Goals as goal
 
 pub day_entries-days-requires : goal.day_entries-days-requires

@@ -2,7 +2,6 @@
 use Rattle.rule_text.specs.Inner.Lists.{list_fault}
 use borrow.Author.Tests.{eq-eqb, ne_eqb, lt-ltb, le-ltb}
 -- `rule_text::lists::list_fault` meets its contract.
-use borrow.Author.Rules.{rules}
 use Rattle.rule_text.proofs.lists.list_fault.Goals as goal
 
 pub returns-then-count-eq0 : goal.returns-then-count-eq0

@@ -2,7 +2,6 @@
 use Rattle.rule_text.proofs.ListLaws.{by_place, at-within, entries-same, entries-limited, entries-absent, entries-wrong, entries-length}
 use Rattle.property.specs.Inner.Vocabulary.{vocabulary, word_of}
 use Rattle.json_text.specs.Ascii.{ascii}
-use borrow.Author.Rules.{rules}
 use Rattle.rule_text.proofs.lists.month_list.Goals as goal
 
 pub month_entries-months-requires : goal.month_entries-months-requires

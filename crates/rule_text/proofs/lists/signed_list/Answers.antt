@@ -1,6 +1,5 @@
 -- `rule_text::lists::signed_list` meets its contract.
 use Rattle.rule_text.proofs.ListLaws.{by_place, at-within, entries-same, entries-limited, entries-absent, entries-wrong, entries-length}
-use borrow.Author.Rules.{rules}
 use Rattle.rule_text.proofs.lists.signed_list.Goals as goal
 
 pub signed_entries-all-requires : goal.signed_entries-all-requires

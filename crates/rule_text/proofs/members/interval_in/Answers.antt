@@ -3,7 +3,6 @@ use Rattle.event.specs.Reading.{optional}
 use Rattle.property.proofs.RowLaws.{here, missing}
 use Rattle.property.specs.Inner.Vocabulary.{vocabulary, word_of}
 use Rattle.json_text.specs.Ascii.{ascii}
-use borrow.Author.Rules.{rules}
 use Rattle.rule_text.proofs.members.interval_in.Goals as goal
 
 pub returns-in-At : goal.returns-in-At

@@ -8,7 +8,6 @@ use mathlib.Core.Path.{ap, ◌∙◌}
 use Rattle.property.proofs.RowLaws.{here, missing}
 use Rattle.property.specs.Inner.Vocabulary.{vocabulary, word_of}
 use Rattle.json_text.specs.Ascii.{ascii}
-use borrow.Author.Rules.{rules}
 use Rattle.rule_text.proofs.members.nth_in.Goals as goal
 
 pub returns-in-At : goal.returns-in-At

@@ -5,7 +5,6 @@ use Rattle.fault.proofs.Laws.{fault-here}
 use Rattle.json_tree.proofs.Trees.{place-tree}
 use mathlib.Core.Path.{refl}
 use Rattle.property.proofs.RowLaws.{here, missing}
-use borrow.Author.Rules.{rules}
 use Rattle.rule_text.proofs.members.unsupported_in.Goals as goal
 
 pub returns-in-At : goal.returns-in-At

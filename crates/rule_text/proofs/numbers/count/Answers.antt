@@ -2,7 +2,6 @@
 use Rattle.rule_text.proofs.IntegerLaws.{count_at}
 use Rattle.rule_text.proofs.ReadLaws.{reads-by}
 use borrow.Author.Tests.{eq-eqb, ne_eqb}
-use borrow.Author.Rules.{rules}
 use Rattle.rule_text.proofs.numbers.count.Goals as goal
 
 pub returns-then-below : goal.returns-then-below

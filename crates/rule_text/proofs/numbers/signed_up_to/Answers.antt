@@ -3,7 +3,6 @@ use Rattle.rule_text.proofs.IntegerLaws.{signed-at}
 use Rattle.rule_text.proofs.ReadLaws.{reads-by}
 use Rattle.signed.proofs.Parts.{back}
 use borrow.Author.Tests.{eq-eqb, ne_eqb, lt-ltb, le-ltb}
-use borrow.Author.Rules.{rules}
 use Rattle.rule_text.proofs.numbers.signed_up_to.Goals as goal
 
 pub returns-then-size-eq0 : goal.returns-then-size-eq0

@@ -1,7 +1,6 @@
 -- `rule_text::others::join` meets its contract.
 use Rattle.rule_text.specs.Inner.Parts.{joined}
 -- `rule_text::others::join` meets its contract.
-use borrow.Author.Rules.{rules}
 use Rattle.rule_text.proofs.others.join.Goals as goal
 
 pub returns : goal.returns

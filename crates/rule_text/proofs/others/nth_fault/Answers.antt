@@ -1,7 +1,6 @@
 -- `rule_text::others::nth_fault` meets its contract.
 use Rattle.rule_text.proofs.RuleLaws.{nth-none}
 use borrow.Author.Tests.{not-true, not-false}
-use borrow.Author.Rules.{rules}
 use Rattle.rule_text.proofs.others.nth_fault.Goals as goal
 
 pub returns-then-not-any : goal.returns-then-not-any

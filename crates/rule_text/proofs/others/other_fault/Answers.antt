@@ -5,7 +5,6 @@ use Rattle.event.specs.Reading.{placed}
 use Rattle.property.specs.Inner.Vocabulary.{vocabulary, word_of}
 use native.Mathlib.Omega.{arith}
 use mathlib.Core.Path.{ap, sym, ◌∙◌}
-use borrow.Author.Rules.{rules}
 use Rattle.rule_text.proofs.others.other_fault.Goals as goal
 
 pub join_in-skip-requires : goal.join_in-skip-requires

@@ -4,7 +4,6 @@ use Rattle.fault.specs.Fault.{lower}
 use Rattle.fault.proofs.Laws.{lower-none, first-all}
 use mathlib.Core.Path.{ap, sym, ◌∙◌}
 use Rattle.property.specs.Inner.Vocabulary.{vocabulary, word_of}
-use borrow.Author.Rules.{rules}
 use Rattle.rule_text.proofs.others.unsupported_lists.Goals as goal
 
 pub returns : goal.returns

@@ -1,15 +1,9 @@
 -- `rule_text::places::place_entries` meets its contract.
-use Rattle.rule_text.proofs.EntryLaws.{Counting, Storing, rest-stop, rest-none, counting-goes-on, storing-goes-on, counting-starts, storing-starts, entries-end}
+use Rattle.rule_text.proofs.EntryLaws.{Counting, Storing}
 use Rattle.rule_text.specs.Inner.Places.{read_place}
-use Rattle.json_tree.proofs.Trees.{place-tree}
-use Rattle.fault.specs.Fault.{first}
 use Rattle.fault.specs.declared.First.TheVariants.{None}
-use Rattle.fault.proofs.Laws.{none-lower}
-use mathlib.Core.Path.{refl, sym}
 use Rattle.json_tree.specs.Tree.{tree_at}
-use Rattle.json_walk.specs.Walk.{elements_of}
 use Rattle.rule_text.specs.Inner.Reads.{entries_at}
-use borrow.Author.Rules.{rules}
 use Rattle.rule_text.proofs.places.place_entries.Given as goal
 
 abbrev pub invariant-loop-n : goal.invariant-loop-n

@@ -2,7 +2,6 @@
 use lib.Seq.{set_out}
 use mathlib.Core.Path.{sym}
 -- `rule_text::places::put_place` meets its contract.
-use borrow.Author.Rules.{rules}
 use Rattle.rule_text.proofs.places.put_place.Goals as goal
 
 pub returns : goal.returns

@@ -3,7 +3,6 @@ use Rattle.rule_text.proofs.PlaceLaws.{places_is, places-not}
 use Rattle.rule_text.proofs.ListLaws.{entries-length}
 use borrow.Author.Tests.{eq-eqb, ne_eqb}
 -- `rule_text::places::rule_places` meets its contract.
-use borrow.Author.Rules.{rules}
 use Rattle.rule_text.proofs.places.rule_places.Goals as goal
 
 pub returns-then-byte-ne91 : goal.returns-then-byte-ne91

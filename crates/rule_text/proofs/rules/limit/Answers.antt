@@ -2,7 +2,6 @@
 use Rattle.rule_text.specs.Inner.Places.{rules_fault}
 use borrow.Author.Tests.{lt-ltb, le-ltb}
 -- `rule_text::rules::limit` meets its contract.
-use borrow.Author.Rules.{rules}
 use Rattle.rule_text.proofs.rules.limit.Goals as goal
 
 pub returns-then-count-gt8 : goal.returns-then-count-gt8

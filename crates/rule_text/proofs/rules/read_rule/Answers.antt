@@ -2,7 +2,6 @@
 use Rattle.rule_text.proofs.RuleLaws.{rule-read, rule-absent}
 use borrow.Author.Tests.{eq-eqb, ne_eqb}
 -- `rule_text::rules::read_rule` meets its contract.
-use borrow.Author.Rules.{rules}
 use Rattle.rule_text.proofs.rules.read_rule.Goals as goal
 
 pub returns-then-byte-ne123 : goal.returns-then-byte-ne123

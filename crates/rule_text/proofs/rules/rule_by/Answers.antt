@@ -2,7 +2,6 @@
 use Rattle.rule_text.proofs.RuleLaws.{rule-made}
 use Rattle.property.specs.Inner.Vocabulary.{vocabulary, word_of}
 use native.Mathlib.Omega.{arith}
-use borrow.Author.Rules.{rules}
 use Rattle.rule_text.proofs.rules.rule_by.Goals as goal
 
 pub weekdays-days-requires : goal.weekdays-days-requires

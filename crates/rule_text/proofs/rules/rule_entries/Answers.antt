@@ -1,12 +1,7 @@
 -- `rule_text::rules::rule_entries` meets its contract.
-use Rattle.rule_text.proofs.EntryLaws.{Counting, rest-stop, rest-none, counting-goes-on, counting-starts, counting-ends}
-use Rattle.event.specs.Rules.{read_rule}
-use Rattle.json_tree.specs.Tree.{tree_at}
+use Rattle.rule_text.proofs.EntryLaws.{rest-stop, rest-none, counting-goes-on, counting-starts, counting-ends}
 use Rattle.json_walk.specs.Walk.{elements_of}
-use Prim.Native.Nat.{suc}
 -- `rule_text::rules::rule_entries` meets its contract.
-use Rattle.rule_text.specs.Inner.Reads.{entries_at}
-use borrow.Author.Rules.{rules}
 use Rattle.rule_text.proofs.rules.rule_entries.Goals as goal
 
 pub loop-n-init : goal.loop-n-init

@@ -3,7 +3,6 @@ use Rattle.rule_text.proofs.PlaceLaws.{rules-not, rules-fault-is}
 use Rattle.fault.proofs.Laws.{fault-here}
 use borrow.Author.Tests.{eq-eqb, ne_eqb}
 use mathlib.Core.Path.{refl, sym}
-use borrow.Author.Rules.{rules}
 use Rattle.rule_text.proofs.rules.rules_fault.Goals as goal
 
 pub returns-then-byte-ne91 : goal.returns-then-byte-ne91

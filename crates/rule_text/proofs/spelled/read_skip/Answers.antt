@@ -2,7 +2,6 @@
 use Rattle.event.specs.Rules.{read_skip}
 use borrow.Author.Tests.{eq-eqb, ne_eqb}
 use Rattle.property.proofs.Readings.{word_read}
-use borrow.Author.Rules.{rules}
 use Rattle.rule_text.proofs.spelled.read_skip.Goals as goal
 
 pub returns-then-wrong-ne0 : goal.returns-then-wrong-ne0
@@ -12,9 +11,9 @@ returns-then-wrong-ne0 c = λ l. rw (word_read _ _ l, ← c.word_fault-wrong.ens
 pub returns : goal.returns
 unfolding read_skip
 returns c = λ l. rw (
-      word_read _ _ l,
-      ← c.word_fault-wrong.ensures,
-      eq-eqb _ _ c.if-wrong-ne0.false,
-      ← c.word.ensures,
-      ← c.skip.ensures,
-    )
+  word_read _ _ l,
+  ← c.word_fault-wrong.ensures,
+  eq-eqb _ _ c.if-wrong-ne0.false,
+  ← c.word.ensures,
+  ← c.skip.ensures,
+)

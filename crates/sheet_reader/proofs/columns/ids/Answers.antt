@@ -1,7 +1,6 @@
 -- `sheet_reader::columns::ids` meets its contract: the first number of each record.
 use mathlib.Core.Path.{◌∙◌}
 use Rattle.sheet_reader.proofs.ColumnLaws.{ids-by}
-use borrow.Author.Rules.{rules}
 use Rattle.sheet_reader.proofs.columns.ids.Goals as goal
 
 pub returns : goal.returns

@@ -1,12 +1,9 @@
 -- `sheet_reader::columns::marks` meets its contract: the elements before here have their marks.
 use Prim.Native.Nat.{◌-◌, ◌≤◌}
-use native.Mathlib.Omega.{arith}
-use mathlib.Core.Path.{◌≡◌, refl}
-use lib.ListN.{length, take, length-set}
+use mathlib.Core.Path.{◌≡◌}
+use lib.ListN.{length, take}
 use Rattle.sheet.specs.Runs.{tabulate}
 use Rattle.sheet.specs.Records.{marks_at}
-use Rattle.sheet_reader.proofs.ColumnLaws.{column-more, column-done}
-use borrow.Author.Rules.{rules}
 use Rattle.sheet_reader.proofs.columns.marks.Given as goal
 
 abbrev pub invariant-loop-i : goal.invariant-loop-i

@@ -1,13 +1,9 @@
 -- `sheet_reader::columns::numbers` meets its contract: the elements before here have their numbers.
-use Prim.Native.Nat.{◌+◌, ◌-◌, ◌≤◌}
-use native.Mathlib.Omega.{arith}
-use mathlib.Core.Path.{◌≡◌, refl}
-use lib.ListN.{length, take, length-set}
-use Rattle.signed.proofs.Parts.{back}
+use Prim.Native.Nat.{◌-◌, ◌≤◌}
+use mathlib.Core.Path.{◌≡◌}
+use lib.ListN.{length, take}
 use Rattle.sheet.specs.Runs.{tabulate}
 use Rattle.sheet_reader.specs.Inner.Columns.{signed_at}
-use Rattle.sheet_reader.proofs.ColumnLaws.{column-more, column-done}
-use borrow.Author.Rules.{rules}
 use Rattle.sheet_reader.proofs.columns.numbers.Given as goal
 
 abbrev pub invariant-loop-i : goal.invariant-loop-i

@@ -1,11 +1,8 @@
 -- `sheet_reader::records::all_clear` meets its contract: the records from here on have zeros if all have.
 use native.Mathlib.Omega.{arith}
-use Prim.Native.Nat.{◌+◌, ◌*◌, ◌-◌, ◌≤◌}
-use mathlib.Core.Path.{◌≡◌, refl, sym, ◌∙◌}
-use lib.ListN.{length}
+use Prim.Native.Nat.{◌-◌}
+use mathlib.Core.Path.{refl, sym, ◌∙◌}
 use borrow.Author.Tests.{not-true, not-false}
-use Rattle.sheet.specs.Runs.{every}
-use Rattle.sheet.specs.Reading.{clear_at, before}
 use Rattle.sheet.proofs.RunLaws.{every_more, every-fails, every-none}
 use Rattle.sheet_reader.proofs.records.all_clear.Goals as goal
 

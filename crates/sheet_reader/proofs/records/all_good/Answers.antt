@@ -1,8 +1,7 @@
 -- `sheet_reader::records::all_good` meets its contract: the records from here on are good if all are.
 use native.Mathlib.Omega.{arith}
-use Prim.Native.Nat.{◌+◌, ◌*◌, ◌-◌, ◌<◌, ◌≤◌}
-use mathlib.Core.Path.{◌≡◌, refl, sym, ◌∙◌}
-use lib.ListN.{length}
+use Prim.Native.Nat.{◌-◌}
+use mathlib.Core.Path.{refl, sym, ◌∙◌}
 use borrow.Author.Tests.{not-true, not-false}
 use Rattle.sheet_reader.specs.Inner.Good.{good_from}
 use Rattle.sheet_reader.proofs.GoodLaws.{good_more, good-falls, good-unsound, good-last}

@@ -1,11 +1,8 @@
 -- `sheet_reader::records::all_good` meets its contract: the records from here on are good if all are.
-use native.Mathlib.Omega.{arith}
 use Prim.Native.Nat.{◌+◌, ◌*◌, ◌-◌, ◌<◌, ◌≤◌}
-use mathlib.Core.Path.{◌≡◌, refl, sym, ◌∙◌}
+use mathlib.Core.Path.{◌≡◌}
 use lib.ListN.{length}
-use borrow.Author.Tests.{not-true, not-false}
 use Rattle.sheet_reader.specs.Inner.Good.{good_from}
-use Rattle.sheet_reader.proofs.GoodLaws.{good_more, good-falls, good-unsound, good-last}
 use Rattle.sheet_reader.proofs.records.all_good.Given as goal
 
 abbrev pub invariant-loop-rest : goal.invariant-loop-rest

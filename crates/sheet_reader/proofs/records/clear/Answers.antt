@@ -1,5 +1,4 @@
 -- `sheet_reader::records::clear` meets its contract: three zeros.
-use borrow.Author.Rules.{rules}
 use Rattle.sheet_reader.proofs.records.clear.Goals as goal
 
 pub returns : goal.returns

@@ -3,7 +3,6 @@ use mathlib.Core.Path.{sym, ◌∙◌}
 use Rattle.sheet.specs.Reading.{fault_in_rows}
 use Rattle.sheet_reader.proofs.GoodLaws.{good-rows}
 use borrow.Author.Tests.{not-false, not-true}
-use borrow.Author.Rules.{rules}
 use Rattle.sheet_reader.proofs.records.judge_rows.Goals as goal
 
 pub returns-then-all_good : goal.returns-then-all_good

@@ -1,5 +1,4 @@
 -- `sheet_reader::records::marked` meets its contract: the marks, compared with the most.
-use borrow.Author.Rules.{rules}
 use Rattle.sheet_reader.proofs.records.marked.Goals as goal
 
 pub returns : goal.returns

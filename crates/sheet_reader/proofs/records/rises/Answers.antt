@@ -1,7 +1,6 @@
 -- `sheet_reader::records::rises` meets its contract: two ids, compared.
 use native.Mathlib.Numerals.{add-one}
 use Rattle.signed.proofs.Parts.{back}
-use borrow.Author.Rules.{rules}
 use Rattle.sheet_reader.proofs.records.rises.Goals as goal
 
 pub returns : goal.returns

@@ -1,12 +1,9 @@
 -- `sheet_reader::records::rising` meets its contract: as many pairs of neighbours rise from here on as from the first.
-use native.Mathlib.Omega.{arith}
 use Prim.Native.Nat.{◌+◌, ◌*◌, ◌-◌, ◌≤◌}
-use mathlib.Core.Path.{◌≡◌, refl, sym, ◌∙◌}
+use mathlib.Core.Path.{◌≡◌}
 use lib.ListN.{length}
-use borrow.Author.Tests.{not-true, not-false}
 use Rattle.sheet.specs.Runs.{every}
-use Rattle.sheet.specs.Reading.{rises_at, before}
-use Rattle.sheet.proofs.RunLaws.{every_more, every-fails, every-none}
+use Rattle.sheet.specs.Reading.{rises_at}
 use Rattle.sheet_reader.proofs.records.rising.Given as goal
 
 abbrev pub invariant-loop-left : goal.invariant-loop-left

@@ -1,6 +1,5 @@
 -- `sheet_reader::trailer::count` meets its contract: it is the trailer's third number.
 use Rattle.sheet.specs.Reading.{count_of}
-use borrow.Author.Rules.{rules}
 use Rattle.sheet_reader.proofs.trailer.count.Goals as goal
 
 pub returns : goal.returns

@@ -1,7 +1,6 @@
 -- `sheet_reader::trailer::judge` meets its contract: the trailer's questions, in the order of their numbers.
-use Rattle.sheet.specs.Reading.{fault_of, size_of, version_of, count_of, distance_of, before}
+use Rattle.sheet.specs.Reading.{fault_of, size_of, version_of, count_of, distance_of}
 use borrow.Author.Tests.{eq-eqb, le-ltb, lt-ltb, ne_eqb}
-use borrow.Author.Rules.{rules}
 use Rattle.sheet_reader.proofs.trailer.judge.Goals as goal
 
 pub returns-then-s-lt12 : goal.returns-then-s-lt12

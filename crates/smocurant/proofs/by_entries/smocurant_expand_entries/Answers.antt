@@ -1,5 +1,5 @@
 -- `smocurant_expand_entries` meets its contract: the numbers that are gathered give what the entries give.
-use Rattle.std.proofs.Common.{◌≤◌, length, arith}
+use Rattle.std.proofs.Common.{arith}
 use mir.Facts.{to_z-of_z}
 use Rattle.entries.proofs.HeldLaws.{gathered-most, instants-held, offsets-held}
 use Rattle.smocurant.proofs.EntryLaws.{of-entries}

@@ -1,6 +1,5 @@
 -- `smocurant_expand` meets its contract: a table of zeros says nothing.
 use mir.Facts.{to_z-of_z}
-use borrow.Author.Rules.{rules}
 use Rattle.json_ends.proofs.Laws.{ends-none}
 use Rattle.smocurant.proofs.by_numbers.smocurant_expand.Goals as goal
 

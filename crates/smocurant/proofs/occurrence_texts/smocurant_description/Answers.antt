@@ -1,6 +1,5 @@
 -- `smocurant_description` meets its contract, which is that of `texts::calls::description_place`.
 use mir.Facts.{to_z-of_z}
-use borrow.Author.Rules.{rules}
 use Rattle.smocurant.proofs.occurrence_texts.smocurant_description.Goals as goal
 
 pub returns : goal.returns

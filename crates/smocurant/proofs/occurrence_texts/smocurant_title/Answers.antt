@@ -1,6 +1,5 @@
 -- `smocurant_title` meets its contract, which is that of `texts::calls::title_place`.
 use mir.Facts.{to_z-of_z}
-use borrow.Author.Rules.{rules}
 use Rattle.smocurant.proofs.occurrence_texts.smocurant_title.Goals as goal
 
 pub returns : goal.returns

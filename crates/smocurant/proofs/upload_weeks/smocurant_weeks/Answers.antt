@@ -1,6 +1,5 @@
 -- `smocurant::upload_weeks::smocurant_weeks` meets its contract, which is that of `replay::call::weeks`.
 use mir.Facts.{to_z-of_z}
-use borrow.Author.Rules.{rules}
 use Rattle.smocurant.proofs.upload_weeks.smocurant_weeks.Goals as goal
 
 pub returns : goal.returns

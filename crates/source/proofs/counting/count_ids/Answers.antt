@@ -1,10 +1,8 @@
 -- `source::counting::count_ids` meets its contract: each turn counts the ids of one chunk.
 use Prim.Native.Nat.{◌-◌}
-use mathlib.Core.Path.{◌≡◌, refl, sym, ◌∙◌}
+use mathlib.Core.Path.{refl, sym, ◌∙◌}
 use native.Mathlib.Omega.{arith}
-use lib.ListN.{length}
-use Rattle.dates.specs.Inner.Dates.{dates_in}
-use Rattle.source.proofs.CountLaws.{CountedTo, count-starts, count-few, count-more, count-ends}
+use Rattle.source.proofs.CountLaws.{count-starts, count-few, count-more, count-ends}
 use Rattle.source.proofs.counting.count_ids.Goals as goal
 
 pub loop-at-init : goal.loop-at-init

@@ -1,10 +1,9 @@
 -- `source::counting::count_ids` meets its contract: each turn counts the ids of one chunk.
 use Prim.Native.Nat.{◌-◌}
-use mathlib.Core.Path.{◌≡◌, refl, sym, ◌∙◌}
-use native.Mathlib.Omega.{arith}
+use mathlib.Core.Path.{◌≡◌}
 use lib.ListN.{length}
 use Rattle.dates.specs.Inner.Dates.{dates_in}
-use Rattle.source.proofs.CountLaws.{CountedTo, count-starts, count-few, count-more, count-ends}
+use Rattle.source.proofs.CountLaws.{CountedTo}
 use Rattle.source.proofs.counting.count_ids.Given as goal
 
 abbrev pub invariant-loop-at : goal.invariant-loop-at

@@ -3,7 +3,6 @@ use mathlib.Core.Path.{refl}
 use Rattle.dates.specs.Inner.Dates.{kept_dates, dates_in}
 use Rattle.source.proofs.FewLaws.{few-ids}
 use Rattle.source.proofs.RoomLaws.{room-none, room-few, room-last, room_most, room-counted}
-use borrow.Author.Rules.{rules}
 use Rattle.source.proofs.counting.has_room.Goals as goal
 
 pub returns-then-size-lt12 : goal.returns-then-size-lt12

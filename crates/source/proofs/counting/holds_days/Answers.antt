@@ -2,7 +2,6 @@
 use native.Mathlib.Omega.{arith}
 use Rattle.window.proofs.HitLaws.{day-order}
 use Rattle.source.proofs.RoomLaws.{rest-fits, none-fits}
-use borrow.Author.Rules.{rules}
 use Rattle.source.proofs.counting.holds_days.Goals as goal
 
 pub overflow_sub-days : goal.overflow_sub-days

@@ -1,7 +1,6 @@
 -- `source::listed::goes_on` meets its contract: the test of the definition.
 use Rattle.source.specs.Inner.Listed.{goes_on}
 use borrow.Author.Tests.{lt-ltb, le-ltb}
-use borrow.Author.Rules.{rules}
 use Rattle.source.proofs.listed.goes_on.Goals as goal
 
 pub returns-then-next-end : goal.returns-then-next-end

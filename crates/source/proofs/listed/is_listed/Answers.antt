@@ -3,7 +3,6 @@ use Rattle.source.proofs.ListedLaws.{only_row, plain_rows}
 use mathlib.Core.Bool.{false≢true}
 use mathlib.Core.Path.{sym}
 use borrow.Author.Tests.{not-false}
-use borrow.Author.Rules.{rules}
 use Rattle.source.proofs.listed.is_listed.Goals as goal
 
 pub returns-then-to-from-le2678400 : goal.returns-then-to-from-le2678400

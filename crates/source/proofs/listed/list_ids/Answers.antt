@@ -1,7 +1,6 @@
 -- `source::listed::list_ids` meets its contract.
 use Rattle.source.proofs.ListedLaws.{listed-few, listed-ids, listed-part}
 use native.Mathlib.Omega.{arith}
-use borrow.Author.Rules.{rules}
 use Rattle.source.proofs.listed.list_ids.Goals as goal
 
 pub slice_bounds-write_seconds-end : goal.slice_bounds-write_seconds-end

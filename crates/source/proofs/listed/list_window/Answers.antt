@@ -2,7 +2,6 @@
 use Rattle.source.proofs.ListedLaws.{only_row, first-day, last-day, window-asks, window-listed}
 use mathlib.Core.Path.{sym}
 use native.Mathlib.Omega.{arith}
-use borrow.Author.Rules.{rules}
 use Rattle.source.proofs.listed.list_window.Goals as goal
 
 pub slice_bounds-list_chunk-end : goal.slice_bounds-list_chunk-end

@@ -1,6 +1,5 @@
 -- `source::listed::listed` meets its contract.
 use Rattle.source.proofs.ListedLaws.{lent-days, lent-asks}
-use borrow.Author.Rules.{rules}
 use Rattle.source.proofs.listed.listed.Goals as goal
 
 pub slice_bounds-list_ids-end : goal.slice_bounds-list_ids-end

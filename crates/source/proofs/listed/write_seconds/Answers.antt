@@ -1,9 +1,7 @@
 -- `source::listed::write_seconds` meets its contract. The invariant: the seconds of the days so far stand in the slice.
-use Rattle.source.proofs.ListedLaws.{SecondsAt, seconds-start, seconds-one, seconds-end}
+use Rattle.source.proofs.ListedLaws.{seconds-start, seconds-one, seconds-end}
 use Prim.Native.Nat.{◌-◌}
-use lib.ListN.{length}
 use native.Mathlib.Omega.{arith}
-use borrow.Author.Rules.{rules}
 use Rattle.source.proofs.listed.write_seconds.Goals as goal
 
 pub loop-k-init : goal.loop-k-init

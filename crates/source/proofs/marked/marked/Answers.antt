@@ -3,7 +3,6 @@ use native.Mathlib.Omega.{arith}
 use Rattle.dates.specs.Inner.Dates.{kept_dates}
 use Rattle.window.proofs.HandLaws.{handed-none}
 use Rattle.source.proofs.MarkedLaws.{taken, marked-run, front_fits, front-size, marked-collects, marked-hands}
-use borrow.Author.Rules.{rules}
 use Rattle.source.proofs.marked.marked.Goals as goal
 
 pub returns-then-to-from : goal.returns-then-to-from

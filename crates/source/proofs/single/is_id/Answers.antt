@@ -1,5 +1,4 @@
 -- `source::single::is_id` meets its contract: a window of one second has the one id, or none.
-use borrow.Author.Rules.{rules}
 use Rattle.window.proofs.HandLaws.{one_found}
 use Rattle.source.proofs.single.is_id.Goals as goal
 

@@ -1,6 +1,5 @@
 -- `source::whole::ids_from` meets its contract, by each of the two ways.
 use Rattle.source.proofs.ListedLaws.{whole-unnamed}
-use borrow.Author.Rules.{rules}
 use Rattle.source.proofs.whole.ids_from.Goals as goal
 
 pub is_listed-requires : goal.is_listed-requires

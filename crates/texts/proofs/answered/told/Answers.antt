@@ -1,7 +1,6 @@
 -- `texts::answered::told` meets its contract: a table of zeros says nothing.
 use Rattle.json_ends.proofs.Laws.{ends-none}
 use Rattle.texts.proofs.CallLaws.{date-passed}
-use borrow.Author.Rules.{rules}
 use Rattle.texts.proofs.answered.told.Goals as goal
 
 pub told_in-requires : goal.told_in-requires

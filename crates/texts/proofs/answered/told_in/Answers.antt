@@ -1,7 +1,6 @@
 -- `texts::answered::told_in` meets its contract: 1 to 9, or what is found.
 use Rattle.opening.proofs.TextLaws.{was-refused, was-accepted}
 use Rattle.texts.proofs.CallLaws.{refused-placed, looked-placed}
-use borrow.Author.Rules.{rules}
 use Rattle.texts.proofs.answered.told_in.Goals as goal
 
 pub look_up-requires : goal.look_up-requires

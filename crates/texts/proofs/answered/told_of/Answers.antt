@@ -1,7 +1,6 @@
 -- `texts::answered::told_of` meets its contract.
 use mathlib.Core.Path.{sym, ap, ◌∙◌}
 use Rattle.texts.specs.Inner.Shown.{lookup_shown}
-use borrow.Author.Rules.{rules}
 use Rattle.texts.proofs.answered.told_of.Goals as goal
 
 pub returns-in_default : goal.returns-in_default

@@ -1,6 +1,5 @@
 -- `texts::calls::description` meets its contract.
 use Rattle.texts.proofs.CallLaws.{description-tells}
-use borrow.Author.Rules.{rules}
 use Rattle.texts.proofs.calls.description.Goals as goal
 
 pub returns : goal.returns

@@ -1,6 +1,5 @@
 -- `texts::calls::description_place` meets its contract.
 use Rattle.texts.proofs.CallLaws.{description-shows}
-use borrow.Author.Rules.{rules}
 use Rattle.texts.proofs.calls.description_place.Goals as goal
 
 pub returns : goal.returns

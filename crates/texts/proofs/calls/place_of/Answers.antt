@@ -1,6 +1,5 @@
 -- `texts::calls::place_of` meets its contract.
 use Rattle.texts.proofs.CallLaws.{told-shows}
-use borrow.Author.Rules.{rules}
 use Rattle.texts.proofs.calls.place_of.Goals as goal
 
 pub returns : goal.returns

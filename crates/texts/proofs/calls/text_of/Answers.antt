@@ -1,6 +1,5 @@
 -- `texts::calls::text_of` meets its contract.
 use Rattle.texts.proofs.CallLaws.{told-tells}
-use borrow.Author.Rules.{rules}
 use Rattle.texts.proofs.calls.text_of.Goals as goal
 
 pub returns : goal.returns

@@ -1,6 +1,5 @@
 -- `texts::calls::title` meets its contract.
 use Rattle.texts.proofs.CallLaws.{title-tells}
-use borrow.Author.Rules.{rules}
 use Rattle.texts.proofs.calls.title.Goals as goal
 
 pub returns : goal.returns

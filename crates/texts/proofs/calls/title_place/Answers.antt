@@ -1,6 +1,5 @@
 -- `texts::calls::title_place` meets its contract.
 use Rattle.texts.proofs.CallLaws.{title-shows}
-use borrow.Author.Rules.{rules}
 use Rattle.texts.proofs.calls.title_place.Goals as goal
 
 pub returns : goal.returns

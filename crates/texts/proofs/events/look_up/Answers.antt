@@ -1,7 +1,6 @@
 -- `texts::events::look_up` meets its contract.
 use native.Mathlib.Omega.{arith}
 use Rattle.texts.proofs.LookLaws.{early-shown, late-shown, date-shown}
-use borrow.Author.Rules.{rules}
 use Rattle.texts.proofs.events.look_up.Goals as goal
 
 pub returns-then-x-lt-FIRST : goal.returns-then-x-lt-FIRST

@@ -1,6 +1,5 @@
 -- `texts::events::look_up_at` meets its contract.
 use Rattle.texts.proofs.LookLaws.{secret-shown, open-shown}
-use borrow.Author.Rules.{rules}
 use Rattle.texts.proofs.events.look_up_at.Goals as goal
 
 pub returns-then-is_secret : goal.returns-then-is_secret

@@ -1,7 +1,6 @@
 -- `texts::events::look_up_event` meets its contract: what is loaded tells whether the date is an occurrence, and its text.
 use mathlib.Core.Path.{sym, ap, ◌∙◌}
 use lib.Seq.{length-take-le}
-use borrow.Author.Rules.{rules}
 use borrow.Author.Tests.{not-true, not-false}
 use Rattle.call_definitions.specs.Call.{place_of}
 use Rattle.texts.specs.Inner.Shown.{shown_by}

@@ -1,7 +1,6 @@
 -- `texts::parts::between` meets its contract.
 use Rattle.texts.specs.Inner.Shown.{spanned}
 use borrow.Author.Tests.{eq-eqb, ne_eqb}
-use borrow.Author.Rules.{rules}
 use Rattle.texts.proofs.parts.between.Goals as goal
 
 pub returns-then-length-eq0 : goal.returns-then-length-eq0

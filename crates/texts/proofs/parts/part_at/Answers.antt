@@ -2,7 +2,6 @@
 use mathlib.Core.Path.{refl}
 use Rattle.call_definitions.specs.Call.{place_of}
 use Rattle.texts.proofs.PartLaws.{none-placed}
-use borrow.Author.Rules.{rules}
 use Rattle.texts.proofs.parts.part_at.Goals as goal
 
 pub returns-in-None : goal.returns-in-None

@@ -2,12 +2,9 @@
 use mathlib.Core.Path.{refl, ap, ◌∙◌}
 use Prim.Native.Nat.{◌-◌}
 use native.Mathlib.Omega.{arith}
-use lib.ListN.{length}
-use Rattle.override_text.specs.Inner.Meaning.{details_in}
-use Rattle.writer.proofs.DetailsLaws.{Seen, seen-patch, seen_next, seen-own}
+use Rattle.writer.proofs.DetailsLaws.{seen-patch, seen_next, seen-own}
 use Rattle.texts.specs.Inner.Shown.{chosen}
 use Rattle.texts.proofs.TextLaws.{own-text}
-use borrow.Author.Rules.{rules}
 use Rattle.texts.proofs.patched.text_by.Goals as goal
 
 pub loop-i-init : goal.loop-i-init

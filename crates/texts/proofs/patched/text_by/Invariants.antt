@@ -1,13 +1,8 @@
 -- `texts::patched::text_by` meets its contract: the first override that names the occurrence decides.
-use mathlib.Core.Path.{refl, ap, ◌∙◌}
 use Prim.Native.Nat.{◌-◌}
-use native.Mathlib.Omega.{arith}
 use lib.ListN.{length}
 use Rattle.override_text.specs.Inner.Meaning.{details_in}
-use Rattle.writer.proofs.DetailsLaws.{Seen, seen-patch, seen_next, seen-own}
-use Rattle.texts.specs.Inner.Shown.{chosen}
-use Rattle.texts.proofs.TextLaws.{own-text}
-use borrow.Author.Rules.{rules}
+use Rattle.writer.proofs.DetailsLaws.{Seen}
 use Rattle.texts.proofs.patched.text_by.Given as goal
 
 abbrev pub invariant-loop-i : goal.invariant-loop-i

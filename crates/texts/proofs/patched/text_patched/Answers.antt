@@ -1,6 +1,5 @@
 -- `texts::patched::text_patched` meets its contract.
 use Rattle.texts.proofs.TextLaws.{patch-text}
-use borrow.Author.Rules.{rules}
 use Rattle.texts.proofs.patched.text_patched.Goals as goal
 
 pub returns : goal.returns

@@ -3,7 +3,6 @@ use Rattle.track.proofs.AheadLaws.{ahead-joins, resting-begins, resting-on}
 use Rattle.track.proofs.LastLaws.{end-starts}
 use Rattle.matcher.proofs.WalkLaws.{number_is, day-again}
 use native.Mathlib.Omega.{arith}
-use borrow.Author.Rules.{rules}
 use Rattle.track.proofs.ahead.count_from.Goals as goal
 
 pub day_of-requires : goal.day_of-requires

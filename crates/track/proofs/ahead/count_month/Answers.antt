@@ -1,13 +1,12 @@
 -- `track::ahead::count_month` meets its contract. The invariant: what was found, and what the days left hold, make the whole.
-use Rattle.track.proofs.AheadLaws.{CountAt, count-starts, count_yes, count_no, count-ends}
+use Rattle.track.proofs.AheadLaws.{count-starts, count_yes, count_no, count-ends}
 use Rattle.track.proofs.PlainLaws.{month-asked}
 use Rattle.track.proofs.SkipLaws.{month-reaches}
 use Rattle.matcher.specs.Inner.Member.{falls_on_by}
 use Rattle.matcher.proofs.WalkLaws.{number_is}
 use Prim.Native.Nat.{◌-◌}
 use native.Mathlib.Omega.{arith}
-use mathlib.Core.Path.{◌≡◌, sym, ap, ◌∙◌}
-use borrow.Author.Rules.{rules}
+use mathlib.Core.Path.{sym, ap, ◌∙◌}
 use Rattle.track.proofs.ahead.count_month.Goals as goal
 
 pub loop-k-init : goal.loop-k-init

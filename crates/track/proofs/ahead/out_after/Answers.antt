@@ -1,7 +1,6 @@
 -- `track::ahead::out_after` meets its contract.
 use Rattle.track.proofs.SkipLaws.{without-none}
 use native.Mathlib.Omega.{arith}
-use borrow.Author.Rules.{rules}
 use Rattle.track.proofs.ahead.out_after.Goals as goal
 
 pub returns-then-x-first : goal.returns-then-x-first

@@ -2,14 +2,8 @@
 use Rattle.track.proofs.AheadLaws.{end-passes, end-begins, falls-without}
 use Rattle.track.proofs.LastLaws.{end-leaps}
 use Rattle.track.proofs.PlainLaws.{month-at}
-use Rattle.track.specs.Inner.Ahead.{EndAt}
-use Rattle.matcher.specs.Inner.Member.{falls_on_by}
 use Rattle.matcher.proofs.WalkLaws.{number_is, day-again}
-use Rattle.rule.specs.Day.{day_at}
-use Prim.Native.Nat.{◌+◌}
 use native.Mathlib.Omega.{arith}
-use mathlib.Core.Path.{◌≡◌}
-use borrow.Author.Rules.{rules}
 use Rattle.track.proofs.ahead.pass_months.Goals as goal
 
 pub loop-left-init : goal.loop-left-init

@@ -1,15 +1,9 @@
 -- `track::ahead::pass_months` meets its contract. The invariant: from here on the count ends where it ends from the start on.
-use Rattle.track.proofs.AheadLaws.{end-passes, end-begins, falls-without}
-use Rattle.track.proofs.LastLaws.{end-leaps}
-use Rattle.track.proofs.PlainLaws.{month-at}
 use Rattle.track.specs.Inner.Ahead.{EndAt}
 use Rattle.matcher.specs.Inner.Member.{falls_on_by}
-use Rattle.matcher.proofs.WalkLaws.{number_is, day-again}
 use Rattle.rule.specs.Day.{day_at}
 use Prim.Native.Nat.{◌+◌}
-use native.Mathlib.Omega.{arith}
 use mathlib.Core.Path.{◌≡◌}
-use borrow.Author.Rules.{rules}
 use Rattle.track.proofs.ahead.pass_months.Given as goal
 
 abbrev pub invariant-loop-left : goal.invariant-loop-left

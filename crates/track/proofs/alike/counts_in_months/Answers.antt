@@ -2,7 +2,6 @@
 use mathlib.Core.Bool.{false≢true}
 use mathlib.Core.Path.{refl, sym, ◌∙◌}
 use borrow.Author.Tests.{not-true, not-false}
-use borrow.Author.Rules.{rules}
 use Rattle.track.proofs.alike.counts_in_months.Goals as goal
 
 pub returns-then-not-inyear : goal.returns-then-not-inyear

@@ -1,12 +1,11 @@
 -- `track::alike::has_all_weekdays` meets its contract. The invariant: the weekdays so far are set.
 use Rattle.track.proofs.AlikeLaws.{weekdays-none, weekdays-more}
 use Rattle.track.specs.Inner.Alike.{WeekdaysSet}
-use Prim.Native.Nat.{ℕ, ◌-◌, ◌≤◌}
+use Prim.Native.Nat.{ℕ, ◌-◌}
 use mathlib.Core.Bool.{false≢true}
 use mathlib.Core.Path.{◌≡◌, refl, sym, ◌∙◌, subst}
 use native.Mathlib.Omega.{arith}
 use borrow.Author.Tests.{not-true, not-false}
-use borrow.Author.Rules.{rules}
 use Rattle.track.proofs.alike.has_all_weekdays.Goals as goal
 
 pub loop-k-init : goal.loop-k-init

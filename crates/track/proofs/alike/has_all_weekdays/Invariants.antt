@@ -1,12 +1,6 @@
 -- `track::alike::has_all_weekdays` meets its contract. The invariant: the weekdays so far are set.
-use Rattle.track.proofs.AlikeLaws.{weekdays-none, weekdays-more}
 use Rattle.track.specs.Inner.Alike.{WeekdaysSet}
-use Prim.Native.Nat.{ℕ, ◌-◌, ◌≤◌}
-use mathlib.Core.Bool.{false≢true}
-use mathlib.Core.Path.{◌≡◌, refl, sym, ◌∙◌, subst}
-use native.Mathlib.Omega.{arith}
-use borrow.Author.Tests.{not-true, not-false}
-use borrow.Author.Rules.{rules}
+use Prim.Native.Nat.{◌-◌, ◌≤◌}
 use Rattle.track.proofs.alike.has_all_weekdays.Given as goal
 
 abbrev pub invariant-loop-k : goal.invariant-loop-k

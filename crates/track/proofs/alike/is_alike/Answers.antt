@@ -2,7 +2,6 @@
 use mathlib.Core.Bool.{false≢true}
 use mathlib.Core.Path.{refl, sym, ◌∙◌}
 use borrow.Author.Tests.{not-true, not-false}
-use borrow.Author.Rules.{rules}
 use Rattle.track.proofs.alike.is_alike.Goals as goal
 
 pub returns-then-not-counts_in_months : goal.returns-then-not-counts_in_months

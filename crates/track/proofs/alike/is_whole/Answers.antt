@@ -1,6 +1,5 @@
 -- `track::alike::is_whole` meets its contract: the tests of the definition in their order.
 use Rattle.track.specs.Inner.Alike.{is_whole}
-use borrow.Author.Rules.{rules}
 use Rattle.track.proofs.alike.is_whole.Goals as goal
 
 pub returns-in-Daily : goal.returns-in-Daily

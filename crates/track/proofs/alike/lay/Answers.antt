@@ -1,11 +1,9 @@
 -- `track::alike::lay` meets its contract. The invariant: what is marked, and what is left to mark, make the whole.
 use Rattle.track.proofs.AlikeLaws.{lay-one}
-use Rattle.track.proofs.RunLaws.{MarkAt, mark-starts, mark-ends}
-use Rattle.months.specs.Inner.Rows.{answer_at}
-use lib.ListN.{length, length-set}
+use Rattle.track.proofs.RunLaws.{mark-starts, mark-ends}
+use lib.ListN.{length-set}
 use Prim.Native.Nat.{◌-◌}
 use native.Mathlib.Omega.{arith}
-use borrow.Author.Rules.{rules}
 use Rattle.track.proofs.alike.lay.Goals as goal
 
 pub loop-k-init : goal.loop-k-init

@@ -1,11 +1,8 @@
 -- `track::alike::lay` meets its contract. The invariant: what is marked, and what is left to mark, make the whole.
-use Rattle.track.proofs.AlikeLaws.{lay-one}
-use Rattle.track.proofs.RunLaws.{MarkAt, mark-starts, mark-ends}
+use Rattle.track.proofs.RunLaws.{MarkAt}
 use Rattle.months.specs.Inner.Rows.{answer_at}
-use lib.ListN.{length, length-set}
+use lib.ListN.{length}
 use Prim.Native.Nat.{◌-◌}
-use native.Mathlib.Omega.{arith}
-use borrow.Author.Rules.{rules}
 use Rattle.track.proofs.alike.lay.Given as goal
 
 abbrev pub invariant-loop-k : goal.invariant-loop-k

@@ -5,7 +5,6 @@ use Rattle.matcher.proofs.WalkLaws.{asked-day, known}
 use native.Mathlib.Omega.{arith}
 use mathlib.Core.Path.{sym, ◌∙◌}
 use borrow.Author.Tests.{not-true, not-false}
-use borrow.Author.Rules.{rules}
 use Rattle.track.proofs.alike.mark_alike.Goals as goal
 
 pub on_month-requires : goal.on_month-requires

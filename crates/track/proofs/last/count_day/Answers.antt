@@ -3,7 +3,6 @@ use Rattle.track.proofs.LastLaws.{end_none, end-all}
 use native.Mathlib.Omega.{arith}
 use Prim.Native.Nat.{◌+◌, ◌/◌, ◌-◌}
 use mathlib.Core.Path.{◌≡◌, sym, ◌∙◌}
-use borrow.Author.Rules.{rules}
 use Rattle.track.proofs.last.count_day.Goals as goal
 
 pub returns-then-limit-first : goal.returns-then-limit-first

@@ -1,9 +1,7 @@
 -- `track::last::falls` meets its contract.
 use Rattle.track.proofs.LastLaws.{falls-by}
 use borrow.Author.Tests.{not-true, not-false}
-use native.Mathlib.Omega.{arith}
-use mathlib.Core.Path.{◌≡◌, refl, sym, ap, ◌∙◌}
-use borrow.Author.Rules.{rules}
+use mathlib.Core.Path.{sym, ◌∙◌}
 use Rattle.track.proofs.last.falls.Goals as goal
 
 pub returns-then-is_first : goal.returns-then-is_first

@@ -1,7 +1,6 @@
 -- `track::last::not_after` meets its contract: the tests of the definition in their order.
 use Rattle.rule.specs.Lists.{not_after}
 use Rattle.rule.specs.Inner.Read.{until_from}
-use borrow.Author.Rules.{rules}
 use Rattle.track.proofs.last.not_after.Goals as goal
 
 pub returns-in-Never : goal.returns-in-Never

@@ -1,7 +1,6 @@
 -- `track::last::until_day` meets its contract.
 use Rattle.track.specs.Inner.Last.{until_day}
 use borrow.Author.Tests.{le-leb, le-ltb, lt-leb, lt-ltb}
-use borrow.Author.Rules.{rules}
 use Rattle.track.proofs.last.until_day.Goals as goal
 
 pub returns-then-until-time : goal.returns-then-until-time

@@ -3,13 +3,9 @@ use Rattle.track.proofs.LastLaws.{end-found, end-over, end-goes-on, end-leaps, e
 use Rattle.track.proofs.StepLaws.{cursor-at-day, at-number, at_again, held-here}
 use Rattle.track.proofs.AheadLaws.{end-moves}
 use Rattle.track.proofs.SkipLaws.{between-all}
-use Rattle.track.specs.Inner.Steps.{cursor_at}
-use Rattle.track.specs.Inner.Ahead.{EndAt}
-use Rattle.matcher.specs.Inner.Member.{falls_on_by}
-use Prim.Native.Nat.{◌/◌, ◌-◌}
+use Prim.Native.Nat.{◌-◌}
 use native.Mathlib.Omega.{arith}
-use mathlib.Core.Path.{◌≡◌, sym, ◌∙◌}
-use borrow.Author.Rules.{rules}
+use mathlib.Core.Path.{sym, ◌∙◌}
 use Rattle.track.proofs.last.walk_count.Goals as goal
 
 pub least_days-need-requires : goal.least_days-need-requires

@@ -1,15 +1,9 @@
 -- `track::last::walk_count` meets its contract. The invariant: from here on the walk ends where it ends from the start on.
-use Rattle.track.proofs.LastLaws.{end-found, end-over, end-goes-on, end-leaps, end-nowhere, falls-between}
-use Rattle.track.proofs.StepLaws.{cursor-at-day, at-number, at_again, held-here}
-use Rattle.track.proofs.AheadLaws.{end-moves}
-use Rattle.track.proofs.SkipLaws.{between-all}
 use Rattle.track.specs.Inner.Steps.{cursor_at}
 use Rattle.track.specs.Inner.Ahead.{EndAt}
 use Rattle.matcher.specs.Inner.Member.{falls_on_by}
 use Prim.Native.Nat.{◌/◌, ◌-◌}
-use native.Mathlib.Omega.{arith}
-use mathlib.Core.Path.{◌≡◌, sym, ◌∙◌}
-use borrow.Author.Rules.{rules}
+use mathlib.Core.Path.{◌≡◌}
 use Rattle.track.proofs.last.walk_count.Given as goal
 
 abbrev pub invariant-loop-left : goal.invariant-loop-left

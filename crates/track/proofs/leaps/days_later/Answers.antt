@@ -4,7 +4,6 @@ use Rattle.rule.specs.Day.{day_at}
 use native.Mathlib.Omega.{arith}
 use mathlib.Core.Path.{◌≡◌, ap, ◌∙◌}
 use Prim.Native.Nat.{◌+◌, ◌-◌}
-use borrow.Author.Rules.{rules}
 use Rattle.track.proofs.leaps.days_later.Goals as goal
 
 pub overflow_add-x : goal.overflow_add-x

@@ -2,7 +2,6 @@
 use Rattle.track.proofs.SkipLaws.{in-same-month}
 use Rattle.matcher.proofs.WalkLaws.{in-calendar}
 use native.Mathlib.Omega.{arith}
-use borrow.Author.Rules.{rules}
 use Rattle.track.proofs.leaps.in_month.Goals as goal
 
 pub overflow_add-result-2 : goal.overflow_add-result-2

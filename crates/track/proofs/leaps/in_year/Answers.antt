@@ -2,7 +2,6 @@
 use Rattle.matcher.proofs.WalkLaws.{in-calendar}
 use Rattle.track.proofs.LeapLaws.{whole, month-of-day, year-later}
 use native.Mathlib.Omega.{arith}
-use borrow.Author.Rules.{rules}
 use Rattle.track.proofs.leaps.in_year.Goals as goal
 
 pub month_from-month-requires : goal.month_from-month-requires

@@ -3,9 +3,8 @@ use Rattle.track.proofs.StepLaws.{cursor-at-day, held-day}
 use Rattle.track.specs.Inner.Steps.{cursor_at}
 use Rattle.matcher.proofs.WalkLaws.{number_is, day-again}
 use native.Mathlib.Omega.{arith}
-use mathlib.Core.Path.{◌≡◌, sym, ap, ◌∙◌}
+use mathlib.Core.Path.{sym, ap, ◌∙◌}
 use Prim.Native.Nat.{ℕ, ◌+◌}
-use borrow.Author.Rules.{rules}
 use Rattle.track.proofs.leaps.leap.Goals as goal
 
 pub advance-requires : goal.advance-requires

@@ -1,9 +1,6 @@
 -- `track::leaps::month_from` meets its contract. The invariant: the month begins no later.
-use Rattle.track.proofs.LeapLaws.{month-not-last, month-holds-day}
 use Rattle.gregorian.specs.Month.{month_start}
 use Prim.Native.Nat.{◌-◌, ◌≤◌}
-use native.Mathlib.Omega.{arith}
-use borrow.Author.Rules.{rules}
 use Rattle.track.proofs.leaps.month_from.Given as goal
 
 abbrev pub invariant-loop-m : goal.invariant-loop-m

@@ -2,7 +2,6 @@
 use native.Mathlib.Omega.{arith}
 use Rattle.matcher.proofs.WalkLaws.{in-calendar}
 use Rattle.track.proofs.LeapLaws.{new-year}
-use borrow.Author.Rules.{rules}
 use Rattle.track.proofs.leaps.new_year.Goals as goal
 
 pub overflow_sub-rest : goal.overflow_sub-rest

@@ -1,5 +1,4 @@
 -- `track::parts::mark_part` meets its contract.
-use borrow.Author.Rules.{rules}
 use Rattle.track.proofs.parts.mark_part.Goals as goal
 
 pub mark_alike-requires : goal.mark_alike-requires

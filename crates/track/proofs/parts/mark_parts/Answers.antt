@@ -1,16 +1,12 @@
 -- `track::parts::mark_parts` meets its contract. The invariant: what is marked, and what is left to mark, make the whole, and the rows that are kept are right.
 use Rattle.track.proofs.PlainLaws.{month-at, month-fits, part-size, mark-lent, mark-falls}
-use Rattle.track.proofs.RunLaws.{MarkAt, mark-starts, mark-goes-by, mark-rests, mark-ends}
+use Rattle.track.proofs.RunLaws.{mark-starts, mark-goes-by, mark-rests, mark-ends}
 use Rattle.rule.specs.Day.{day_at}
-use Rattle.matcher.specs.Inner.Walk.{picks_on_by}
 use Rattle.matcher.proofs.WalkLaws.{number_is, day-again}
-use Rattle.months.specs.Inner.Rows.{Kept}
 use Rattle.months.proofs.RowLaws.{kept-none}
-use lib.ListN.{length}
-use Prim.Native.Nat.{◌+◌, ◌-◌}
+use Prim.Native.Nat.{◌-◌}
 use native.Mathlib.Omega.{arith}
-use mathlib.Core.Path.{◌≡◌, sym, ap, ◌∙◌}
-use borrow.Author.Rules.{rules}
+use mathlib.Core.Path.{sym, ap, ◌∙◌}
 use Rattle.track.proofs.parts.mark_parts.Goals as goal
 
 pub loop-i-init : goal.loop-i-init

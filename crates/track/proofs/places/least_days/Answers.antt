@@ -1,9 +1,7 @@
 -- `track::places::least_days` meets its contract. The invariant: the positions before k are not set.
 use Rattle.track.proofs.PlaceLaws.{scan-starts, scan-goes-on, most-few}
-use Rattle.track.specs.Inner.Places.{Unset}
 use native.Mathlib.Omega.{arith}
-use Prim.Native.Nat.{◌+◌, ◌-◌}
-use borrow.Author.Rules.{rules}
+use Prim.Native.Nat.{◌-◌}
 use Rattle.track.proofs.places.least_days.Goals as goal
 
 pub returns-then-not-placed : goal.returns-then-not-placed

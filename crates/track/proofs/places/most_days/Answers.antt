@@ -1,6 +1,5 @@
 -- `track::places::most_days` meets its contract: the tests of the definition in their order.
 use Rattle.track.specs.Inner.Places.{most_days}
-use borrow.Author.Rules.{rules}
 use Rattle.track.proofs.places.most_days.Goals as goal
 
 pub returns-in-Daily : goal.returns-in-Daily

@@ -1,7 +1,6 @@
 -- `track::places::to_period_end` meets its contract.
 use Rattle.matcher.proofs.WalkLaws.{known, asked-day, asked-before}
 use native.Mathlib.Omega.{arith}
-use borrow.Author.Rules.{rules}
 use Rattle.track.proofs.places.to_period_end.Goals as goal
 
 pub since_first-before-requires : goal.since_first-before-requires

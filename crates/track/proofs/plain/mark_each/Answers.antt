@@ -1,14 +1,13 @@
 -- `track::plain::mark_each` meets its contract. The invariant: what is marked, and what is left to mark, make the whole.
 use Rattle.track.proofs.PlainLaws.{month-asked}
-use Rattle.track.proofs.RunLaws.{MarkAt, mark-starts, mark-yes, mark-no, mark-ends}
+use Rattle.track.proofs.RunLaws.{mark-starts, mark-yes, mark-no, mark-ends}
 use Rattle.track.proofs.SkipLaws.{month-reaches}
 use Rattle.matcher.specs.Inner.Walk.{picks_on_by}
 use Rattle.matcher.proofs.WalkLaws.{number_is}
-use lib.ListN.{length, length-set}
+use lib.ListN.{length-set}
 use Prim.Native.Nat.{◌-◌}
 use native.Mathlib.Omega.{arith}
-use mathlib.Core.Path.{◌≡◌, sym, ap, ◌∙◌}
-use borrow.Author.Rules.{rules}
+use mathlib.Core.Path.{sym, ap, ◌∙◌}
 use Rattle.track.proofs.plain.mark_each.Goals as goal
 
 pub loop-k-init : goal.loop-k-init

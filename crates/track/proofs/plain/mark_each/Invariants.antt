@@ -1,14 +1,8 @@
 -- `track::plain::mark_each` meets its contract. The invariant: what is marked, and what is left to mark, make the whole.
-use Rattle.track.proofs.PlainLaws.{month-asked}
-use Rattle.track.proofs.RunLaws.{MarkAt, mark-starts, mark-yes, mark-no, mark-ends}
-use Rattle.track.proofs.SkipLaws.{month-reaches}
+use Rattle.track.proofs.RunLaws.{MarkAt}
 use Rattle.matcher.specs.Inner.Walk.{picks_on_by}
-use Rattle.matcher.proofs.WalkLaws.{number_is}
-use lib.ListN.{length, length-set}
+use lib.ListN.{length}
 use Prim.Native.Nat.{◌-◌}
-use native.Mathlib.Omega.{arith}
-use mathlib.Core.Path.{◌≡◌, sym, ap, ◌∙◌}
-use borrow.Author.Rules.{rules}
 use Rattle.track.proofs.plain.mark_each.Given as goal
 
 abbrev pub invariant-loop-k : goal.invariant-loop-k

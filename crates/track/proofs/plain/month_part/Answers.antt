@@ -2,7 +2,6 @@
 use Rattle.track.proofs.PlainLaws.{month-some}
 use native.Mathlib.Omega.{arith}
 use borrow.Author.Tests.{lt-ltb, le-ltb}
-use borrow.Author.Rules.{rules}
 use Rattle.track.proofs.plain.month_part.Goals as goal
 
 pub returns-then-left-end : goal.returns-then-left-end

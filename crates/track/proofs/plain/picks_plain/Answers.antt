@@ -2,7 +2,7 @@
 use Rattle.track.proofs.PlainLaws.{plain-gone, plain-stays}
 use Rattle.matcher.proofs.WalkLaws.{asked-day, known}
 use borrow.Author.Tests.{not-true, not-false}
-use mathlib.Core.Path.{◌≡◌, sym, ◌∙◌}
+use mathlib.Core.Path.{sym, ◌∙◌}
 use Rattle.track.proofs.plain.picks_plain.Goals as goal
 
 pub stays-requires : goal.stays-requires

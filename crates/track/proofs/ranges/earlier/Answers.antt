@@ -1,7 +1,6 @@
 -- `track::ranges::earlier` meets its contract.
 use native.Mathlib.Omega.{arith}
 use borrow.Author.Tests.{lt-ltb, le-ltb}
-use borrow.Author.Rules.{rules}
 use Rattle.track.proofs.ranges.earlier.Goals as goal
 
 pub returns-then-a-b : goal.returns-then-a-b

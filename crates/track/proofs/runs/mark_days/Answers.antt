@@ -1,7 +1,6 @@
 -- `track::runs::mark_days` meets its contract.
 use mathlib.Core.Bool.{false≢true}
 use mathlib.Core.Path.{sym, ◌∙◌}
-use borrow.Author.Rules.{rules}
 use Rattle.track.proofs.runs.mark_days.Goals as goal
 
 pub mark_positions-requires : goal.mark_positions-requires

@@ -1,7 +1,6 @@
 -- `track::runs::mark_monthly` meets its contract.
 use mathlib.Core.Bool.{false≢true}
 use mathlib.Core.Path.{sym}
-use borrow.Author.Rules.{rules}
 use Rattle.track.proofs.runs.mark_monthly.Goals as goal
 
 pub is_alike-requires : goal.is_alike-requires

@@ -1,14 +1,13 @@
 -- `track::runs::mark_placed` meets its contract. The invariant: what is marked, and what is left to mark, make the whole.
-use Rattle.track.proofs.RunLaws.{MarkAt, mark-starts, mark-yes, mark-goes-by, mark-rests, mark-ends}
+use Rattle.track.proofs.RunLaws.{mark-starts, mark-yes, mark-goes-by, mark-rests, mark-ends}
 use Rattle.track.proofs.StepLaws.{at-number, at-leap, held-here}
 use Rattle.track.proofs.SkipLaws.{between-all}
 use Rattle.track.specs.Inner.Steps.{cursor_at}
 use Rattle.matcher.specs.Inner.Walk.{picks_on_by}
-use lib.ListN.{length, length-set}
+use lib.ListN.{length-set}
 use Prim.Native.Nat.{◌+◌, ◌-◌}
 use native.Mathlib.Omega.{arith}
 use mathlib.Core.Path.{◌≡◌, sym, ap, ◌∙◌}
-use borrow.Author.Rules.{rules}
 use Rattle.track.proofs.runs.mark_placed.Goals as goal
 
 pub least_days-need-requires : goal.least_days-need-requires

@@ -1,7 +1,6 @@
 -- `track::runs::mark_run` meets its contract: the days that are not looked at are none of the rule's.
 use Rattle.track.proofs.ClipLaws.{clip-none, clip-run, clip-marked}
 use native.Mathlib.Omega.{arith}
-use borrow.Author.Rules.{rules}
 use Rattle.track.proofs.runs.mark_run.Goals as goal
 
 pub overflow_cast-hits : goal.overflow_cast-hits

@@ -6,7 +6,7 @@ use Rattle.matcher.specs.Inner.Rows.{Termed}
 use Rattle.rule.specs.Inner.Read.{written}
 use Rattle.rule.specs.declared.Day.{Day}
 use native.Mathlib.Omega.{arith}
-use mathlib.Core.Path.{◌≡◌, sym, ◌∙◌, ap, subst}
+use mathlib.Core.Path.{◌∙◌, ap, subst}
 use borrow.Author.Rules.{rules}
 use Rattle.track.proofs.settle.settle.Goals as goal
 

@@ -2,7 +2,6 @@
 use Rattle.track.specs.Inner.Skips.{days_ahead}
 use Rattle.matcher.proofs.WalkLaws.{in-calendar}
 use native.Mathlib.Omega.{arith}
-use borrow.Author.Rules.{rules}
 use Rattle.track.proofs.skips.days_ahead.Goals as goal
 
 pub overflow_sub-result-in-Yearly : goal.overflow_sub-result-in-Yearly

@@ -3,8 +3,7 @@ use Rattle.track.proofs.SkipLaws.{without-none, ahead-without}
 use Rattle.track.specs.Inner.Skips.{Without, step_on}
 use Rattle.matcher.proofs.WalkLaws.{known, asked-day}
 use native.Mathlib.Omega.{arith}
-use mathlib.Core.Path.{◌≡◌, sym, subst}
-use borrow.Author.Rules.{rules}
+use mathlib.Core.Path.{sym, subst}
 use Rattle.track.proofs.skips.days_out.Goals as goal
 
 pub period_of-period-requires : goal.period_of-period-requires

@@ -2,7 +2,6 @@
 use Rattle.track.proofs.SkipLaws.{without-between}
 use Rattle.track.proofs.StepLaws.{held-asked}
 use native.Mathlib.Omega.{arith}
-use borrow.Author.Rules.{rules}
 use Rattle.track.proofs.skips.gap.Goals as goal
 
 pub place_gap-requires : goal.place_gap-requires

@@ -1,6 +1,5 @@
 -- `track::skips::is_carried` meets its contract: the tests of the definition in their order.
 use Rattle.track.specs.Inner.Skips.{is_carried}
-use borrow.Author.Rules.{rules}
 use Rattle.track.proofs.skips.is_carried.Goals as goal
 
 pub returns-in-Daily : goal.returns-in-Daily

@@ -3,9 +3,8 @@ use Rattle.track.proofs.SkipLaws.{without-none, behind-month, months-without}
 use Rattle.track.specs.Inner.Skips.{Without, month_on}
 use Rattle.matcher.proofs.WalkLaws.{in-calendar}
 use native.Mathlib.Omega.{arith}
-use mathlib.Core.Path.{◌≡◌, sym, subst}
+use mathlib.Core.Path.{sym, subst}
 use Prim.Native.Nat.{ℕ, ◌-◌}
-use borrow.Author.Rules.{rules}
 use Rattle.track.proofs.skips.month_out.Goals as goal
 
 pub next_month-next-requires : goal.next_month-next-requires

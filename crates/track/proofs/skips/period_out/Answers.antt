@@ -2,8 +2,7 @@
 use Rattle.track.proofs.SkipLaws.{without-none}
 use Rattle.track.proofs.SpanLaws.{period-without}
 use Rattle.matcher.proofs.WalkLaws.{known, asked-day}
-use mathlib.Core.Path.{◌≡◌, sym, ◌∙◌}
-use borrow.Author.Rules.{rules}
+use mathlib.Core.Path.{sym, ◌∙◌}
 use Rattle.track.proofs.skips.period_out.Goals as goal
 
 pub in_step-requires : goal.in_step-requires

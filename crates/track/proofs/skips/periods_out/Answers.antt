@@ -1,7 +1,6 @@
 -- `track::skips::periods_out` meets its contract.
 use Rattle.track.proofs.SkipLaws.{without-none, over-less, periods-without}
 use native.Mathlib.Omega.{arith}
-use borrow.Author.Rules.{rules}
 use Rattle.track.proofs.skips.periods_out.Goals as goal
 
 pub returns-then-interval-le1 : goal.returns-then-interval-le1

@@ -4,7 +4,6 @@ use Rattle.track.proofs.PlaceLaws.{unplaced-between, held-short}
 use Rattle.track.proofs.StepLaws.{held-asked}
 use native.Mathlib.Omega.{arith}
 use mathlib.Core.Path.{refl}
-use borrow.Author.Rules.{rules}
 use Rattle.track.proofs.skips.place_gap.Goals as goal
 
 pub overflow_sub-result : goal.overflow_sub-result

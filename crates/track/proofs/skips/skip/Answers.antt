@@ -1,7 +1,6 @@
 -- `track::skips::skip` meets its contract.
 use Rattle.track.proofs.SkipLaws.{skip-out-of-step, skip-month}
-use mathlib.Core.Path.{◌≡◌, refl}
-use borrow.Author.Rules.{rules}
+use mathlib.Core.Path.{refl}
 use Rattle.track.proofs.skips.skip.Goals as goal
 
 pub period_out-requires : goal.period_out-requires

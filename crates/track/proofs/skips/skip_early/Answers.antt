@@ -1,6 +1,5 @@
 -- `track::skips::skip_early` meets its contract.
 use Rattle.track.proofs.SkipLaws.{without-none}
-use borrow.Author.Rules.{rules}
 use Rattle.track.proofs.skips.skip_early.Goals as goal
 
 pub returns-then-seen-gt0 : goal.returns-then-seen-gt0

@@ -1,12 +1,7 @@
 -- `track::skips::to_next` meets its contract. The invariant: no day between this one and the k-th after it is picked.
-use Rattle.track.proofs.SkipLaws.{between-one, between_more, not-staying, month-few, month-reaches}
 use Rattle.track.specs.Inner.Skips.{Between}
 use Rattle.matcher.specs.Inner.Walk.{picks_on_by}
-use Rattle.matcher.proofs.WalkLaws.{in-calendar}
-use native.Mathlib.Omega.{arith}
-use mathlib.Core.Path.{◌≡◌, sym, ◌∙◌}
 use Prim.Native.Nat.{◌-◌}
-use borrow.Author.Rules.{rules}
 use Rattle.track.proofs.skips.to_next.Given as goal
 
 abbrev pub invariant-loop-k : goal.invariant-loop-k

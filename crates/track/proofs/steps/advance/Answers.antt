@@ -1,10 +1,9 @@
 -- `track::steps::advance` meets its contract.
 use Rattle.track.proofs.StepLaws.{cursor-plain, cursor-at-day, held-day, held-asked, held_small, next-reached, next-again, next-placed, next_more, next-other}
-use Rattle.matcher.proofs.WalkLaws.{number_is, day-again, in-calendar, asked-day, asked-early, asked-within, known}
+use Rattle.matcher.proofs.WalkLaws.{number_is, in-calendar, asked-day}
 use borrow.Author.Tests.{not-true, not-false}
 use native.Mathlib.Omega.{arith}
-use mathlib.Core.Path.{◌≡◌, refl, sym, ap, ◌∙◌}
-use borrow.Author.Rules.{rules}
+use mathlib.Core.Path.{sym, ◌∙◌}
 use Rattle.track.proofs.steps.advance.Goals as goal
 
 pub next_day-x-requires : goal.next_day-x-requires

@@ -1,10 +1,8 @@
 -- `track::steps::cursor_at` meets its contract.
 use Rattle.track.proofs.StepLaws.{cursor-at-day}
-use Rattle.matcher.proofs.WalkLaws.{number_is, day-again, in-calendar, asked-day, asked-early, asked-within, known}
-use borrow.Author.Tests.{not-true, not-false}
+use Rattle.matcher.proofs.WalkLaws.{number_is, day-again}
 use native.Mathlib.Omega.{arith}
-use mathlib.Core.Path.{◌≡◌, refl, sym, ap, ◌∙◌}
-use borrow.Author.Rules.{rules}
+use mathlib.Core.Path.{◌∙◌}
 use Rattle.track.proofs.steps.cursor_at.Goals as goal
 
 pub cursor_on-requires : goal.cursor_on-requires

@@ -3,7 +3,6 @@ use Rattle.track.proofs.StepLaws.{cursor-plain, cursor-first, cursor-made, count
 use Rattle.matcher.proofs.WalkLaws.{number_is, day-again, in-calendar, asked-early, asked-within, known}
 use borrow.Author.Tests.{not-true, not-false}
 use native.Mathlib.Omega.{arith}
-use borrow.Author.Rules.{rules}
 use Rattle.track.proofs.steps.cursor_on.Goals as goal
 
 pub returns-then-not-is_counted : goal.returns-then-not-is_counted

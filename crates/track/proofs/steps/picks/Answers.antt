@@ -1,10 +1,9 @@
 -- `track::steps::picks` meets its contract.
 use Rattle.track.proofs.StepLaws.{held-asked, held_small, held-places, picks-gone, picks-out-of-step, picks-any, picks-placed}
-use Rattle.matcher.proofs.WalkLaws.{number_is, day-again, in-calendar, asked-day, asked-early, asked-within, known}
+use Rattle.matcher.proofs.WalkLaws.{asked-day, known}
 use borrow.Author.Tests.{not-true, not-false}
 use native.Mathlib.Omega.{arith}
-use mathlib.Core.Path.{◌≡◌, refl, sym, ap, ◌∙◌}
-use borrow.Author.Rules.{rules}
+use mathlib.Core.Path.{refl, sym, ◌∙◌}
 use Rattle.track.proofs.steps.picks.Goals as goal
 
 pub stays-requires : goal.stays-requires

@@ -1,15 +1,10 @@
 -- `track::years::count_days` meets its contract. The invariant: what was found, and what the days left hold, make the whole.
-use Rattle.track.proofs.AheadLaws.{Tally, tally-starts, tally-yes, tally-leaps, tally-nowhere, tally-over}
+use Rattle.track.proofs.AheadLaws.{tally-starts, tally-yes, tally-leaps, tally-nowhere, tally-over}
 use Rattle.track.proofs.LastLaws.{falls-between}
 use Rattle.track.proofs.StepLaws.{cursor-at-day, at-number, at_again, held-here}
 use Rattle.track.proofs.SkipLaws.{between-all}
-use Rattle.track.specs.Inner.Steps.{cursor_at}
-use Rattle.matcher.specs.Inner.Member.{falls_on_by}
-use Rattle.rule.specs.Gives.{end_day}
-use Prim.Native.Nat.{◌+◌, ◌/◌, ◌≤◌}
 use native.Mathlib.Omega.{arith}
-use mathlib.Core.Path.{◌≡◌, refl, sym, ◌∙◌}
-use borrow.Author.Rules.{rules}
+use mathlib.Core.Path.{refl, sym, ◌∙◌}
 use Rattle.track.proofs.years.count_days.Goals as goal
 
 pub least_days-need-requires : goal.least_days-need-requires

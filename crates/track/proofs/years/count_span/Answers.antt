@@ -1,14 +1,9 @@
 -- `track::years::count_span` meets its contract. The invariant: what was found, and what the days left hold, make the whole.
-use Rattle.track.proofs.AheadLaws.{Tally, tally-starts, tally-leaps, tally-adds, tally-nowhere, tally-over, falls-without}
+use Rattle.track.proofs.AheadLaws.{tally-starts, tally-leaps, tally-adds, tally-nowhere, tally-over, falls-without}
 use Rattle.track.proofs.YearLaws.{counted-few}
-use Rattle.matcher.specs.Inner.Member.{falls_on_by}
 use Rattle.matcher.proofs.WalkLaws.{number_is, day-again}
-use Rattle.rule.specs.Day.{day_at}
-use Rattle.rule.specs.Gives.{end_day}
-use Prim.Native.Nat.{◌+◌, ◌/◌, ◌≤◌}
 use native.Mathlib.Omega.{arith}
-use mathlib.Core.Path.{◌≡◌, refl}
-use borrow.Author.Rules.{rules}
+use mathlib.Core.Path.{refl}
 use Rattle.track.proofs.years.count_span.Goals as goal
 
 pub overflow_cast-first : goal.overflow_cast-first

@@ -1,7 +1,6 @@
 -- `track::years::idle_in` meets its contract: the tests of the definition in their order.
 use Rattle.track.specs.Inner.Years.{idle_in}
 use borrow.Author.Tests.{eq-eqb, ne_eqb}
-use borrow.Author.Rules.{rules}
 use Rattle.track.proofs.years.idle_in.Goals as goal
 
 pub returns-then-phase-eq0 : goal.returns-then-phase-eq0

@@ -1,6 +1,5 @@
 use Rattle.track.specs.Inner.Years.{is_alike}
 use borrow.Author.Tests.{eq-eqb, le-ltb, lt-ltb, ne_eqb}
-use borrow.Author.Rules.{rules}
 use Rattle.track.proofs.years.is_alike.Reads as reads
 use Rattle.track.proofs.years.is_alike.Lts as lts
 use Rattle.track.proofs.years.owns_places.Reads as owns-places-reads

@@ -4,7 +4,6 @@ use Rattle.matcher.proofs.WalkLaws.{in-calendar}
 use native.Mathlib.Nat.{mod-lt}
 use native.Mathlib.Omega.{arith}
 use borrow.Author.Tests.{lt-ltb, le-ltb}
-use borrow.Author.Rules.{rules}
 use Rattle.track.proofs.years.is_idle.Goals as goal
 
 pub returns-then-interval-lt12 : goal.returns-then-interval-lt12

@@ -1,5 +1,4 @@
 use Rattle.track.specs.Inner.Years.{owns_places}
-use borrow.Author.Rules.{rules}
 use Rattle.track.proofs.years.owns_places.Reads as reads
 use Rattle.track.proofs.years.owns_places.Lts as lts
 use Rattle.track.proofs.years.owns_places.Goals as goal

@@ -5,9 +5,8 @@ use Rattle.track.proofs.NeighbourLaws.{new-after}
 use Rattle.track.specs.Inner.Years.{NewYear}
 use Rattle.matcher.proofs.WalkLaws.{number_is, day-again, in-calendar}
 use native.Mathlib.Omega.{arith}
-use mathlib.Core.Path.{◌≡◌, sym, ◌∙◌, subst}
+use mathlib.Core.Path.{sym, ◌∙◌, subst}
 use borrow.Author.Tests.{not-false}
-use borrow.Author.Rules.{rules}
 use Rattle.track.proofs.years.pass_far.Goals as goal
 
 pub returns-then-not-is_far : goal.returns-then-not-is_far

@@ -3,14 +3,10 @@
 use Rattle.track.proofs.AheadLaws.{end-passes, end-begins}
 use Rattle.track.proofs.YearLaws.{year-asked, year-long, year-short, kept-none}
 use Rattle.track.proofs.NeighbourLaws.{next-new}
-use Rattle.track.specs.Inner.Ahead.{EndAt}
-use Rattle.track.specs.Inner.Years.{NewYear, Kept}
-use Rattle.matcher.specs.Inner.Member.{falls_on_by}
+use Rattle.track.specs.Inner.Years.{NewYear}
 use Rattle.matcher.proofs.WalkLaws.{number_is}
-use Prim.Native.Nat.{◌+◌, ◌/◌, ◌<◌}
 use native.Mathlib.Omega.{arith}
-use mathlib.Core.Path.{◌≡◌, refl, sym, subst}
-use borrow.Author.Rules.{rules}
+use mathlib.Core.Path.{refl, sym, subst}
 use Rattle.track.proofs.years.pass_years.Goals as goal
 
 pub loop-left-init : goal.loop-left-init

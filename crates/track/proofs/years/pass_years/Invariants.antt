@@ -1,16 +1,9 @@
 -- `track::years::pass_years` meets its contract. The invariant: from here on the count ends where it ends from the beginning on, and what
 -- is kept of the years is right.
-use Rattle.track.proofs.AheadLaws.{end-passes, end-begins}
-use Rattle.track.proofs.YearLaws.{year-asked, year-long, year-short, kept-none}
-use Rattle.track.proofs.NeighbourLaws.{next-new}
 use Rattle.track.specs.Inner.Ahead.{EndAt}
 use Rattle.track.specs.Inner.Years.{NewYear, Kept}
 use Rattle.matcher.specs.Inner.Member.{falls_on_by}
-use Rattle.matcher.proofs.WalkLaws.{number_is}
 use Prim.Native.Nat.{◌+◌, ◌/◌, ◌<◌}
-use native.Mathlib.Omega.{arith}
-use mathlib.Core.Path.{◌≡◌, refl, sym, subst}
-use borrow.Author.Rules.{rules}
 use Rattle.track.proofs.years.pass_years.Given as goal
 
 abbrev pub invariant-loop-left : goal.invariant-loop-left

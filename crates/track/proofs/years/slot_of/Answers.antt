@@ -3,7 +3,6 @@ use Rattle.track.proofs.YearLaws.{year-long, year-short, slot-below}
 use Rattle.track.specs.Inner.Years.{phase_of, slot_of}
 use Rattle.matcher.proofs.WalkLaws.{in-calendar}
 use native.Mathlib.Omega.{arith}
-use borrow.Author.Rules.{rules}
 use Rattle.track.proofs.years.slot_of.Goals as goal
 
 pub period_of-period-requires : goal.period_of-period-requires

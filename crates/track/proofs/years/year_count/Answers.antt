@@ -1,9 +1,8 @@
 -- `track::years::year_count` meets its contract.
 use Rattle.track.proofs.YearLaws.{alike-terms, year-short, year-spanning, idle-counts, slot-below, kept-said, kept_more, counted-few}
 use native.Mathlib.Omega.{arith}
-use mathlib.Core.Path.{◌≡◌, sym, ◌∙◌}
+use mathlib.Core.Path.{sym, ◌∙◌}
 use borrow.Author.Tests.{not-false}
-use borrow.Author.Rules.{rules}
 use Rattle.track.proofs.years.year_count.Goals as goal
 
 pub is_idle-requires : goal.is_idle-requires

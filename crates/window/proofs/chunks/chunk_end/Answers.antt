@@ -2,7 +2,6 @@
 use Rattle.window.specs.Inner.Chunks.{chunk_end}
 use Rattle.window.specs.Inner.Next.{lower}
 use borrow.Author.Tests.{le-ltb, lt-ltb}
-use borrow.Author.Rules.{rules}
 use Rattle.window.proofs.chunks.chunk_end.Goals as goal
 
 pub returns-then-end-to : goal.returns-then-end-to

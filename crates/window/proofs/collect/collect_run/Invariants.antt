@@ -1,12 +1,9 @@
 -- `window::collect::collect_run` meets its contract: each turn puts the next id after those before, until none is left or the slice is full.
 use Prim.Native.Nat.{◌-◌}
 use mathlib.Core.Path.{◌≡◌}
-use native.Mathlib.Omega.{arith}
 use Rattle.dates.specs.Inner.Overrides.{is_kept}
 use Rattle.window.specs.Inner.Next.{next_of, is_there}
-use Rattle.window.proofs.RunLaws.{there-is, renewed-next}
-use Rattle.window.proofs.HandLaws.{HandAt, hand-start, hand-one, hand-full, hand-none, hand-over}
-use borrow.Author.Rules.{rules}
+use Rattle.window.proofs.HandLaws.{HandAt}
 use Rattle.window.proofs.collect.collect_run.Given as goal
 
 abbrev pub invariant-loop-at : goal.invariant-loop-at

@@ -1,7 +1,6 @@
 -- `window::next::day_from` meets its contract.
 use Rattle.window.specs.Inner.Next.{day_from}
 use borrow.Author.Tests.{le-leb, lt-leb}
-use borrow.Author.Rules.{rules}
 use Rattle.window.proofs.next.day_from.Goals as goal
 
 pub returns-then-at-start : goal.returns-then-at-start

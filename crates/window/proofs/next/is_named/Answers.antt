@@ -1,8 +1,6 @@
 -- `window::next::is_named` meets its contract.
-use Rattle.window.proofs.OverrideLaws.{NamedAt, named-starts, named_here, named_other, named-not-counted, named_none}
-use lib.ListN.{length}
+use Rattle.window.proofs.OverrideLaws.{named-starts, named_here, named_other, named-not-counted, named_none}
 use Prim.Native.Nat.{◌-◌}
-use borrow.Author.Rules.{rules}
 use Rattle.window.proofs.next.is_named.Goals as goal
 
 pub loop-i-init : goal.loop-i-init

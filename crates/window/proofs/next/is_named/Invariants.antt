@@ -1,8 +1,7 @@
 -- `window::next::is_named` meets its contract.
-use Rattle.window.proofs.OverrideLaws.{NamedAt, named-starts, named_here, named_other, named-not-counted, named_none}
+use Rattle.window.proofs.OverrideLaws.{NamedAt}
 use lib.ListN.{length}
 use Prim.Native.Nat.{◌-◌}
-use borrow.Author.Rules.{rules}
 use Rattle.window.proofs.next.is_named.Given as goal
 
 abbrev pub invariant-loop-i : goal.invariant-loop-i

@@ -1,8 +1,6 @@
 -- `window::next::nearest` meets its contract.
-use Rattle.window.proofs.OverrideLaws.{LeastAt, least-starts, least-goes-on, least-ends}
-use lib.ListN.{length}
+use Rattle.window.proofs.OverrideLaws.{least-starts, least-goes-on, least-ends}
 use Prim.Native.Nat.{◌-◌}
-use borrow.Author.Rules.{rules}
 use Rattle.window.proofs.next.nearest.Goals as goal
 
 pub loop-i-init : goal.loop-i-init

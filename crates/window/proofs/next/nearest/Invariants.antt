@@ -1,8 +1,7 @@
 -- `window::next::nearest` meets its contract.
-use Rattle.window.proofs.OverrideLaws.{LeastAt, least-starts, least-goes-on, least-ends}
+use Rattle.window.proofs.OverrideLaws.{LeastAt}
 use lib.ListN.{length}
 use Prim.Native.Nat.{◌-◌}
-use borrow.Author.Rules.{rules}
 use Rattle.window.proofs.next.nearest.Given as goal
 
 abbrev pub invariant-loop-i : goal.invariant-loop-i

@@ -2,7 +2,6 @@
 use Rattle.window.proofs.HitLaws.{day-low, day-high, hit-index, hit-here, hit-nowhere}
 use native.Mathlib.Omega.{arith}
 use mathlib.Core.Path.{refl}
-use borrow.Author.Rules.{rules}
 use Rattle.window.proofs.next.next_hit.Goals as goal
 
 pub overflow_sub-from : goal.overflow_sub-from

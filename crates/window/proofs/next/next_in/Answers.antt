@@ -1,7 +1,6 @@
 -- `window::next::next_in` meets its contract.
 use Rattle.window.specs.Inner.Next.{is_hit, lower, next_of}
 use borrow.Author.Tests.{le-ltb, lt-ltb}
-use borrow.Author.Rules.{rules}
 use Rattle.window.proofs.next.next_in.Goals as goal
 
 pub returns-then-pending-hit : goal.returns-then-pending-hit

@@ -1,5 +1,4 @@
 -- `window::next::next_kept` meets its contract.
-use borrow.Author.Rules.{rules}
 use Rattle.window.proofs.next.next_kept.Goals as goal
 
 pub next_sorted-requires : goal.next_sorted-requires

@@ -1,9 +1,6 @@
 -- `window::next::next_true` meets its contract.
-use Rattle.window.specs.Inner.Next.{TrueAt}
 use Rattle.window.proofs.HitLaws.{true-starts, true-here, true-goes-on, true-then, true-none}
-use lib.ListN.{length}
 use Prim.Native.Nat.{◌-◌}
-use borrow.Author.Rules.{rules}
 use Rattle.window.proofs.next.next_true.Goals as goal
 
 pub loop-i-init : goal.loop-i-init

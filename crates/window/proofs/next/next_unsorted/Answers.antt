@@ -1,9 +1,8 @@
 -- `window::next::next_unsorted` meets its contract.
-use Rattle.window.proofs.OverrideLaws.{KeptAt, kept-starts, kept-ends, kept-later, kept-none, kept_here, kept-goes-on}
+use Rattle.window.proofs.OverrideLaws.{kept-starts, kept-ends, kept-later, kept-none, kept_here, kept-goes-on}
 use native.Mathlib.Omega.{arith}
 use mathlib.Core.Path.{sym, ◌∙◌}
 use Prim.Native.Nat.{◌-◌}
-use borrow.Author.Rules.{rules}
 use borrow.Author.Tests.{not-true, not-false}
 use Rattle.window.proofs.next.next_unsorted.Goals as goal
 

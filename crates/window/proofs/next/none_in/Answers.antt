@@ -1,8 +1,6 @@
 -- `window::next::none_in` meets its contract.
 use Prim.Native.Nat.{◌-◌}
-use Rattle.window.specs.Inner.Next.{at_hit}
-use Rattle.window.proofs.FirstLaws.{NoneAt, none-starts, none-goes-on, none-ends}
-use borrow.Author.Rules.{rules}
+use Rattle.window.proofs.FirstLaws.{none-starts, none-goes-on, none-ends}
 use Rattle.window.proofs.next.none_in.Goals as goal
 
 pub loop-i-init : goal.loop-i-init

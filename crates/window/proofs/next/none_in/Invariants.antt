@@ -1,8 +1,7 @@
 -- `window::next::none_in` meets its contract.
 use Prim.Native.Nat.{◌-◌}
 use Rattle.window.specs.Inner.Next.{at_hit}
-use Rattle.window.proofs.FirstLaws.{NoneAt, none-starts, none-goes-on, none-ends}
-use borrow.Author.Rules.{rules}
+use Rattle.window.proofs.FirstLaws.{NoneAt}
 use Rattle.window.proofs.next.none_in.Given as goal
 
 abbrev pub invariant-loop-i : goal.invariant-loop-i

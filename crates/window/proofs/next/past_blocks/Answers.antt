@@ -1,10 +1,7 @@
 -- `window::next::past_blocks` meets its contract.
 use Prim.Native.Nat.{◌-◌}
 use native.Mathlib.Omega.{arith}
-use lib.ListN.{length}
-use Rattle.window.specs.Inner.Next.{TrueAt}
 use Rattle.window.proofs.HitLaws.{true-starts, true-then, true-passed}
-use borrow.Author.Rules.{rules}
 use Rattle.window.proofs.next.past_blocks.Goals as goal
 
 pub loop-i-init : goal.loop-i-init

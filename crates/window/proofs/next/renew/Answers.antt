@@ -1,7 +1,6 @@
 -- `window::next::renew` meets its contract.
 use Rattle.window.specs.Inner.Next.{renewed}
 use borrow.Author.Tests.{le-ltb, lt-ltb}
-use borrow.Author.Rules.{rules}
 use Rattle.window.proofs.next.renew.Goals as goal
 
 pub returns-then-pending-at : goal.returns-then-pending-at

@@ -1,8 +1,6 @@
 -- `window::sorted::below` meets its contract: what lies between `low` and `high` is halved at each turn.
 use Prim.Native.Nat.{◌-◌}
-use native.Mathlib.Omega.{arith}
-use Rattle.window.proofs.SortedLaws.{Halved, halves-start, halves-up, halves-down, halves-end}
-use borrow.Author.Rules.{rules}
+use Rattle.window.proofs.SortedLaws.{Halved}
 use Rattle.window.proofs.sorted.below.Given as goal
 
 abbrev pub invariant-loop-low : goal.invariant-loop-low

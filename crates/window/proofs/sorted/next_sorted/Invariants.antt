@@ -1,9 +1,7 @@
 -- `window::sorted::next_sorted` meets its contract.
 use Prim.Native.Nat.{◌-◌}
 use lib.ListN.{length}
-use borrow.Author.Tests.{not-true, not-false}
-use Rattle.window.proofs.SortedLaws.{SortedAt, sorted-starts, sorted-goes-on, sorted-found, sorted_none}
-use borrow.Author.Rules.{rules}
+use Rattle.window.proofs.SortedLaws.{SortedAt}
 use Rattle.window.proofs.sorted.next_sorted.Given as goal
 
 abbrev pub invariant-loop-i : goal.invariant-loop-i

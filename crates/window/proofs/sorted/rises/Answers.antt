@@ -2,9 +2,7 @@
 use Prim.Native.Nat.{◌-◌}
 use mathlib.Core.Bool.{false≢true}
 use mathlib.Core.Path.{refl}
-use lib.ListN.{length}
-use Rattle.window.proofs.SortedLaws.{RisesTo, rises-starts, rises-goes-on, rises-not, rises-all}
-use borrow.Author.Rules.{rules}
+use Rattle.window.proofs.SortedLaws.{rises-starts, rises-goes-on, rises-not, rises-all}
 use Rattle.window.proofs.sorted.rises.Goals as goal
 
 pub loop-i-init : goal.loop-i-init

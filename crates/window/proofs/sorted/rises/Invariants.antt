@@ -1,10 +1,7 @@
 -- `window::sorted::rises` meets its contract.
 use Prim.Native.Nat.{◌-◌}
-use mathlib.Core.Bool.{false≢true}
-use mathlib.Core.Path.{refl}
 use lib.ListN.{length}
-use Rattle.window.proofs.SortedLaws.{RisesTo, rises-starts, rises-goes-on, rises-not, rises-all}
-use borrow.Author.Rules.{rules}
+use Rattle.window.proofs.SortedLaws.{RisesTo}
 use Rattle.window.proofs.sorted.rises.Given as goal
 
 abbrev pub invariant-loop-i : goal.invariant-loop-i

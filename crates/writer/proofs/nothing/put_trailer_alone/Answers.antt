@@ -6,7 +6,6 @@ use Rattle.sheet.specs.Writing.{rows_bytes, sheet_of}
 use Rattle.sheet.proofs.WrittenLaws.{sheet-length}
 use Rattle.call_definitions.specs.Bytes.{written_version}
 use Rattle.writer.proofs.TableLaws.{too_long, fits}
-use borrow.Author.Rules.{rules}
 use Rattle.writer.proofs.nothing.put_trailer_alone.Goals as goal
 
 pub returns-then-buffer-lt12 : goal.returns-then-buffer-lt12

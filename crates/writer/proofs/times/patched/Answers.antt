@@ -1,6 +1,5 @@
 -- `writer::times::patched` meets its contract.
 use Rattle.writer.proofs.DetailsLaws.{patch-times}
-use borrow.Author.Rules.{rules}
 use Rattle.writer.proofs.times.patched.Goals as goal
 
 pub returns : goal.returns

@@ -1,10 +1,7 @@
 -- `writer::times::times_at` meets its contract: the first override that names the occurrence decides.
-use mathlib.Core.Path.{refl, ◌∙◌}
 use Rattle.override_text.specs.Inner.Meaning.{details_in}
-use Rattle.writer.proofs.DetailsLaws.{Seen, seen_here, seen_next, seen-passed, seen_none}
+use Rattle.writer.proofs.DetailsLaws.{Seen}
 use Prim.Native.Nat.{◌-◌}
-use native.Mathlib.Omega.{arith}
-use borrow.Author.Rules.{rules}
 use lib.ListN.{length}
 use Rattle.writer.proofs.times.times_at.Given as goal
 

@@ -3,7 +3,6 @@ use native.Mathlib.Omega.{arith}
 use borrow.Author.Tests.{eq-eqb}
 use Rattle.zone.specs.Inner.Hint.{begun_at}
 use Rattle.zone.proofs.Machine.{Ranged, range-again, begun-is}
-use borrow.Author.Rules.{rules}
 use Rattle.zone.proofs.hint.begun.Goals as goal
 
 pub returns-then-i-eq0 : goal.returns-then-i-eq0

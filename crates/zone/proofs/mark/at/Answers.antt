@@ -1,6 +1,5 @@
 -- `zone::mark::at` meets its contract: both offsets are within ±86,399 and the instant within ±2^40, so the sum fits.
 use Prim.Native.Nat.{◌≤◌, ◌^◌}
-use borrow.Author.Rules.{rules}
 use native.Mathlib.Omega.{arith}
 use mathlib.Core.List.{◌∷◌}
 use mathlib.Core.Path.{◌≡◌, ◌∙◌, ap}

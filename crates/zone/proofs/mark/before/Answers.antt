@@ -1,5 +1,4 @@
 -- `zone::mark::before` meets its contract: the first place is the initial offset's, each other an offset's.
-use borrow.Author.Rules.{rules}
 use Rattle.zone.proofs.Machine.{first-place, other_place}
 use Rattle.zone.proofs.mark.before.Goals as goal
 

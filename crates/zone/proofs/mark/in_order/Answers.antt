@@ -1,10 +1,7 @@
 -- `zone::mark::in_order` meets its contract. The loop's invariant: the answer from here on is the whole answer.
 use Prim.Native.Nat.{◌-◌}
-use lib.ListN.{length}
 use mir.Syntax.{w64}
 use mir.Val.{to_z}
-use borrow.Author.Rules.{rules}
-use Rattle.zone.proofs.PassLaws.{Pass}
 use Rattle.zone.proofs.Machine.{Turn, turn-start, turn-wide, turn, turn_end}
 use Rattle.zone.proofs.mark.in_order.Goals as goal
 

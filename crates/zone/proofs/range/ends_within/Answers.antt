@@ -1,5 +1,4 @@
 -- `zone::range::ends_within` meets its contract: none is below the first and none above the last.
-use borrow.Author.Rules.{rules}
 use Rattle.zone.proofs.OrderLaws.{ends-none}
 use Rattle.zone.proofs.Machine.{first_out, last-tells}
 use Rattle.zone.proofs.range.ends_within.Goals as goal

@@ -1,14 +1,12 @@
 -- `zone::range::increasing` meets its contract. The loop's invariant: the answer from the last number on is the whole answer.
-use Prim.Native.Nat.{◌≤◌, ◌-◌}
-use mathlib.Core.Path.{◌≡◌, refl}
+use Prim.Native.Nat.{◌-◌}
+use mathlib.Core.Path.{refl}
 use native.Mathlib.Omega.{arith}
 use mathlib.Core.Bool.{true, false}
 use lib.IntN.{pos}
-use lib.ListN.{length, get_or, drop}
+use lib.ListN.{get_or}
 use Rattle.zone.proofs.OrderLaws.{walk-stop, walk-next, walk_end}
 use Rattle.zone.proofs.Machine.{compared-le}
-use Rattle.zone.specs.Table.{increasing}
-use borrow.Author.Rules.{rules}
 use Rattle.zone.proofs.range.increasing.Goals as goal
 
 pub loop-i-init : goal.loop-i-init

@@ -1,14 +1,8 @@
 -- `zone::range::increasing` meets its contract. The loop's invariant: the answer from the last number on is the whole answer.
 use Prim.Native.Nat.{◌≤◌, ◌-◌}
-use mathlib.Core.Path.{◌≡◌, refl}
-use native.Mathlib.Omega.{arith}
-use mathlib.Core.Bool.{true, false}
-use lib.IntN.{pos}
-use lib.ListN.{length, get_or, drop}
-use Rattle.zone.proofs.OrderLaws.{walk-stop, walk-next, walk_end}
-use Rattle.zone.proofs.Machine.{compared-le}
+use mathlib.Core.Path.{◌≡◌}
+use lib.ListN.{length, drop}
 use Rattle.zone.specs.Table.{increasing}
-use borrow.Author.Rules.{rules}
 use Rattle.zone.proofs.range.increasing.Given as goal
 
 abbrev pub invariant-loop-i : goal.invariant-loop-i

@@ -1,5 +1,4 @@
 -- `zone::range::within` meets its contract: a number is within ±k when both its parts are at most k.
-use borrow.Author.Rules.{rules}
 use native.Mathlib.Omega.{arith}
 use mathlib.Core.Path.{◌≡◌}
 use mir.Facts.{to_z-of_z}

@@ -1,7 +1,6 @@
 -- `zone::search::step` meets its contract: the mark in the middle says which part is left.
 use native.Mathlib.Omega.{arith}
 use Rattle.zone.proofs.Machine.{Ranged, range-again, step-high, step-low}
-use borrow.Author.Rules.{rules}
 use Rattle.zone.proofs.search.step.Goals as goal
 
 pub at-mark-requires : goal.at-mark-requires
