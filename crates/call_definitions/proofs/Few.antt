@@ -1,4 +1,5 @@
 -- The trailer's two numbers, the count and the distance to the first record, fit into their four bytes: 2 ^ 32 is 4,294,967,296.
+use Rattle.std.specs.Prelude.{if◌then◌else◌}
 use Prim.Native.Nat.{ℕ, suc, ◌+◌, ◌-◌, ◌*◌, ◌/◌, ◌<◌, ◌≤◌}
 use mathlib.Core.Bool.{Bool, true, false}
 use mathlib.Core.List.{List}
@@ -9,7 +10,6 @@ use lib.IntN.{ℤ, pos, negsuc, neg_ℤ}
 use lib.ListN.{length, length-map}
 use lib.Signed.{le_z}
 use borrow.Author.Tests.{leb-true, eqb-false}
-use Rattle.signed.specs.Choose.{if◌then◌else◌}
 use Rattle.signed.proofs.Parts.{subℕ-pos}
 use Rattle.json_strict.specs.Answer.{answer_of}
 use Rattle.rule.proofs.Bools.{right}

@@ -1,10 +1,9 @@
 -- 01, "Answer numbers", of an accepted event: 10 to 14, the buffer after the call, and the texts.
-use Rattle.std.specs.Prelude.{ℕ, Bool, true, false, not, ◌&&◌, List, eqb, ltb, ℤ, pos, neg_ℤ}
+use Rattle.std.specs.Prelude.{if◌then◌else◌, ℕ, Bool, true, false, not, ◌&&◌, List, eqb, ltb, ℤ, pos, neg_ℤ}
 use Rattle.std.proofs.Math.Option.{Option, none, some}
 use lib.ListN.{length}
 use Rattle.std.proofs.lemmas.List.Edits.{sets}
 use Rattle.std.specs.Int.Signed.{le_z}
-use Rattle.signed.specs.Choose.{if◌then◌else◌}
 use Rattle.json_walk.specs.Strings.{same}
 use Rattle.zone.specs.Table.{valid_table}
 use Rattle.keywords.specs.declared.Privacy.{Privacy}

@@ -1,7 +1,6 @@
 -- 01, "The sheet and the words": the records of the table of occurrences (01: "the sheet"), and its bytes.
-use Rattle.std.specs.Prelude.{ℕ, ◌+◌, List, [], map, ℤ}
+use Rattle.std.specs.Prelude.{if◌then◌else◌, ℕ, ◌+◌, List, [], map, ℤ}
 use Rattle.std.proofs.Math.Option.{Option}
-use Rattle.signed.specs.Choose.{if◌then◌else◌}
 use Rattle.keywords.specs.declared.Privacy.{Privacy}
 use Rattle.keywords.specs.declared.Privacy.TheVariants.{Public, Private, Secret}
 use Rattle.event.specs.Types.{Details, Event}

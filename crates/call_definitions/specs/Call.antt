@@ -1,8 +1,7 @@
 -- The whole calls, on a text: 01, "Answer numbers". "The sheet can answer 0 to 13; the words need only text and date and answer 0 to 9 or 14."
-use Rattle.std.specs.Prelude.{ℕ, ◌&&◌, List, [], ◌∷◌, eqb, ℤ}
+use Rattle.std.specs.Prelude.{if◌then◌else◌, ℕ, ◌&&◌, List, [], ◌∷◌, eqb, ℤ}
 use Rattle.std.proofs.Math.Option.{Option, none, some}
 use lib.ListN.{length}
-use Rattle.signed.specs.Choose.{if◌then◌else◌}
 use Rattle.json_strict.specs.Answer.{answer_of}
 use Rattle.keywords.specs.declared.Privacy.{Privacy}
 use Rattle.event.specs.Types.{Text, Details, Event}

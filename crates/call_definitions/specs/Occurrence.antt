@@ -1,7 +1,6 @@
 -- The occurrences of an event: which there are, and what each has after its patch.
-use Rattle.std.specs.Prelude.{ℕ, Bool, true, false, List, [], ◌∷◌, map, eqb}
+use Rattle.std.specs.Prelude.{if◌then◌else◌, ℕ, Bool, true, false, List, [], ◌∷◌, map, eqb}
 use Rattle.std.proofs.Math.Option.{Option, none, some}
-use Rattle.signed.specs.Choose.{if◌then◌else◌}
 use Rattle.recurrence.specs.Event.{in_set}
 use Rattle.recurrence.specs.Event as recurrence
 use Rattle.recurrence.specs.Ids.{ids}

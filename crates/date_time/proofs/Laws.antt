@@ -1,4 +1,5 @@
 -- Laws of date-times: one turn of the comparison with a picture, and what a right LocalDateTime says of its date.
+use Rattle.std.specs.Prelude.{if◌then◌else◌}
 use Prim.Native.Nat.{ℕ, ◌+◌, ◌-◌, ◌≤◌, ◌<◌}
 use mathlib.Core.Bool.{Bool, true, false}
 use mathlib.Core.List.{List, [], ◌∷◌}
@@ -7,7 +8,6 @@ use native.Mathlib.Numerals.{add-one}
 use native.Mathlib.Omega.{arith}
 use lib.ListN.{length, get_or, take, drop, drop_of_length-le, length-drop}
 use lib.Seq.{drop-cons, take_all}
-use Rattle.signed.specs.Choose.{if◌then◌else◌}
 use Rattle.gregorian.specs.Days.{is_date}
 use Rattle.date_time.specs.Picture.{meets, follows, picture}
 use Rattle.date_time.specs.Parts.{date_at}

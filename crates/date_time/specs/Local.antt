@@ -1,6 +1,5 @@
 -- LocalDateTime, 01, "Reading the event".
-use Rattle.std.specs.Prelude.{ℕ, ◌+◌, ◌*◌, Bool, false, List, eqb, leb, length, drop}
-use Rattle.signed.specs.Choose.{if◌then◌else◌}
+use Rattle.std.specs.Prelude.{if◌then◌else◌, ℕ, ◌+◌, ◌*◌, Bool, false, List, eqb, leb, length, drop}
 use Rattle.json_text.specs.Bytes.{byte}
 use Rattle.digits.specs.Fraction.{legal_fraction}
 use Rattle.gregorian.specs.Days.{is_date, day_of}

@@ -1,6 +1,5 @@
 -- The parts of a date-time at their places in `YYYY-MM-DDTHH:MM:SS`.
-use Rattle.std.specs.Prelude.{ℕ, ◌+◌, ◌*◌, Bool, true, false, List, ltb, leb}
-use Rattle.signed.specs.Choose.{if◌then◌else◌}
+use Rattle.std.specs.Prelude.{if◌then◌else◌, ℕ, ◌+◌, ◌*◌, Bool, true, false, List, ltb, leb}
 use Rattle.digits.specs.Digits.{two_at, four_at}
 use Rattle.gregorian.specs.declared.Date.{Date}
 use Rattle.gregorian.specs.Month.{month_length}

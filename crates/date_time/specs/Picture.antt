@@ -3,8 +3,7 @@
 --   partial-time = time-hour ":" time-minute ":" time-second [time-secfrac]
 --   full-date = date-fullyear "-" date-month "-" date-mday
 --   date-time = full-date "T" full-time
-use Rattle.std.specs.Prelude.{ℕ, Bool, true, false, List, [], ◌∷◌, eqb}
-use Rattle.signed.specs.Choose.{if◌then◌else◌}
+use Rattle.std.specs.Prelude.{if◌then◌else◌, ℕ, Bool, true, false, List, [], ◌∷◌, eqb}
 use Rattle.json_text.specs.Ascii.{ascii}
 use Rattle.json_text.specs.Bytes.{is_digit}
 

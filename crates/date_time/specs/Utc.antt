@@ -1,7 +1,6 @@
 -- UTCDateTime, 01, "Reading the event": "`updated` is a UTCDateTime, years 0000 to 9999, second 0 to 59 (house); its fraction, if non-zero
 -- with no trailing zero, may stand."
-use Rattle.std.specs.Prelude.{ℕ, ◌-◌, Bool, true, false, List, eqb, ltb, length, take, drop}
-use Rattle.signed.specs.Choose.{if◌then◌else◌}
+use Rattle.std.specs.Prelude.{if◌then◌else◌, ℕ, ◌-◌, Bool, true, false, List, eqb, ltb, length, take, drop}
 use Rattle.json_text.specs.Bytes.{byte}
 use Rattle.digits.specs.Fraction.{legal_fraction}
 use Rattle.date_time.specs.Picture.{follows, picture}

@@ -1,4 +1,5 @@
 -- A run that was marked step by step has the set of the event.
+use Rattle.std.specs.Prelude.{if◌then◌else◌}
 use Prim.Native.Nat.{ℕ, zero, suc, ◌+◌, ◌-◌, ◌*◌, ◌/◌, ◌%◌, ◌<◌, ◌≤◌}
 use mathlib.Core.Bool.{Bool, true, false}
 use mathlib.Core.List.{List, [], ◌∷◌}
@@ -6,7 +7,6 @@ use mathlib.Core.Path.{◌≡◌, refl, sym, ap, ◌∙◌, subst}
 use native.Mathlib.Omega.{arith}
 use lib.Dec.{eqb}
 use borrow.Author.Tests.{eq-eqb, eqb-true}
-use Rattle.signed.specs.Choose.{if◌then◌else◌}
 use Rattle.rule.specs.Gives.{on_day}
 use Rattle.rule.proofs.Bools.{same_tests}
 use Rattle.track.specs.Inner.Runs.{marked, run}

@@ -1,4 +1,5 @@
 -- Clearing a run, marking a date-time and marking the overrides.
+use Rattle.std.specs.Prelude.{if◌then◌else◌}
 use Prim.Native.Nat.{ℕ, zero, suc, ◌+◌, ◌-◌, ◌*◌, ◌/◌, ◌%◌, ◌<◌, ◌≤◌}
 use mathlib.Core.Bool.{Bool, true, false, ◌&&◌, ◌||◌}
 use mathlib.Core.List.{List, [], ◌∷◌, ◌++◌}
@@ -9,7 +10,6 @@ use lib.Dec.{eqb}
 use lib.ListN.{length, take, drop, get_or, set, replicate, length-set}
 use lib.Seq.{drop-cons, drop-length, take-suc-set, take_all}
 use borrow.Author.Tests.{eq-eqb, ne_eqb}
-use Rattle.signed.specs.Choose.{if◌then◌else◌}
 use Rattle.rule.specs.Gives.{on_day}
 use Rattle.track.specs.Inner.Runs.{marked, run}
 use Rattle.track.specs.Inner.Settle.{cleared}

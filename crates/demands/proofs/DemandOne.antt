@@ -1,5 +1,6 @@
 -- Demand 1 of every call that keeps its contract: `Gives (expand_text ..)` is that of the sheet's calls, `Shows (text_of ..)` and
 -- `Tells (text_of ..)` are those of the texts'.
+use Rattle.std.specs.Prelude.{if◌then◌else◌}
 use Prim.Native.Nat.{ℕ}
 use mathlib.Core.Bool.{Bool, true, false, not, ◌&&◌, ◌||◌}
 use mathlib.Core.List.{List, [], ◌∷◌}
@@ -9,7 +10,6 @@ use lib.Dec.{eqb}
 use lib.IntN.{ℤ}
 use lib.ListN.{take, drop}
 use borrow.Author.Tests.{eqb-true, ne_eqb}
-use Rattle.signed.specs.Choose.{if◌then◌else◌}
 use Rattle.rule.proofs.Bools.{by}
 use Rattle.keywords.specs.declared.Privacy.{Privacy}
 use Rattle.event.specs.Types.{Text, Details, Event}

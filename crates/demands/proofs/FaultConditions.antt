@@ -1,4 +1,5 @@
 -- What decides of a list of faults is what the conditions give.
+use Rattle.std.specs.Prelude.{if◌then◌else◌}
 use Prim.Native.Nat.{ℕ, suc, ◌≤◌, ◌<◌}
 use mathlib.Core.Bool.{Bool, true, false, not, ◌&&◌, ◌||◌}
 use mathlib.Core.List.{List, [], ◌∷◌, ◌++◌, map}
@@ -6,7 +7,6 @@ use mathlib.Core.Path.{◌≡◌, refl, sym, ap, ◌∙◌, subst}
 use native.Mathlib.Omega.{arith}
 use lib.Dec.{eqb, ltb, leb}
 use borrow.Author.Tests.{eqb-true, eqb-false, eq-eqb, ne_eqb, lt-ltb, le-ltb, leb-true}
-use Rattle.signed.specs.Choose.{if◌then◌else◌}
 use Rattle.signed.proofs.Parts.{false-true}
 use mathlib.Core.Logic.{⊎_elim}
 use Rattle.rule.proofs.Bools.{by, or-either, left, right}

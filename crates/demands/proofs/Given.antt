@@ -1,4 +1,5 @@
 -- The first of numbered conditions that holds.
+use Rattle.std.specs.Prelude.{if◌then◌else◌}
 use Prim.Native.Nat.{ℕ, ◌≤◌}
 use mathlib.Core.Bool.{Bool, true, false, ◌&&◌, ◌||◌}
 use mathlib.Core.List.{List, [], ◌∷◌, ◌++◌}
@@ -7,7 +8,6 @@ use mathlib.Core.Path.{◌≡◌, refl, sym, ◌∙◌, subst}
 use native.Mathlib.Omega.{arith}
 use lib.Dec.{eqb}
 use borrow.Author.Tests.{eqb-true, eq-eqb}
-use Rattle.signed.specs.Choose.{if◌then◌else◌}
 use Rattle.signed.proofs.Parts.{false-true}
 use Rattle.rule.specs.Lists.{any}
 use Rattle.rule.proofs.Bools.{or-either, left}

@@ -1,4 +1,5 @@
 -- Request 4: what the call for the place of a fault hands back.
+use Rattle.std.specs.Prelude.{if◌then◌else◌}
 use Prim.Native.Nat.{ℕ}
 use mathlib.Core.Bool.{Bool, true, false}
 use mathlib.Core.List.{List}
@@ -9,7 +10,6 @@ use lib.Dec.{eqb, ltb}
 use lib.IntN.{ℤ}
 use lib.ListN.{length}
 use borrow.Author.Tests.{ne_eqb}
-use Rattle.signed.specs.Choose.{if◌then◌else◌}
 use Rattle.signed.proofs.Parts.{false-true}
 use Rattle.fault.specs.Fault.{Fault, is_wrong, first, first_number, first_place}
 use Rattle.fault.specs.declared.First.{First}

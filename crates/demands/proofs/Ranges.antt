@@ -1,5 +1,6 @@
 -- The numbers of a record fit into its 8 bytes, and its times in UTC lie within ±2^40: what is known of an accepted event, of its window and of its
 -- zone table.
+use Rattle.std.specs.Prelude.{if◌then◌else◌}
 use Prim.Native.Nat.{ℕ, suc, ◌+◌, ◌*◌, ◌<◌, ◌≤◌, ◌^◌}
 use mathlib.Core.Bool.{Bool, true, false}
 use mathlib.Core.List.{List, [], ◌∷◌}
@@ -11,7 +12,6 @@ use lib.IntN.{nat_abs}
 use lib.ListN.{length, get_or}
 use mir.Syntax.{w64}
 use mir.Val.{SFits}
-use Rattle.signed.specs.Choose.{if◌then◌else◌}
 use Rattle.fault.proofs.Laws.{all_none}
 use Rattle.zone.specs.Table.{valid_table}
 use Rattle.zone.proofs.RangeLaws.{abs-fits}

@@ -1,4 +1,5 @@
 -- A sheet read back, of every call that keeps its contract: `Summarises (summary_of ..)`, `Fetches (fetch_of ..)`, `FetchesRun (run_of ..)`.
+use Rattle.std.specs.Prelude.{if◌then◌else◌}
 use Prim.Native.Nat.{ℕ, ◌+◌, ◌-◌, ◌<◌, ◌≤◌, min}
 use mathlib.Core.Bool.{Bool, true, false, not}
 use mathlib.Core.List.{List, [], ◌∷◌, map}
@@ -10,7 +11,6 @@ use lib.IntN.{ℤ, pos}
 use lib.ListN.{length, get_or, drop, get_or-append, length-append, length-drop}
 use lib.Seq.{drop_at}
 use borrow.Author.Tests.{eqb-true, eqb-false, le-leb}
-use Rattle.signed.specs.Choose.{if◌then◌else◌}
 use Rattle.rule.proofs.Bools.{by}
 use Rattle.little_endian.specs.Bytes.{AllBytes}
 use Rattle.sheet.specs.Runs.{tabulate}

@@ -1,4 +1,5 @@
 -- The records of an accepted event in a window can be written: their numbers fit, their ids increase, and they are few.
+use Rattle.std.specs.Prelude.{if◌then◌else◌}
 use Prim.Native.Nat.{ℕ, suc, ◌+◌, ◌*◌, ◌<◌, ◌≤◌}
 use mathlib.Core.Bool.{Bool, true, false}
 use mathlib.Core.List.{List, []}
@@ -8,7 +9,6 @@ use mathlib.Core.Path.{◌≡◌, refl}
 use native.Mathlib.Omega.{arith}
 use lib.IntN.{ℤ}
 use lib.ListN.{length, get_or, get_or-map}
-use Rattle.signed.specs.Choose.{if◌then◌else◌}
 use Rattle.zone.specs.Table.{valid_table}
 use Rattle.rule.specs.Gives.{end_day}
 use Rattle.recurrence.specs.Inner.Order.{StrictlyIncreases, among}

@@ -1,7 +1,6 @@
 -- 01, "Answer numbers": the numbers of the table, each with its condition.
-use Rattle.std.specs.Prelude.{ℕ, ◌+◌, ◌≤◌, Bool, true, false, not, ◌&&◌, ◌||◌, List, [], ◌∷◌, ◌++◌, map, ◌≡◌, eqb, ltb, leb, ℤ, length}
+use Rattle.std.specs.Prelude.{if◌then◌else◌, ℕ, ◌+◌, ◌≤◌, Bool, true, false, not, ◌&&◌, ◌||◌, List, [], ◌∷◌, ◌++◌, map, ◌≡◌, eqb, ltb, leb, ℤ, length}
 use Rattle.std.proofs.Math.Option.{Option, none, some}
-use Rattle.signed.specs.Choose.{if◌then◌else◌}
 use Rattle.json_text.specs.Bytes.{space_at, next}
 use Rattle.json_text.specs.declared.Read.{Read}
 use Rattle.json_text.specs.declared.Read.TheVariants.{To, Bad, Deep}

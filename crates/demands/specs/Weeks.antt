@@ -1,7 +1,6 @@
 -- Request 1, of one call: the weeks of an upload log, from the sheet of a closure calendar. `before` and `after` are the lent places at entry and at
 -- exit; `from` and `to` are the range's ends.
-use Rattle.std.specs.Prelude.{ℕ, ◌+◌, ◌*◌, ◌<◌, Bool, true, not, List, [], ◌∷◌, ◌≡◌, eqb, leb, ℤ, pos, negsuc, ◌-ℤ◌, length, get_or, drop}
-use Rattle.signed.specs.Choose.{if◌then◌else◌}
+use Rattle.std.specs.Prelude.{if◌then◌else◌, ℕ, ◌+◌, ◌*◌, ◌<◌, Bool, true, not, List, [], ◌∷◌, ◌≡◌, eqb, leb, ℤ, pos, negsuc, ◌-ℤ◌, length, get_or, drop}
 use Rattle.signed.specs.Parts.{pos_part}
 use Rattle.rule.specs.Lists.{count_in}
 use Rattle.sheet.specs.Runs.{tabulate}

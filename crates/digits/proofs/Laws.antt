@@ -1,4 +1,5 @@
 -- Laws of fractions: the code's one pass over the digits judges as the definition does.
+use Rattle.std.specs.Prelude.{if◌then◌else◌}
 use Prim.Native.Nat.{ℕ, zero, suc, ◌+◌, ◌≤◌, ◌<◌}
 use mathlib.Core.Bool.{Bool, true, false, not}
 use mathlib.Core.List.{List, [], ◌∷◌}
@@ -9,7 +10,6 @@ use lib.Dec.{eqb}
 use lib.ListN.{length, get_or, drop, drop_of_length-le}
 use lib.Seq.{drop-cons}
 use borrow.Author.Tests.{eqb-true}
-use Rattle.signed.specs.Choose.{if◌then◌else◌}
 use Rattle.json_text.specs.Bytes.{is_digit}
 use Rattle.digits.specs.Fraction.{all_digits, non_zero, last_of, ends_in_zero, legal_fraction}
 use Rattle.digits.specs.Inner.Judged.{judged}

@@ -1,6 +1,5 @@
 -- Fractions of a second. RFC 3339, 5.6: time-secfrac = "." 1*DIGIT; source document 004: dur-secfrac = "." 1*DIGIT
-use Rattle.std.specs.Prelude.{ℕ, Bool, true, false, not, List, [], ◌∷◌, eqb}
-use Rattle.signed.specs.Choose.{if◌then◌else◌}
+use Rattle.std.specs.Prelude.{if◌then◌else◌, ℕ, Bool, true, false, not, List, [], ◌∷◌, eqb}
 use Rattle.json_text.specs.Bytes.{is_digit}
 
 unfoldable pub all_digits : List ℕ → Bool

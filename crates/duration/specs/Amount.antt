@@ -1,6 +1,5 @@
 -- The numbers of a duration. Each unit has a letter of its own, and its number stands before that letter.
-use Rattle.std.specs.Prelude.{ℕ, ◌+◌, ◌*◌, List, [], ◌∷◌, eqb}
-use Rattle.signed.specs.Choose.{if◌then◌else◌}
+use Rattle.std.specs.Prelude.{if◌then◌else◌, ℕ, ◌+◌, ◌*◌, List, [], ◌∷◌, eqb}
 use Rattle.json_text.specs.Bytes.{is_digit}
 use Rattle.digits.specs.Digits.{digit}
 use Rattle.duration_grammar.specs.Letter.{upper}

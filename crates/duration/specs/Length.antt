@@ -1,7 +1,6 @@
 -- `duration`, 01, "Reading the event": "ABNF of source document 004, so `P1W2D` is right and `P` is wrong; default zero; total at most 366
 -- days, else 6; a legal fraction answers 8." Request 2: "The limit of 366 days stays, still counted with 86,400."
-use Rattle.std.specs.Prelude.{ℕ, ◌+◌, ◌-◌, ◌*◌, Bool, not, List, eqb, ltb, leb, length, take, drop}
-use Rattle.signed.specs.Choose.{if◌then◌else◌}
+use Rattle.std.specs.Prelude.{if◌then◌else◌, ℕ, ◌+◌, ◌-◌, ◌*◌, Bool, not, List, eqb, ltb, leb, length, take, drop}
 use Rattle.json_text.specs.Bytes.{past}
 use Rattle.digits.specs.Fraction.{legal_fraction}
 use Rattle.duration_grammar.specs.Grammar.{is_duration}

@@ -1,6 +1,5 @@
 -- The grammar of a duration, source document 004, "Duration". A rule starts at a place of the text and answers where what it read ends.
-use Rattle.std.specs.Prelude.{ℕ, ◌+◌, Bool, true, false, List, eqb, length}
-use Rattle.signed.specs.Choose.{if◌then◌else◌}
+use Rattle.std.specs.Prelude.{if◌then◌else◌, ℕ, ◌+◌, Bool, true, false, List, eqb, length}
 use Rattle.json_text.specs.Bytes.{byte, next}
 use Rattle.json_text.specs.Numbers.{some_digits_at, frac_at}
 use Rattle.json_text.specs.declared.Read.{Read}

@@ -1,6 +1,5 @@
 -- Letters of an ABNF string. RFC 5234, 2.3: "ABNF strings are case insensitive", so a duration's letters are of either case.
-use Rattle.std.specs.Prelude.{ℕ, ◌-◌, ltb, leb}
-use Rattle.signed.specs.Choose.{if◌then◌else◌}
+use Rattle.std.specs.Prelude.{if◌then◌else◌, ℕ, ◌-◌, ltb, leb}
 
 -- A lower-case letter, %x61-7A, as its upper-case one; any other byte as itself.
 unfoldable pub upper : ℕ → ℕ

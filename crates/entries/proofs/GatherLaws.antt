@@ -1,4 +1,5 @@
 -- The loop of `gather`: where it starts, one turn of it, and its end.
+use Rattle.std.specs.Prelude.{if◌then◌else◌}
 use Prim.Native.Nat.{ℕ, suc, ◌+◌, ◌<◌, ◌≤◌}
 use mathlib.Core.Bool.{Bool, true, false}
 use mathlib.Core.Path.{◌≡◌, refl, sym, ap, ◌∙◌}
@@ -10,7 +11,6 @@ use lib.Dec.{ltb}
 use lib.IntN.{ℤ}
 use lib.ListN.{length, get_or, set, take, drop}
 use lib.Seq.{sets, drop-cons, take_all, take-length, length-take-le}
-use Rattle.signed.specs.Choose.{if◌then◌else◌}
 use Rattle.entries.specs.declared.Transition.{Transition}
 use Rattle.entries.specs.Inner.Gathers.{lesser, gathered}
 

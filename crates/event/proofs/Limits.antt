@@ -1,4 +1,5 @@
 -- 9, over "256 overrides": an event that has no fault has at most so many.
+use Rattle.std.specs.Prelude.{if◌then◌else◌}
 use Prim.Native.Nat.{ℕ, ◌≤◌}
 use mathlib.Core.Bool.{Bool, true, false}
 use mathlib.Core.List.{List, []}
@@ -8,7 +9,6 @@ use native.Mathlib.Omega.{arith}
 use lib.Dec.{ltb}
 use lib.ListN.{length}
 use borrow.Author.Tests.{ltb-false}
-use Rattle.signed.specs.Choose.{if◌then◌else◌}
 use Rattle.fault.specs.Fault.{faults_at}
 use Rattle.fault.proofs.Laws.{append-none, all_none, fault-some}
 use Rattle.json_tree.specs.Tree.{Json, Fields, place_of, text_tree}

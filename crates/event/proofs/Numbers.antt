@@ -1,4 +1,5 @@
 -- The faults of an event have the numbers 7 to 9 and 20 to 26. So where the number that is given is 0, there is no fault.
+use Rattle.std.specs.Prelude.{if◌then◌else◌}
 use Prim.Native.Nat.{ℕ}
 use mathlib.Core.Bool.{Bool, true, false, not, ◌&&◌, ◌||◌}
 use mathlib.Core.List.{List, [], ◌∷◌, ◌++◌}
@@ -7,7 +8,6 @@ use mathlib.Core.Path.{◌≡◌, refl}
 use native.Mathlib.Omega.{arith}
 use lib.Dec.{eqb, ltb}
 use lib.ListN.{length}
-use Rattle.signed.specs.Choose.{if◌then◌else◌}
 use Rattle.signed.proofs.Parts.{false-true}
 use Rattle.fault.specs.Fault.{Fault, faults_at, all_of, decides, lower, first, first_number}
 use Rattle.fault.specs.declared.First.{First}

@@ -1,4 +1,5 @@
 -- The number that a single value is judged with is 0, or one of 7 to 9 and 20 to 26.
+use Rattle.std.specs.Prelude.{if◌then◌else◌}
 use Prim.Native.Nat.{ℕ, zero, suc, ◌+◌, ◌-◌, ◌*◌}
 use mathlib.Core.Bool.{Bool, true, false, ◌&&◌, ◌||◌}
 use mathlib.Core.List.{List, [], ◌∷◌}
@@ -7,7 +8,6 @@ use mathlib.Core.Path.{◌≡◌, refl}
 use lib.Dec.{eqb, leb, ltb}
 use lib.IntN.{ℤ, pos, negsuc, nat_abs}
 use lib.ListN.{length, take, drop}
-use Rattle.signed.specs.Choose.{if◌then◌else◌}
 use Rattle.digits.specs.Fraction.{legal_fraction}
 use Rattle.json_text.specs.Ascii.{ascii}
 use Rattle.json_text.specs.Bytes.{byte}

@@ -1,7 +1,6 @@
 -- 01, "Reading the event": the properties of an event, and of a patch.
-use Rattle.std.specs.Prelude.{ℕ, Bool, true, false, List, [], ◌∷◌}
+use Rattle.std.specs.Prelude.{if◌then◌else◌, ℕ, Bool, true, false, List, [], ◌∷◌}
 use Rattle.std.proofs.Math.Option.{Option, none, some}
-use Rattle.signed.specs.Choose.{if◌then◌else◌}
 use Rattle.json_tree.specs.Tree.{Json}
 use Rattle.date_time.specs.declared.DateTime.{DateTime}
 use Rattle.date_time.specs.declared.DateTime.TheVariants as local

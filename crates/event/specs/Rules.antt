@@ -1,7 +1,6 @@
 -- 01, "Rules of recurrence", its first paragraph: how a rule is read.
-use Rattle.std.specs.Prelude.{ℕ, zero, suc, Bool, true, false, ◌||◌, ◌&&◌, List, [], ◌∷◌, leb, ℤ, pos, negsuc, nat_abs}
+use Rattle.std.specs.Prelude.{if◌then◌else◌, ℕ, zero, suc, Bool, true, false, ◌||◌, ◌&&◌, List, [], ◌∷◌, leb, ℤ, pos, negsuc, nat_abs}
 use Rattle.std.proofs.Math.Option.{Option, none, some}
-use Rattle.signed.specs.Choose.{if◌then◌else◌}
 use Rattle.fault.specs.Fault.{Fault, faults_at, all_of}
 use Rattle.json_walk.specs.Strings.{same}
 use Rattle.json_tree.specs.Tree.{Json, Fields, place_of}

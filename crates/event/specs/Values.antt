@@ -1,7 +1,6 @@
 -- A value of the tree as one of the kinds that a property asks for.
-use Rattle.std.specs.Prelude.{ℕ, zero, suc, ◌+◌, Bool, true, false, List, [], ◌∷◌, ℤ, pos, negsuc}
+use Rattle.std.specs.Prelude.{if◌then◌else◌, ℕ, zero, suc, ◌+◌, Bool, true, false, List, [], ◌∷◌, ℤ, pos, negsuc}
 use Rattle.std.proofs.Math.Option.{Option, none, some}
-use Rattle.signed.specs.Choose.{if◌then◌else◌}
 use Rattle.json_walk.specs.Strings.{same, slashed}
 use Rattle.event.specs.Types.{Text}
 use Rattle.event.specs.Reading.{Reading, wrong, or_wrong}

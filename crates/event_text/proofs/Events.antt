@@ -1,9 +1,9 @@
 -- The definitions' event, and the fault of it that decides, from its front and the three lists.
+use Rattle.std.specs.Prelude.{if◌then◌else◌}
 use Prim.Native.Nat.{ℕ}
 use mathlib.Core.List.{List}
 use mathlib.Core.Option.{Option, none, some}
 use mathlib.Core.Path.{◌≡◌, refl}
-use Rattle.signed.specs.Choose.{if◌then◌else◌}
 use Rattle.fault.specs.Fault.{lower, first}
 use Rattle.fault.specs.declared.First.TheVariants.{At}
 use Rattle.fault.proofs.Laws.{first-groups}

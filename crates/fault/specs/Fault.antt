@@ -1,7 +1,6 @@
 -- 02, request 4: "Each carries the byte place, from 0, at which the first such value in the text begins .. The earliest place decides, then the
 -- lowest number .. The order against the other numbers is that of 6".
-use Rattle.std.specs.Prelude.{ℕ, Bool, true, false, List, [], ◌∷◌, ◌++◌, eqb, ltb, leb}
-use Rattle.signed.specs.Choose.{if◌then◌else◌}
+use Rattle.std.specs.Prelude.{if◌then◌else◌, ℕ, Bool, true, false, List, [], ◌∷◌, ◌++◌, eqb, ltb, leb}
 use Rattle.fault.specs.declared.First.{First}
 use Rattle.fault.specs.declared.First.TheVariants.{None, At}
 

@@ -1,4 +1,5 @@
 -- The parts of a date: within its month, its year, the calendar.
+use Rattle.std.specs.Prelude.{if◌then◌else◌}
 use Prim.Native.Nat.{ℕ, zero, suc, ◌+◌, ◌-◌, ◌*◌, ◌^◌, ◌<◌, ◌≤◌}
 use mathlib.Core.Bool.{Bool, true, false, ◌&&◌}
 use mathlib.Core.Path.{◌≡◌, refl, sym, ap, ◌∙◌, subst}
@@ -6,7 +7,6 @@ use native.Mathlib.Omega.{arith}
 use lib.Dec.{T, leb, ltb, leb→le}
 use mir.Facts.{and_yes}
 use borrow.Author.Tests.{ltb-true, ltb-false, le-leb, leb-true}
-use Rattle.signed.specs.Choose.{if◌then◌else◌}
 use Rattle.gregorian.specs.declared.Date.{Date}
 use Rattle.gregorian.specs.Year.{year_length, first_of_year}
 use Rattle.gregorian.specs.Month.{month_length, month_start}

@@ -1,4 +1,5 @@
 -- Laws of months: only February differs in a leap year; twelve months make the year.
+use Rattle.std.specs.Prelude.{if◌then◌else◌}
 use Prim.Native.Nat.{ℕ, zero, suc, ◌+◌, ◌-◌, ◌/◌, ◌<◌, ◌≤◌}
 use mathlib.Core.Bool.{Bool, true, false}
 use mathlib.Core.List.{List}
@@ -7,7 +8,6 @@ use native.Mathlib.Omega.{arith}
 use lib.Dec.{T, leb, ltb, leb→le, ltb→lt}
 use borrow.Author.Tests.{ltb-true, ltb-false}
 use lib.ListN.{get_or, get_or-eq_default}
-use Rattle.signed.specs.Choose.{if◌then◌else◌}
 use Rattle.gregorian.proofs.Computed.{all_below, all-below, tabulate, entry}
 use Rattle.gregorian.specs.Year.{is_leap, year_length}
 use Rattle.gregorian.specs.Month.{lengths, length_in, start_in, month_length, month_start}

@@ -1,11 +1,11 @@
 -- From a day to its date and back, and from a date to its day and back: every day has one date, and every date one day.
+use Rattle.std.specs.Prelude.{if◌then◌else◌}
 use Prim.Native.Nat.{ℕ, zero, suc, ◌+◌, ◌-◌, ◌*◌, ◌/◌, ◌%◌, ◌<◌, ◌≤◌}
 use mathlib.Core.Bool.{Bool, true, false}
 use mathlib.Core.Path.{◌≡◌, refl, sym, ap, ◌∙◌, subst}
 use native.Mathlib.Omega.{arith}
 use lib.Dec.{ltb}
 use borrow.Author.Tests.{ltb-true, ltb-false}
-use Rattle.signed.specs.Choose.{if◌then◌else◌}
 use Rattle.gregorian.specs.declared.Date.{Date}
 use Rattle.gregorian.specs.Year.{year_length, first_of_year}
 use Rattle.gregorian.specs.Month.{month_length, month_start, start_in, length_in}

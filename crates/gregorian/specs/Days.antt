@@ -1,6 +1,5 @@
 -- Dates and day numbers: day 0 is 1600-01-01.
-use Rattle.std.specs.Prelude.{ℕ, zero, suc, ◌+◌, ◌-◌, ◌*◌, ◌/◌, ◌%◌, Bool, ◌&&◌, leb, ltb}
-use Rattle.signed.specs.Choose.{if◌then◌else◌}
+use Rattle.std.specs.Prelude.{if◌then◌else◌, ℕ, zero, suc, ◌+◌, ◌-◌, ◌*◌, ◌/◌, ◌%◌, Bool, ◌&&◌, leb, ltb}
 use Rattle.gregorian.specs.declared.Date.{Date}
 use Rattle.gregorian.specs.Year.{year_length, first_of_year}
 use Rattle.gregorian.specs.Month.{month_length, month_start}

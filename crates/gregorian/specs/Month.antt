@@ -1,6 +1,5 @@
 -- Months, from 1 to 12. Any other number has no days.
-use Rattle.std.specs.Prelude.{ℕ, zero, suc, ◌+◌, Bool, List, [], ◌∷◌, get_or, ℤ}
-use Rattle.signed.specs.Choose.{if◌then◌else◌}
+use Rattle.std.specs.Prelude.{if◌then◌else◌, ℕ, zero, suc, ◌+◌, Bool, List, [], ◌∷◌, get_or, ℤ}
 use Rattle.signed.specs.Place.{place_of}
 use Rattle.gregorian.specs.Year.{is_leap}
 

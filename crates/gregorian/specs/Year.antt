@@ -1,6 +1,5 @@
 -- Years of the Gregorian calendar, and the days before them, counted from 1600-01-01.
-use Rattle.std.specs.Prelude.{ℕ, zero, suc, ◌+◌, ◌*◌, ◌%◌, Bool, true, false, eqb}
-use Rattle.signed.specs.Choose.{if◌then◌else◌}
+use Rattle.std.specs.Prelude.{if◌then◌else◌, ℕ, zero, suc, ◌+◌, ◌*◌, ◌%◌, Bool, true, false, eqb}
 
 -- The Gregorian rule: every fourth year is a leap year, but of the hundredth years only every fourth.
 unfoldable pub is_leap : ℕ → Bool

@@ -1,6 +1,6 @@
 -- Laws of the walk over the members of an object: what it finds together with equal names is what is at fault in the object.
+use Rattle.std.specs.Prelude.{if◌then◌else◌}
 use Rattle.std.proofs.Common.{◌≡◌, ℕ, zero, suc, Bool, true, false, eqb, List, [], ◌∷◌, sym, refl}
-use Rattle.signed.specs.Choose.{if◌then◌else◌}
 use Rattle.json_text.specs.Bytes.{byte}
 use Rattle.json_walk.specs.Walk.{members_of, elements_of}
 use Rattle.json_walk.specs.Strings.{slashed}

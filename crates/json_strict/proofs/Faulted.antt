@@ -1,10 +1,10 @@
 -- The faults of names that answer 4 judges are those of the text's tree.
+use Rattle.std.specs.Prelude.{if◌then◌else◌}
 use Prim.Native.Nat.{ℕ, zero, suc}
 use mathlib.Core.Bool.{Bool, true, false}
 use mathlib.Core.List.{List, [], ◌∷◌}
 use mathlib.Core.Path.{◌≡◌, refl}
 use lib.Dec.{eqb}
-use Rattle.signed.specs.Choose.{if◌then◌else◌}
 use Rattle.json_text.specs.Bytes.{byte, space_at}
 use Rattle.json_value.specs.Values.{levels}
 use Rattle.json_walk.specs.Walk.{members_of, elements_of}

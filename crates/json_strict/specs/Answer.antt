@@ -1,6 +1,5 @@
 -- The answer of a text: 0, or the lowest of 1 to 4 that applies.
-use Rattle.std.specs.Prelude.{ℕ, List, ltb, length}
-use Rattle.signed.specs.Choose.{if◌then◌else◌}
+use Rattle.std.specs.Prelude.{if◌then◌else◌, ℕ, List, ltb, length}
 use Rattle.json_text.specs.declared.Read.{Read}
 use Rattle.json_text.specs.declared.Read.TheVariants.{To, Bad, Deep}
 use Rattle.json_value.specs.Values.{text_at}

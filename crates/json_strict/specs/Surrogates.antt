@@ -1,8 +1,7 @@
 -- Escaped surrogates, RFC 8259, section 7: a character outside the Basic Multilingual Plane is escaped as a
 -- 12-character sequence, the UTF-16 surrogate pair. In a JSON text a backslash stands only at the front of an
 -- escape in a string, so the text is gone through from left to right, escape by escape.
-use Rattle.std.specs.Prelude.{ℕ, zero, suc, ◌+◌, ◌-◌, ◌*◌, Bool, false, List, eqb, ltb, leb, length}
-use Rattle.signed.specs.Choose.{if◌then◌else◌}
+use Rattle.std.specs.Prelude.{if◌then◌else◌, ℕ, zero, suc, ◌+◌, ◌-◌, ◌*◌, Bool, false, List, eqb, ltb, leb, length}
 use Rattle.json_text.specs.Bytes.{byte, next}
 use Rattle.json_text.specs.declared.Read.{Read}
 use Rattle.json_text.specs.declared.Read.TheVariants.{To, Bad}

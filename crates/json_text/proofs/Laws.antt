@@ -1,4 +1,5 @@
 -- Laws on tests of bytes and runs of bytes, which the readers' proofs cite.
+use Rattle.std.specs.Prelude.{if◌then◌else◌}
 use Prim.Native.Nat.{ℕ, zero, suc, ◌+◌, ◌-◌, ◌≤◌, ◌<◌}
 use mathlib.Core.Bool.{Bool, true, false}
 use mathlib.Core.List.{List, [], ◌∷◌}
@@ -8,7 +9,6 @@ use native.Mathlib.Omega.{arith}
 use lib.ListN.{length, get_or, drop, drop_of_length-le, get_or-eq_default}
 use lib.Dec.{eqb}
 use lib.Seq.{drop-cons}
-use Rattle.signed.specs.Choose.{if◌then◌else◌}
 use Rattle.json_text.specs.Bytes.{next, run, past, is_space, is_digit, space_at, digits_at}
 use Rattle.json_text.specs.Utf8.{is_tail, tails_at}
 use Rattle.json_text.specs.Strings.{is_hex, is_escaped, char_at, chars_at}

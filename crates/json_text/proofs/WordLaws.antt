@@ -1,10 +1,10 @@
 -- A word of four bytes, byte by byte.
+use Rattle.std.specs.Prelude.{if◌then◌else◌}
 use Prim.Native.Nat.{ℕ, ◌+◌}
 use mathlib.Core.List.{List, [], ◌∷◌}
 use mathlib.Core.Path.{◌≡◌}
 use native.Mathlib.Omega.{arith}
 use lib.Dec.{eqb}
-use Rattle.signed.specs.Choose.{if◌then◌else◌}
 use Rattle.json_text.specs.Bytes.{byte}
 use Rattle.json_text.specs.Words.{word_at}
 use Rattle.json_text.specs.declared.Read.TheVariants.{To, Bad}

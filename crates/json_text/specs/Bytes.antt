@@ -1,6 +1,5 @@
 -- Bytes of a text by their place, the answer of a reader, and runs of bytes of one sort.
-use Rattle.std.specs.Prelude.{ℕ, suc, ◌+◌, Bool, true, false, List, [], ◌∷◌, get_or, drop, eqb, ltb, leb}
-use Rattle.signed.specs.Choose.{if◌then◌else◌}
+use Rattle.std.specs.Prelude.{if◌then◌else◌, ℕ, suc, ◌+◌, Bool, true, false, List, [], ◌∷◌, get_or, drop, eqb, ltb, leb}
 use Rattle.json_text.specs.declared.Read.{Read}
 use Rattle.json_text.specs.declared.Read.TheVariants.{To, Bad, Deep}
 

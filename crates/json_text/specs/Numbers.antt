@@ -1,6 +1,5 @@
 -- Numbers, RFC 8259, section 6: number = [ minus ] int [ frac ] [ exp ]
-use Rattle.std.specs.Prelude.{ℕ, ◌+◌, List, eqb}
-use Rattle.signed.specs.Choose.{if◌then◌else◌}
+use Rattle.std.specs.Prelude.{if◌then◌else◌, ℕ, ◌+◌, List, eqb}
 use Rattle.json_text.specs.Bytes.{byte, next, is_digit, digits_at}
 use Rattle.json_text.specs.declared.Read.{Read}
 use Rattle.json_text.specs.declared.Read.TheVariants.{To, Bad}

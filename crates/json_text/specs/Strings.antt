@@ -1,6 +1,5 @@
 -- Strings, RFC 8259, section 7: string = quotation-mark *char quotation-mark
-use Rattle.std.specs.Prelude.{ℕ, suc, zero, ◌+◌, Bool, true, false, List, length, eqb, ltb, leb}
-use Rattle.signed.specs.Choose.{if◌then◌else◌}
+use Rattle.std.specs.Prelude.{if◌then◌else◌, ℕ, suc, zero, ◌+◌, Bool, true, false, List, length, eqb, ltb, leb}
 use Rattle.json_text.specs.Bytes.{byte, next, is_digit}
 use Rattle.json_text.specs.Utf8.{multi_at}
 use Rattle.json_text.specs.declared.Read.{Read}

@@ -1,6 +1,5 @@
 -- UTF-8 by the ABNF of RFC 3629, section 4. UTF8-1, %x00-7F, is one byte below 0x80; the longer forms are here.
-use Rattle.std.specs.Prelude.{ℕ, suc, zero, ◌+◌, Bool, true, false, List, eqb, ltb, leb}
-use Rattle.signed.specs.Choose.{if◌then◌else◌}
+use Rattle.std.specs.Prelude.{if◌then◌else◌, ℕ, suc, zero, ◌+◌, Bool, true, false, List, eqb, ltb, leb}
 use Rattle.json_text.specs.Bytes.{byte}
 use Rattle.json_text.specs.declared.Read.{Read}
 use Rattle.json_text.specs.declared.Read.TheVariants.{To, Bad}

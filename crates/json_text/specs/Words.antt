@@ -1,6 +1,5 @@
 -- The three literal names, RFC 8259, section 3, and the values that hold no other: scalars.
-use Rattle.std.specs.Prelude.{ℕ, ◌+◌, List, [], ◌∷◌, eqb}
-use Rattle.signed.specs.Choose.{if◌then◌else◌}
+use Rattle.std.specs.Prelude.{if◌then◌else◌, ℕ, ◌+◌, List, [], ◌∷◌, eqb}
 use Rattle.json_text.specs.Ascii.{ascii}
 use Rattle.json_text.specs.Bytes.{byte}
 use Rattle.json_text.specs.Strings.{string_at}

@@ -1,10 +1,10 @@
 -- What the readers answer, about the tree of the text: kind and place, members and elements, strings, and look-up.
+use Rattle.std.specs.Prelude.{if◌then◌else◌}
 use Prim.Native.Nat.{ℕ, zero, suc}
 use mathlib.Core.Bool.{Bool, true, false}
 use mathlib.Core.List.{List, [], ◌∷◌}
 use mathlib.Core.Path.{◌≡◌, refl}
 use lib.Dec.{eqb}
-use Rattle.signed.specs.Choose.{if◌then◌else◌}
 use Rattle.json_text.specs.Bytes.{byte}
 use Rattle.json_text.specs.Strings.{string_at}
 use Rattle.json_walk.specs.Walk.{members_of, elements_of}

@@ -1,6 +1,5 @@
 -- 01, 4: "two equal member names in one object, or a backslash in any member name".
-use Rattle.std.specs.Prelude.{ℕ, Bool, true, false, List}
-use Rattle.signed.specs.Choose.{if◌then◌else◌}
+use Rattle.std.specs.Prelude.{if◌then◌else◌, ℕ, Bool, true, false, List}
 use Rattle.json_walk.specs.Strings.{same, slashed}
 use Rattle.json_tree.specs.Tree.{Json, Items, Fields, null_at, false_at, true_at, number_of, string_of, array_of, object_of, no_item, item, no_field, field}
 

@@ -1,6 +1,5 @@
 -- A member of an object by its name.
-use Rattle.std.specs.Prelude.{ℕ, List}
-use Rattle.signed.specs.Choose.{if◌then◌else◌}
+use Rattle.std.specs.Prelude.{if◌then◌else◌, ℕ, List}
 use Rattle.json_walk.specs.Strings.{same}
 use Rattle.json_tree.specs.Tree.{Json, Fields, no_field, field}
 

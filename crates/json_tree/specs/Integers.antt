@@ -1,6 +1,5 @@
 -- Integers: optional minus and digits by JSON's grammar, no fraction or exponent, from -(2^53-1) to 2^53-1; -0 is 0.
-use Rattle.std.specs.Prelude.{ℕ, ◌+◌, ◌-◌, ◌*◌, Bool, true, false, List, [], ◌∷◌, eqb, leb, drop}
-use Rattle.signed.specs.Choose.{if◌then◌else◌}
+use Rattle.std.specs.Prelude.{if◌then◌else◌, ℕ, ◌+◌, ◌-◌, ◌*◌, Bool, true, false, List, [], ◌∷◌, eqb, leb, drop}
 use Rattle.json_text.specs.Bytes.{byte, is_digit, digits_at}
 use Rattle.json_tree.specs.declared.Integer.{Integer}
 use Rattle.json_tree.specs.declared.Integer.TheVariants.{Is, No}

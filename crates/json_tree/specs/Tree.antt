@@ -1,7 +1,6 @@
 -- A JSON text as a tree of values. Each value has its kind and its place; a string and a name have the raw bytes
 -- between their quotes, a number its integer where it is one that is read.
-use Rattle.std.specs.Prelude.{ℕ, zero, suc, List, [], ◌∷◌, eqb}
-use Rattle.signed.specs.Choose.{if◌then◌else◌}
+use Rattle.std.specs.Prelude.{if◌then◌else◌, ℕ, zero, suc, List, [], ◌∷◌, eqb}
 use Rattle.json_text.specs.Bytes.{byte, space_at}
 use Rattle.json_text.specs.Strings.{string_at}
 use Rattle.json_text.specs.declared.Read.{Read}

@@ -1,5 +1,6 @@
 -- What is not too deep where few levels may be opened is read the same, or is as bad, where more may be. So the walks, which pass over a value
 -- with all 16 levels, end each value where the reader of the whole text did.
+use Rattle.std.specs.Prelude.{if◌then◌else◌}
 use Prim.Native.Nat.{ℕ, zero, suc, ◌+◌, ◌≤◌}
 use mathlib.Core.Bool.{Bool, true, false}
 use mathlib.Core.List.{List}
@@ -7,7 +8,6 @@ use mathlib.Core.Path.{◌≡◌, refl, sym, ◌∙◌, subst}
 use native.Mathlib.Omega.{arith}
 use lib.Dec.{eqb}
 use lib.ListN.{length}
-use Rattle.signed.specs.Choose.{if◌then◌else◌}
 use Rattle.json_text.specs.Bytes.{byte, next, space_at}
 use Rattle.json_text.specs.Words.{scalar_at}
 use Rattle.json_text.specs.declared.Read.{Read}

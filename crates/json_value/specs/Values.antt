@@ -1,6 +1,5 @@
 -- Values, RFC 8259, sections 2 to 5: the structural characters, arrays, objects, and the whole text.
-use Rattle.std.specs.Prelude.{ℕ, zero, suc, ◌+◌, List, length, eqb}
-use Rattle.signed.specs.Choose.{if◌then◌else◌}
+use Rattle.std.specs.Prelude.{if◌then◌else◌, ℕ, zero, suc, ◌+◌, List, length, eqb}
 use Rattle.json_text.specs.Bytes.{byte, next, space_at}
 use Rattle.json_text.specs.Strings.{string_at}
 use Rattle.json_text.specs.Words.{scalar_at}

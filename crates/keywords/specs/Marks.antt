@@ -1,6 +1,5 @@
 -- The words that mark an event: `freeBusyStatus` and `privacy`.
-use Rattle.std.specs.Prelude.{ℕ, List}
-use Rattle.signed.specs.Choose.{if◌then◌else◌}
+use Rattle.std.specs.Prelude.{if◌then◌else◌, ℕ, List}
 use Rattle.json_text.specs.Ascii.{ascii}
 use Rattle.json_walk.specs.Strings.{same}
 use Rattle.keywords.specs.declared.FreeBusy.{FreeBusy}

@@ -1,6 +1,5 @@
 -- 01, "Rules of recurrence": "`byMonth` `"1"` to `"12"` (one of these followed by `L`: 8; any other: 6)".
-use Rattle.std.specs.Prelude.{ℕ, ◌+◌, ◌-◌, List, eqb, leb, length, take}
-use Rattle.signed.specs.Choose.{if◌then◌else◌}
+use Rattle.std.specs.Prelude.{if◌then◌else◌, ℕ, ◌+◌, ◌-◌, List, eqb, leb, length, take}
 use Rattle.json_text.specs.Bytes.{byte, is_digit}
 use Rattle.digits.specs.Digits.{digit}
 use Rattle.keywords.specs.declared.Named.{Named}

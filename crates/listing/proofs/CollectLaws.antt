@@ -1,4 +1,5 @@
 -- Writing days into a list: those of hits, and those of a list from 0.
+use Rattle.std.specs.Prelude.{if◌then◌else◌}
 use Prim.Native.Nat.{ℕ, zero, suc, ◌+◌, ◌-◌, ◌<◌, ◌≤◌}
 use mathlib.Core.Bool.{Bool, true, false}
 use mathlib.Core.List.{List, [], ◌∷◌, ◌++◌, map, append_assoc, append-nil}
@@ -7,7 +8,6 @@ use native.Mathlib.Omega.{arith}
 use native.Mathlib.Numerals.{add-one}
 use lib.ListN.{length, take, get_or, set, length-set, length-map}
 use lib.Seq.{take-suc, take-suc-set, take-set-le, take-length, get_or-set_other}
-use Rattle.signed.specs.Choose.{if◌then◌else◌}
 use Rattle.window.specs.Inner.Lists.{list_in}
 use Rattle.window.proofs.ListLaws.{list-split}
 use Rattle.listing.specs.Inner.Lists.{hit_on, Collected, Copied}

@@ -1,6 +1,5 @@
 // Days that are written one after the other into a list.
-ghost use Rattle.std.specs.Prelude.{◌≡◌, ◌+◌, ◌<◌, ◌≤◌, length};
-ghost use Rattle.signed.specs.Choose.{if◌then◌else◌};
+ghost use Rattle.std.specs.Prelude.{if◌then◌else◌, ◌≡◌, ◌+◌, ◌<◌, ◌≤◌, length};
 ghost use Rattle.rule.specs.Gives.{end_day};
 ghost use Rattle.listing.specs.Inner.Lists.{Collected, Copied, Offsets};
 

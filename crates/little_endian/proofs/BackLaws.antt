@@ -1,4 +1,5 @@
 -- Bytes that were read are written again: the way back from a number to its bytes.
+use Rattle.std.specs.Prelude.{if◌then◌else◌}
 use Prim.Native.Nat.{ℕ, zero, suc, ◌+◌, ◌-◌, ◌*◌, ◌/◌, ◌%◌, ◌<◌, ◌≤◌, ◌^◌}
 use mathlib.Core.Bool.{Bool, true, false}
 use mathlib.Core.List.{List, [], ◌∷◌, ◌++◌}
@@ -10,7 +11,6 @@ use lib.Dec.{ltb}
 use lib.IntN.{pos, negsuc}
 use lib.ListN.{length, take, drop, length-drop}
 use lib.Seq.{take-add, drop-drop, get_or-drop, length-take-le}
-use Rattle.signed.specs.Choose.{if◌then◌else◌}
 use Rattle.little_endian.specs.Bytes.{bytes_of, twos, value_of, number_at, signed_of, AllBytes}
 
 -- ---- a run of bytes

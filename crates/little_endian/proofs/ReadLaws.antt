@@ -1,4 +1,5 @@
 -- Bytes that are read: a number by its lower and its higher bytes, and what the machine makes of a two's complement.
+use Rattle.std.specs.Prelude.{if◌then◌else◌}
 use Prim.Native.Nat.{ℕ, zero, suc, ◌+◌, ◌-◌, ◌*◌, ◌<◌, ◌≤◌, ◌^◌}
 use mathlib.Core.Bool.{Bool, true, false}
 use mathlib.Core.List.{List, [], ◌∷◌, ◌++◌}
@@ -13,7 +14,6 @@ use lib.Seq.{take-add, take-take, drop-drop, drop-cons, length-take-le}
 use mir.Syntax.{w64}
 use mir.Val.{SFits, to_z, of_z}
 use mir.Facts.{to_z-of_z, to_z_pos}
-use Rattle.signed.specs.Choose.{if◌then◌else◌}
 use Rattle.signed.proofs.Parts.{parts-eq, diff-parts}
 use Rattle.little_endian.specs.Bytes.{value_of, number_at, signed_of}
 

@@ -1,6 +1,5 @@
 -- Numbers as bytes (01, "The sheet and the words": "Little-endian.").
-use Rattle.std.specs.Prelude.{ℕ, zero, suc, ◌+◌, ◌*◌, ◌-◌, ◌/◌, ◌%◌, ◌<◌, ◌^◌, List, [], ◌∷◌, ltb, ℤ, pos, negsuc, get_or, take, drop}
-use Rattle.signed.specs.Choose.{if◌then◌else◌}
+use Rattle.std.specs.Prelude.{if◌then◌else◌, ℕ, zero, suc, ◌+◌, ◌*◌, ◌-◌, ◌/◌, ◌%◌, ◌<◌, ◌^◌, List, [], ◌∷◌, ltb, ℤ, pos, negsuc, get_or, take, drop}
 
 -- the n lowest bytes of v, the lowest first
 unfoldable pub bytes_of : ℕ → ℕ → List ℕ

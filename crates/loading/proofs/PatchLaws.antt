@@ -1,4 +1,5 @@
 -- The overrides of an event over their ids, marks and places: the details of an occurrence, and their range.
+use Rattle.std.specs.Prelude.{if◌then◌else◌}
 use Prim.Native.Nat.{ℕ, suc, ◌<◌, ◌≤◌, ◌^◌}
 use mathlib.Core.Bool.{Bool, true, false}
 use mathlib.Core.List.{List, [], ◌∷◌, map}
@@ -8,7 +9,6 @@ use native.Mathlib.Omega.{arith}
 use lib.Dec.{eqb}
 use lib.ListN.{length, get_or, take}
 use lib.Seq.{sets}
-use Rattle.signed.specs.Choose.{if◌then◌else◌}
 use Rattle.property.specs.Inner.From.{value_in}
 use Rattle.property.specs.declared.Place.{Place}
 use Rattle.property.specs.declared.Place.TheVariants as place

@@ -1,4 +1,5 @@
 -- The window of a call in seconds from 1600: it lies in the years 1601 to 9998, and so do the days that it asks for.
+use Rattle.std.specs.Prelude.{if◌then◌else◌}
 use Prim.Native.Nat.{ℕ, ◌+◌, ◌-◌, ◌*◌, ◌/◌, ◌%◌, ◌<◌, ◌≤◌}
 use mathlib.Core.Bool.{Bool, true, false}
 use mathlib.Core.Path.{◌≡◌, refl, sym, ap, ◌∙◌}
@@ -7,7 +8,6 @@ use borrow.Author.Tests.{ltb-true}
 use lib.Dec.{ltb}
 use lib.IntN.{ℤ, pos, neg_ℤ}
 use lib.Signed.{le_z}
-use Rattle.signed.specs.Choose.{if◌then◌else◌}
 use Rattle.signed.specs.Parts.{pos_part, neg_part}
 use Rattle.signed.proofs.Parts.{le_parts}
 use Rattle.gregorian.specs.Inner.Seconds.{InCalendar, moment_of}

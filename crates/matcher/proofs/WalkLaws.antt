@@ -1,4 +1,5 @@
 -- Laws of the walk from day to day.
+use Rattle.std.specs.Prelude.{if◌then◌else◌}
 use Prim.Native.Nat.{ℕ, zero, suc, ◌+◌, ◌-◌, ◌%◌, ◌<◌, ◌≤◌}
 use mathlib.Core.Bool.{Bool, true, false}
 use mathlib.Core.List.{List}
@@ -8,7 +9,6 @@ use native.Mathlib.Nat.{zero-mod, mod-zero}
 use native.Mathlib.Numerals.{add-one, sub-one}
 use lib.Dec.{eqb}
 use borrow.Author.Tests.{eq-eqb, ne_eqb}
-use Rattle.signed.specs.Choose.{if◌then◌else◌}
 use Rattle.gregorian.specs.Days.{day_count}
 use Rattle.rule.specs.declared.Day.{Day}
 use Rattle.rule.specs.Day.{on_date, day_at}

@@ -1,6 +1,5 @@
 // The days of a month that stay, and those of them that set positions choose, written into a row of answers.
-ghost use Rattle.std.specs.Prelude.{true, false, ◌≡◌, ◌+◌, ◌<◌, ◌≤◌, length};
-ghost use Rattle.signed.specs.Choose.{if◌then◌else◌};
+ghost use Rattle.std.specs.Prelude.{if◌then◌else◌, true, false, ◌≡◌, ◌+◌, ◌<◌, ◌≤◌, length};
 ghost use Rattle.rule.specs.Lists.{count_in};
 ghost use Rattle.matcher.specs.Inner.Flags.{Row, Places, named};
 ghost use Rattle.matcher.specs.Inner.Layout.{positions_at, positions_back};

@@ -1,4 +1,5 @@
 -- What 10 to 12 leave of the answer of a call: 13, by the table's length.
+use Rattle.std.specs.Prelude.{if◌then◌else◌}
 use Prim.Native.Nat.{ℕ}
 use mathlib.Core.Bool.{Bool, true, false, not, ◌&&◌}
 use mathlib.Core.List.{List}
@@ -11,7 +12,6 @@ use lib.ListN.{length}
 use mir.Syntax.{w64}
 use mir.Val.{SFits, to_z, of_z}
 use mir.Facts.{to_z-of_z}
-use Rattle.signed.specs.Choose.{if◌then◌else◌}
 use Rattle.zone.specs.Table.{valid_table}
 use Rattle.keywords.specs.declared.Privacy.{Privacy}
 use Rattle.call_definitions.specs.Window.{valid_window}

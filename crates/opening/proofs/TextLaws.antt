@@ -1,11 +1,11 @@
 -- The lowest of 1 to 9 that applies to a text, with its place: 1 to 4 as JSON come first, then 5 to 9 as an event; and what an opening says of it.
+use Rattle.std.specs.Prelude.{if◌then◌else◌}
 use Prim.Native.Nat.{ℕ}
 use mathlib.Core.Bool.{Bool, true, false}
 use mathlib.Core.List.{List}
 use mathlib.Core.Path.{◌≡◌, refl, sym, ap, subst}
 use lib.Dec.{eqb}
 use borrow.Author.Tests.{ne_eqb}
-use Rattle.signed.specs.Choose.{if◌then◌else◌}
 use Rattle.json_strict.specs.Answer.{answer_of}
 use Rattle.fault.specs.Fault.{is_wrong, first_number, first_place}
 use Rattle.fault.specs.declared.First.{First}

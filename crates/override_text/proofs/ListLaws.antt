@@ -1,4 +1,5 @@
 -- The overrides as lists: one turn of the loop that fills the slices, its end, and what stands at a place of the lists.
+use Rattle.std.specs.Prelude.{if◌then◌else◌}
 use Prim.Native.Nat.{ℕ, zero, suc, ◌+◌, ◌-◌, ◌<◌, ◌≤◌}
 use mathlib.Core.Bool.{Bool, true, false}
 use mathlib.Core.List.{List, [], ◌∷◌, map}
@@ -9,7 +10,6 @@ use native.Mathlib.Omega.{arith}
 use lib.Dec.{eqb}
 use lib.ListN.{length, get_or, set, take, length-set, length-map}
 use lib.Seq.{sets, take-nil}
-use Rattle.signed.specs.Choose.{if◌then◌else◌}
 use Rattle.json_text.specs.Bytes.{byte}
 use Rattle.json_walk.specs.Strings.{raw_at}
 use Rattle.json_walk.specs.Walk.{first_member_at, next_member_at, members_from, members_of}

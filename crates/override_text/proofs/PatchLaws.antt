@@ -1,11 +1,11 @@
 -- A patched property by its member.
+use Rattle.std.specs.Prelude.{if◌then◌else◌}
 use Prim.Native.Nat.{ℕ, zero, suc}
 use mathlib.Core.Bool.{Bool, true, false}
 use mathlib.Core.List.{List}
 use mathlib.Core.Option.{Option, none, some}
 use mathlib.Core.Path.{◌≡◌, sym, ap, ◌∙◌}
 use lib.Dec.{eqb}
-use Rattle.signed.specs.Choose.{if◌then◌else◌}
 use Rattle.json_text.specs.Bytes.{byte}
 use Rattle.json_tree.specs.Tree.{Json, Fields, place_of, tree_at, tree_by, scalar_tree}
 use Rattle.json_tree.proofs.Trees.{choose, always, place-tree, object-tree}

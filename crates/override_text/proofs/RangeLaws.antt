@@ -1,5 +1,6 @@
 -- What is known of overrides that have no fault: date-times of the years 1601 to 9998, lengths of at most 366 days. There are at most 256 of them
 -- (`event` proofs/Limits `read-most`).
+use Rattle.std.specs.Prelude.{if◌then◌else◌}
 use Prim.Native.Nat.{ℕ, zero, suc, ◌*◌, ◌≤◌, ◌<◌}
 use mathlib.Core.Bool.{Bool, true, false}
 use mathlib.Core.List.{List, [], map}
@@ -8,7 +9,6 @@ use mathlib.Core.Path.{◌≡◌, refl, ap, ◌∙◌}
 use native.Mathlib.Omega.{arith}
 use lib.ListN.{length, get_or, take, length-map}
 use lib.Seq.{sets, take_all}
-use Rattle.signed.specs.Choose.{if◌then◌else◌}
 use Rattle.json_tree.specs.Tree.{Json, Fields, no_field, field, place_of}
 use Rattle.event.specs.Types.{Length, Details, Override}
 use Rattle.event.specs.Values.{is_null, object}

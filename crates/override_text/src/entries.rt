@@ -1,6 +1,5 @@
 // The overrides one by one: their names are date-times, their values patches.
-ghost use Rattle.std.specs.Prelude.{ℕ, suc, [], ◌≡◌, ltb};
-ghost use Rattle.signed.specs.Choose.{if◌then◌else◌};
+ghost use Rattle.std.specs.Prelude.{if◌then◌else◌, ℕ, suc, [], ◌≡◌, ltb};
 ghost use Rattle.fault.specs.Fault.{faults_at, lower as fault_lower, first as fault_first};
 ghost use Rattle.json_walk.specs.Walk.{members_of};
 ghost use Rattle.json_ends.specs.Inner.Ends.{Ends};

@@ -1,6 +1,5 @@
 // The patch at a place, judged: the fault of it that decides. Its values do not matter here.
-ghost use Rattle.std.specs.Prelude.{ℕ, not, ◌&&◌, [], ◌≡◌};
-ghost use Rattle.signed.specs.Choose.{if◌then◌else◌};
+ghost use Rattle.std.specs.Prelude.{if◌then◌else◌, ℕ, not, ◌&&◌, [], ◌≡◌};
 ghost use Rattle.fault.specs.Fault.{faults_at, first as fault_first};
 ghost use Rattle.json_walk.specs.Walk.{members_of};
 ghost use Rattle.json_ends.specs.Inner.Ends.{Ends};

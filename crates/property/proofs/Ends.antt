@@ -1,4 +1,5 @@
 -- Where a string ends: after both its quotes, and within the text.
+use Rattle.std.specs.Prelude.{if◌then◌else◌}
 use Prim.Native.Nat.{ℕ, zero, suc, ◌+◌, ◌≤◌, ◌<◌}
 use mathlib.Core.Bool.{Bool, true, false}
 use mathlib.Core.List.{List}
@@ -8,7 +9,6 @@ use native.Mathlib.Decide.{dec_lt}
 use lib.Dec.{eqb, ltb}
 use lib.ListN.{length, get_or, get_or-eq_default}
 use borrow.Author.Tests.{eqb-true}
-use Rattle.signed.specs.Choose.{if◌then◌else◌}
 use Rattle.json_text.specs.Bytes.{byte, next}
 use Rattle.json_text.specs.Utf8.{is_tail, tails_at, second_at, multi_at}
 use Rattle.json_text.specs.Strings.{is_hex, hex_at, is_escaped, escape_at, char_at, chars_at, string_at}

@@ -1,4 +1,5 @@
 -- The ranges of what is read without a fault: date-times of the years 1601 to 9998 (`until`: to 9999), lengths of at most 366 days.
+use Rattle.std.specs.Prelude.{if◌then◌else◌}
 use Prim.Native.Nat.{ℕ, suc, ◌+◌, ◌-◌, ◌*◌, ◌≤◌, ◌<◌}
 use mathlib.Core.Bool.{Bool, true, false}
 use mathlib.Core.List.{List}
@@ -12,7 +13,6 @@ use Rattle.gregorian.proofs.DayLaws.{Parts, parts-of, day-above, day-below}
 use Rattle.gregorian.proofs.YearLaws.{first-suc, first-mono, first-cycle, first-zero}
 use Rattle.gregorian.specs.Days.{is_date, day_of}
 use Rattle.gregorian.specs.Year.{is_leap, year_length, leap_years, first_of_year}
-use Rattle.signed.specs.Choose.{if◌then◌else◌}
 use Rattle.json_text.specs.Bytes.{byte}
 use Rattle.json_tree.specs.Tree.{Json}
 use Rattle.digits.specs.Fraction.{legal_fraction}

@@ -1,4 +1,5 @@
 -- What is read of a string at a place is what is read of the tree's.
+use Rattle.std.specs.Prelude.{if◌then◌else◌}
 use Prim.Native.Nat.{ℕ, suc, ◌+◌}
 use mathlib.Core.Bool.{Bool, true, false}
 use mathlib.Core.List.{List, [], ◌∷◌}
@@ -9,7 +10,6 @@ use lib.Dec.{eqb, ltb}
 use lib.ListN.{length}
 use borrow.Author.Tests.{lt-ltb, eqb-true}
 use Rattle.json_text.specs.Bytes.{byte}
-use Rattle.signed.specs.Choose.{if◌then◌else◌}
 use Rattle.json_walk.specs.Strings.{slashed}
 use Rattle.json_tree.specs.Tree.{tree_at}
 use Rattle.event.specs.Properties.{filled, named}

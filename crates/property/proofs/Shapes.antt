@@ -1,11 +1,11 @@
 -- The tree's value at a place, by the kind that stands there. Where a kind is known, `shape-tree` and that fact compute the answer to every
 -- question that a property asks of a value: `is_null`, `boolean`, `string`, `integer`, `array`, `object`.
+use Rattle.std.specs.Prelude.{if◌then◌else◌}
 use Prim.Native.Nat.{ℕ, zero, suc, ◌+◌}
 use mathlib.Core.Bool.{Bool, true, false}
 use mathlib.Core.List.{List}
 use mathlib.Core.Option.{Option, none, some}
 use mathlib.Core.Path.{◌≡◌, refl}
-use Rattle.signed.specs.Choose.{if◌then◌else◌}
 use Rattle.json_walk.specs.Walk.{members_of, elements_of}
 use Rattle.json_tree.proofs.Trees.{choose}
 use Rattle.json_tree.specs.Integers.{integer_at}

@@ -1,4 +1,5 @@
 -- The number that is found for a name is that of the word that it is.
+use Rattle.std.specs.Prelude.{if◌then◌else◌}
 use Prim.Native.Nat.{ℕ, zero, suc, ◌+◌, ◌≤◌, ◌<◌}
 use mathlib.Core.Bool.{Bool, true, false}
 use mathlib.Core.List.{List}
@@ -8,7 +9,6 @@ use lib.Dec.{T, eqb, eqb→eq, ltb, leb→le}
 use lib.ListN.{length, get_or}
 use borrow.Author.Tests.{eq-eqb, eqb-true}
 use Rattle.gregorian.proofs.Computed.{all-below}
-use Rattle.signed.specs.Choose.{if◌then◌else◌}
 use Rattle.json_text.specs.Bytes.{byte}
 use Rattle.json_walk.proofs.Laws.{bytes-ahead, length-bytes, same-eq}
 use Rattle.json_walk.specs.Strings.{bytes_at, raw_at, same}

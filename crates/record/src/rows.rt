@@ -1,7 +1,6 @@
 // The records and the trailer of the table of occurrences, written into a lent buffer.
-ghost use Rattle.std.specs.Prelude.{◌≡◌, ◌+◌, ◌*◌, ◌≤◌, ◌<◌, ◌^◌, length};
+ghost use Rattle.std.specs.Prelude.{if◌then◌else◌, ◌≡◌, ◌+◌, ◌*◌, ◌≤◌, ◌<◌, ◌^◌, length};
 ghost use Rattle.std.proofs.lemmas.List.Edits.{sets};
-ghost use Rattle.signed.specs.Choose.{if◌then◌else◌};
 ghost use Rattle.sheet.specs.Writing.{row_bytes, trailer_bytes};
 ghost use Rattle.call_definitions.specs.Bytes.{written_version};
 ghost use Rattle.record.specs.Inner.Rows.{marks_for};

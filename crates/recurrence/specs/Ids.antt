@@ -1,6 +1,5 @@
 -- The ids of an event in a window, in order.
-use Rattle.std.specs.Prelude.{ℕ, zero, suc, ◌-◌, Bool, List, [], ◌∷◌}
-use Rattle.signed.specs.Choose.{if◌then◌else◌}
+use Rattle.std.specs.Prelude.{if◌then◌else◌, ℕ, zero, suc, ◌-◌, Bool, List, [], ◌∷◌}
 use Rattle.recurrence.specs.Event.{Event, in_set}
 
 -- The date-times from x on, n of them.

@@ -1,4 +1,5 @@
 -- One turn of the loops over spans, places and their sweep.
+use Rattle.std.specs.Prelude.{if◌then◌else◌}
 use Prim.Native.Nat.{ℕ, zero, suc, ◌+◌, ◌-◌, ◌<◌, ◌≤◌}
 use mathlib.Core.List.{List, [], ◌∷◌, ◌++◌, append-nil}
 use mathlib.Core.Bool.{Bool, true, false}
@@ -9,7 +10,6 @@ use lib.Dec.{ltb}
 use lib.IntN.{ℤ, pos, negsuc}
 use lib.ListN.{length, get_or, set, take, drop, drop_of_length-le}
 use lib.Seq.{take-suc-set, drop-set-lt, drop-cons, append_snoc, take_all}
-use Rattle.signed.specs.Choose.{if◌then◌else◌}
 use Rattle.signed.specs.Parts.{pos_part}
 use Rattle.sheet.specs.Runs.{tabulate}
 use Rattle.weeks.specs.Inner.Marks.{Span, raise, raise_all, larger, sweep}

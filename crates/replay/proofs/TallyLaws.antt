@@ -1,4 +1,5 @@
 -- One turn of the loop that counts places, and the class of a place.
+use Rattle.std.specs.Prelude.{if◌then◌else◌}
 use Prim.Native.Nat.{ℕ, zero, suc, ◌+◌, ◌-◌, ◌<◌, ◌≤◌}
 use mathlib.Core.List.{List}
 use mathlib.Core.Bool.{Bool, true, false}
@@ -14,7 +15,6 @@ use borrow.Author.Tests.{ltb-true, ltb-false}
 use Rattle.signed.proofs.Parts.{true-false, false-true}
 use lib.ListN.{length, get_or, drop, drop_of_length-le}
 use lib.Seq.{drop-cons}
-use Rattle.signed.specs.Choose.{if◌then◌else◌}
 use Rattle.weeks.specs.Inner.Places.{class_of}
 use Rattle.weeks.specs.Weeks.{count}
 

@@ -1,6 +1,5 @@
 // From the first week on: how far the spans that have begun reach, and so which weeks are shut.
-ghost use Rattle.std.specs.Prelude.{◌≡◌, ltb, negsuc};
-ghost use Rattle.signed.specs.Choose.{if◌then◌else◌};
+ghost use Rattle.std.specs.Prelude.{if◌then◌else◌, ◌≡◌, ltb, negsuc};
 ghost use Rattle.weeks.specs.Inner.Marks.{sweep as marks_sweep};
 
 use crate::spans::larger;

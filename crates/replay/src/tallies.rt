@@ -1,6 +1,5 @@
 // The number of weeks of each class, counted in the places.
-ghost use Rattle.std.specs.Prelude.{◌≡◌, eqb};
-ghost use Rattle.signed.specs.Choose.{if◌then◌else◌};
+ghost use Rattle.std.specs.Prelude.{if◌then◌else◌, ◌≡◌, eqb};
 ghost use Rattle.weeks.specs.Weeks.{count};
 ghost use Rattle.weeks.specs.Inner.Places.{class_of, in_class};
 

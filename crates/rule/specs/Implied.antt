@@ -1,7 +1,6 @@
 -- 01, 3: values of the start that are added before a rule is read, as by-lists.
-use Rattle.std.specs.Prelude.{ℕ, Bool, not, ◌&&◌, ◌||◌, List, [], ◌∷◌, ℤ, pos}
+use Rattle.std.specs.Prelude.{if◌then◌else◌, ℕ, Bool, not, ◌&&◌, ◌||◌, List, [], ◌∷◌, ℤ, pos}
 use Rattle.std.proofs.Math.Option.{none}
-use Rattle.signed.specs.Choose.{if◌then◌else◌}
 use Rattle.rule.specs.declared.Frequency.{Frequency}
 use Rattle.rule.specs.declared.Frequency.TheVariants.{Daily, Weekly, Monthly, Yearly}
 use Rattle.rule.specs.declared.Day.{Day}

@@ -1,7 +1,6 @@
 -- Lists and counts that the rules speak of.
-use Rattle.std.specs.Prelude.{ℕ, zero, suc, ◌+◌, Bool, true, false, ◌||◌, List, [], ◌∷◌, leb, ltb}
+use Rattle.std.specs.Prelude.{if◌then◌else◌, ℕ, zero, suc, ◌+◌, Bool, true, false, ◌||◌, List, [], ◌∷◌, leb, ltb}
 use Rattle.std.proofs.Math.Option.{Option, none, some}
-use Rattle.signed.specs.Choose.{if◌then◌else◌}
 
 -- Some entry of the list passes.
 unfoldable pub any : {A : Type 0} → (A → Bool) → List A → Bool

@@ -1,4 +1,5 @@
 -- A list that has no fault fits the array of 64 entries, and is its beginning.
+use Rattle.std.specs.Prelude.{if◌then◌else◌}
 use Prim.Native.Nat.{ℕ, ◌+◌, ◌≤◌}
 use mathlib.Core.Bool.{Bool, true, false}
 use mathlib.Core.List.{List, [], ◌∷◌, map}
@@ -10,7 +11,6 @@ use lib.IntN.{ℤ}
 use lib.ListN.{length, take, drop, length-map}
 use lib.Seq.{sets, sets-eq, take-append_seam}
 use borrow.Author.Tests.{ltb-false}
-use Rattle.signed.specs.Choose.{if◌then◌else◌}
 use Rattle.fault.specs.Fault.{faults_at}
 use Rattle.fault.specs.declared.First.{First}
 use Rattle.fault.proofs.Laws.{append-none, first-none, fault-some}

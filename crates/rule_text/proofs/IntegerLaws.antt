@@ -1,4 +1,5 @@
 -- An integer of the tree is the one that is read at its place, whatever stands there.
+use Rattle.std.specs.Prelude.{if◌then◌else◌}
 use Prim.Native.Nat.{ℕ, zero, suc, ◌≤◌}
 use mathlib.Core.Bool.{Bool, true, false, ◌&&◌}
 use mathlib.Core.List.{List}
@@ -8,7 +9,6 @@ use native.Mathlib.Omega.{arith}
 use lib.Dec.{eqb, ltb, leb}
 use lib.IntN.{ℤ, pos, negsuc, nat_abs, sub_ℕ}
 use borrow.Author.Tests.{eqb-true, ne_eqb, le-leb, lt-leb, leb-true, lt-ltb, ltb-true, ltb-false}
-use Rattle.signed.specs.Choose.{if◌then◌else◌}
 use Rattle.signed.proofs.Parts.{parts-eq, subℕ-parts, subℕ-pos, subℕ-neg}
 use Rattle.rule.specs.Inner.Read.{nth_from}
 use Rattle.json_text.specs.Bytes.{byte, is_digit}

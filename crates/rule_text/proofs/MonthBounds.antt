@@ -1,4 +1,5 @@
 -- A month that was read without a fault is one of the twelve.
+use Rattle.std.specs.Prelude.{if◌then◌else◌}
 use Prim.Native.Nat.{ℕ, ◌-◌, ◌≤◌, ◌<◌}
 use mathlib.Core.Bool.{Bool, true, false}
 use mathlib.Core.List.{List}
@@ -7,7 +8,6 @@ use native.Mathlib.Omega.{arith}
 use lib.Dec.{eqb, ltb, leb}
 use lib.ListN.{length, take}
 use borrow.Author.Tests.{leb-true}
-use Rattle.signed.specs.Choose.{if◌then◌else◌}
 use Rattle.json_text.specs.Bytes.{byte, is_digit}
 use Rattle.digits.specs.Digits.{digit}
 use Rattle.keywords.specs.declared.Named.{Named}

@@ -1,4 +1,5 @@
 -- A rule from its parts.
+use Rattle.std.specs.Prelude.{if◌then◌else◌}
 use Prim.Native.Nat.{ℕ, suc, ◌<◌}
 use mathlib.Core.Bool.{Bool, true, false}
 use mathlib.Core.List.{List, []}
@@ -7,7 +8,6 @@ use mathlib.Core.Path.{◌≡◌, refl, sym, ap₂, ◌∙◌}
 use native.Mathlib.Omega.{arith}
 use lib.Dec.{eqb}
 use lib.IntN.{ℤ}
-use Rattle.signed.specs.Choose.{if◌then◌else◌}
 use Rattle.fault.specs.Fault.{faults_at, first}
 use Rattle.fault.specs.declared.First.{First}
 use Rattle.fault.specs.declared.First.TheVariants.{None, At}

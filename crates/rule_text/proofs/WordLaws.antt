@@ -1,10 +1,10 @@
 -- Words: what holds of every reading of one, and the types.
+use Rattle.std.specs.Prelude.{if◌then◌else◌}
 use Prim.Native.Nat.{ℕ}
 use mathlib.Core.Bool.{Bool, true, false}
 use mathlib.Core.List.{List}
 use mathlib.Core.Option.{Option, none, some}
 use mathlib.Core.Path.{◌≡◌}
-use Rattle.signed.specs.Choose.{if◌then◌else◌}
 use Rattle.json_walk.specs.Strings.{same, slashed}
 use Rattle.json_walk.proofs.Laws.{same-eq}
 use Rattle.json_tree.specs.Tree.{Json}

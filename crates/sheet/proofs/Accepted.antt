@@ -1,4 +1,5 @@
 -- What a sheet that the reader accepts is, and that such a sheet is accepted.
+use Rattle.std.specs.Prelude.{if◌then◌else◌}
 use Prim.Native.Nat.{ℕ, ◌+◌, ◌*◌, ◌-◌, ◌<◌, ◌≤◌}
 use mathlib.Core.Bool.{Bool, true, false, not, ◌&&◌}
 use mathlib.Core.List.{List}
@@ -7,7 +8,6 @@ use native.Mathlib.Omega.{arith}
 use lib.Dec.{ltb, eqb}
 use lib.ListN.{length}
 use borrow.Author.Tests.{ltb-false, le-ltb, eqb-true, eq-eqb}
-use Rattle.signed.specs.Choose.{if◌then◌else◌}
 use Rattle.rule.proofs.Bools.{left, right}
 use Rattle.sheet.specs.Runs.{every}
 use Rattle.sheet.specs.Reading.{before, size_of, version_of, count_of, distance_of, known, most_marks, rises_at, marked_at, clear_at, fault_in_rows, fault_of}

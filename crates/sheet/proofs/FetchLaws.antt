@@ -1,4 +1,5 @@
 -- The reader's calls: what each hands back where it is refused, and where it is not.
+use Rattle.std.specs.Prelude.{if◌then◌else◌}
 use Prim.Native.Nat.{ℕ, ◌+◌, ◌*◌, ◌-◌, ◌<◌, ◌≤◌, min}
 use mathlib.Core.Bool.{true}
 use mathlib.Core.List.{List, ◌++◌, map}
@@ -9,7 +10,6 @@ use lib.Dec.{leb, eqb}
 use lib.IntN.{ℤ, pos}
 use lib.ListN.{length, take, drop}
 use borrow.Author.Tests.{eqb-true, eqb-false, leb-false, eq-eqb, ne_eqb}
-use Rattle.signed.specs.Choose.{if◌then◌else◌}
 use Rattle.rule.proofs.Bools.{by}
 use Rattle.sheet.specs.Runs.{tabulate}
 use Rattle.sheet.specs.Records.{Row, id_at, start_at, end_at, marks_at, row_at}

@@ -1,6 +1,5 @@
 -- 02, request 3: what the reader's calls hand back. "We want a reader that starts from the trailer and hands out record by number."
-use Rattle.std.specs.Prelude.{ℕ, not, List, ◌++◌, map, ◌≡◌, leb, eqb, ℤ, pos, length, take, drop}
-use Rattle.signed.specs.Choose.{if◌then◌else◌}
+use Rattle.std.specs.Prelude.{if◌then◌else◌, ℕ, not, List, ◌++◌, map, ◌≡◌, leb, eqb, ℤ, pos, length, take, drop}
 use Rattle.sheet.specs.Records.{Row, row_at}
 use Rattle.sheet.specs.Reading.{version_of, count_of, rows_of, fault_of}
 

@@ -1,8 +1,7 @@
 -- 02, request 3: "We want a reader that starts from the trailer and hands out record by number." Request 1 refuses what this reader refuses: "bytes
 -- that break document 01's layout, ids and marks included".
-use Rattle.std.specs.Prelude.{ℕ, suc, ◌+◌, ◌*◌, ◌-◌, Bool, not, ◌&&◌, List, ltb, leb, eqb, length}
+use Rattle.std.specs.Prelude.{if◌then◌else◌, ℕ, suc, ◌+◌, ◌*◌, ◌-◌, Bool, not, ◌&&◌, List, ltb, leb, eqb, length}
 use Rattle.std.specs.Int.Signed.{lt_z}
-use Rattle.signed.specs.Choose.{if◌then◌else◌}
 use Rattle.little_endian.specs.Bytes.{number_at}
 use Rattle.sheet.specs.Runs.{tabulate, every}
 use Rattle.sheet.specs.Records.{Row, id_at, marks_at, zeros_at, row_at}

@@ -1,4 +1,5 @@
 -- A signed place by the parts of its number.
+use Rattle.std.specs.Prelude.{if◌then◌else◌}
 use Prim.Native.Nat.{ℕ, suc, ◌+◌, ◌-◌, ◌<◌, ◌≤◌}
 use mathlib.Core.Path.{◌≡◌, refl, sym}
 use native.Mathlib.Omega.{arith}
@@ -6,7 +7,6 @@ use lib.IntN.{ℤ, pos, negsuc}
 use mathlib.Core.Bool.{Bool, true, false}
 use lib.Dec.{leb}
 use borrow.Author.Tests.{le-leb, lt-leb, leb-true}
-use Rattle.signed.specs.Choose.{if◌then◌else◌}
 use Rattle.signed.specs.Parts.{pos_part, neg_part}
 use Rattle.signed.specs.Place.{place_of}
 

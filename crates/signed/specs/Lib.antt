@@ -1,3 +1,2 @@
-pub mod Choose
 pub mod Parts
 pub mod Place

@@ -1,4 +1,5 @@
 -- Listed days are handed over as ids: the listing may stop at any day.
+use Rattle.std.specs.Prelude.{if◌then◌else◌}
 use Prim.Native.Nat.{ℕ, zero, suc, ◌+◌, ◌-◌, ◌*◌, ◌/◌, ◌%◌, ◌<◌, ◌≤◌}
 use mathlib.Core.Bool.{Bool, false}
 use mathlib.Core.List.{List, [], ◌∷◌, ◌++◌, map}
@@ -9,7 +10,6 @@ use lib.Dec.{eqb, ltb}
 use lib.ListN.{length, take, get_or, set, replicate, length-set, length-map, length-replicate}
 use lib.Seq.{take-take, take-suc, take-suc-set, take-length, length-take-le}
 use borrow.Author.Tests.{ltb-true, ltb-false, lt-ltb, le-ltb}
-use Rattle.signed.specs.Choose.{if◌then◌else◌}
 use Rattle.rule.specs.Gives.{end_day, on_day}
 use Rattle.rule.proofs.Bools.{by}
 use Rattle.matcher.specs.Inner.Layout.{row_size, list_size}

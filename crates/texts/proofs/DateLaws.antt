@@ -1,4 +1,5 @@
 -- What is shown for a date, by whether it is an occurrence and who may see the event.
+use Rattle.std.specs.Prelude.{if◌then◌else◌}
 use Prim.Native.Nat.{ℕ, ◌+◌, ◌-◌, ◌<◌}
 use mathlib.Core.Bool.{Bool, true, false, false≢true}
 use mathlib.Core.Option.{Option, none, some}
@@ -12,7 +13,6 @@ use mir.Val.{SFits, to_z, of_z}
 use mir.Facts.{to_z-of_z}
 use Rattle.signed.specs.Parts.{pos_part, neg_part}
 use Rattle.signed.proofs.Parts.{parts-le}
-use Rattle.signed.specs.Choose.{if◌then◌else◌}
 use Rattle.keywords.specs.declared.Privacy.{Privacy}
 use Rattle.keywords.specs.declared.Privacy.TheVariants.{Public, Private, Secret}
 use Rattle.event.specs.Types.{Text, Details, Event}

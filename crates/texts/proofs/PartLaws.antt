@@ -1,4 +1,5 @@
 -- The place of a text by how many bytes it has.
+use Rattle.std.specs.Prelude.{if◌then◌else◌}
 use Prim.Native.Nat.{ℕ, zero, suc, ◌+◌, ◌-◌, ◌≤◌}
 use mathlib.Core.Bool.{Bool, true, false}
 use mathlib.Core.List.{List, []}
@@ -6,7 +7,6 @@ use mathlib.Core.Path.{◌≡◌, refl, ap, sym, subst, ◌∙◌}
 use native.Mathlib.Omega.{arith}
 use lib.ListN.{length}
 use borrow.Author.Tests.{ne_eqb}
-use Rattle.signed.specs.Choose.{if◌then◌else◌}
 use Rattle.json_walk.specs.Strings.{bytes_at, raw_at}
 use Rattle.call_definitions.specs.Call.{Shown, no_place, place_from}
 use Rattle.texts.specs.Inner.Shown.{spanned, Placed}

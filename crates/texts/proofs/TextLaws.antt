@@ -1,9 +1,9 @@
 -- The title or the description of details, by the places of both.
+use Rattle.std.specs.Prelude.{if◌then◌else◌}
 use Prim.Native.Nat.{ℕ}
 use mathlib.Core.Bool.{Bool, true, false}
 use mathlib.Core.List.{List}
 use mathlib.Core.Path.{◌≡◌, ap, ◌∙◌}
-use Rattle.signed.specs.Choose.{if◌then◌else◌}
 use Rattle.event.specs.Types.{Details, Override}
 use Rattle.property.specs.Inner.From.{text_in}
 use Rattle.property.specs.declared.Place.{Place}

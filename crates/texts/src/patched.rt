@@ -1,7 +1,6 @@
 // The title or the description of one occurrence, by the place of its opening quote.
-ghost use Rattle.std.specs.Prelude.{◌≡◌, length};
+ghost use Rattle.std.specs.Prelude.{if◌then◌else◌, ◌≡◌, length};
 ghost use Rattle.json_ends.specs.Inner.Ends.{Ends};
-ghost use Rattle.signed.specs.Choose.{if◌then◌else◌};
 ghost use Rattle.property.specs.Inner.From.{text_in};
 ghost use Rattle.override_text.specs.Inner.Meaning.{details_in};
 ghost use Rattle.writer.specs.Inner.Details.{patch_details, details_by};

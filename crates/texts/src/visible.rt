@@ -1,6 +1,5 @@
 // Who may see a text.
-ghost use Rattle.std.specs.Prelude.{◌≡◌};
-ghost use Rattle.signed.specs.Choose.{if◌then◌else◌};
+ghost use Rattle.std.specs.Prelude.{if◌then◌else◌, ◌≡◌};
 ghost use Rattle.call_definitions.specs.Call.{no_place};
 ghost use Rattle.texts.specs.Inner.Shown.{part_shown};
 

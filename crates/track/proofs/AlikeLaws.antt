@@ -1,4 +1,5 @@
 -- What a rule has of a month that is set and in step depends only on the month's kind.
+use Rattle.std.specs.Prelude.{if◌then◌else◌}
 use Prim.Native.Nat.{ℕ, zero, suc, ◌+◌, ◌-◌, ◌%◌, ◌<◌, ◌≤◌}
 use mathlib.Core.Bool.{Bool, true, false, false≢true}
 use mathlib.Core.List.{List}
@@ -8,7 +9,6 @@ use lib.Dec.{T, leb, ltb, eqb, leb→le}
 use lib.ListN.{length, get_or, set}
 use lib.Seq.{set-get_or}
 use borrow.Author.Tests.{ltb-true, ltb-false, eqb-true, eqb-false}
-use Rattle.signed.specs.Choose.{if◌then◌else◌}
 use Rattle.gregorian.specs.Year.{is_leap}
 use Rattle.gregorian.specs.Month.{month_length, length_in}
 use Rattle.gregorian.specs.Days.{day_count}

@@ -1,4 +1,5 @@
 -- Runs of days: marking one day after another, and the answers of tests.
+use Rattle.std.specs.Prelude.{if◌then◌else◌}
 use Prim.Native.Nat.{ℕ, zero, suc, ◌+◌, ◌-◌, ◌<◌, ◌≤◌}
 use mathlib.Core.Bool.{Bool, true, false, ◌||◌}
 use mathlib.Core.List.{List, [], ◌∷◌, ◌++◌, append_assoc, append-nil}
@@ -7,7 +8,6 @@ use native.Mathlib.Omega.{arith}
 use native.Mathlib.Numerals.{add-one}
 use lib.ListN.{length, take, drop, get_or, set, length-set}
 use lib.Seq.{drop-cons, take-suc, take-suc-set, drop-set-lt, append_snoc, take_all, drop-length}
-use Rattle.signed.specs.Choose.{if◌then◌else◌}
 use Rattle.track.specs.Inner.Runs.{marked, run}
 
 -- ---- the loop that marks: what is marked, and what is left to mark, make the whole

@@ -1,4 +1,5 @@
 -- Days that are passed at once: what their month and their period are, and that the rule has none of them.
+use Rattle.std.specs.Prelude.{if◌then◌else◌}
 use Prim.Native.Nat.{ℕ, zero, suc, ◌+◌, ◌-◌, ◌*◌, ◌%◌, ◌^◌, ◌<◌, ◌≤◌}
 use mathlib.Core.Bool.{Bool, true, false}
 use mathlib.Core.List.{List}
@@ -8,7 +9,6 @@ use native.Mathlib.Nat.{mod-add-mod, mod-eq_of_lt, mod-lt}
 use lib.Dec.{ltb}
 use lib.ListN.{get_or}
 use borrow.Author.Tests.{ltb-true, ltb-false, ne_eqb}
-use Rattle.signed.specs.Choose.{if◌then◌else◌}
 use Rattle.gregorian.specs.Days.{day_count, date_of}
 use Rattle.gregorian.specs.Month.{month_start}
 use Rattle.gregorian.proofs.MonthLaws.{month-next, month-mono, year-is-months}

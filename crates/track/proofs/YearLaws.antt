@@ -1,4 +1,5 @@
 -- Years of one kind have as many of a rule's days, and what is kept of them is right.
+use Rattle.std.specs.Prelude.{if◌then◌else◌}
 use Prim.Native.Nat.{ℕ, zero, suc, ◌+◌, ◌-◌, ◌*◌, ◌/◌, ◌%◌, ◌<◌, ◌≤◌}
 use mathlib.Core.Bool.{Bool, true, false, false≢true}
 use mathlib.Core.List.{List}
@@ -10,7 +11,6 @@ use lib.Dec.{eqb, ltb}
 use lib.ListN.{length, get_or, set, replicate, length-set, length-replicate, get_or-replicate, get_or-eq_default}
 use lib.Seq.{get_or-set_same, get_or-set_other}
 use borrow.Author.Tests.{eqb-true, eqb-false, ltb-true, ltb-false, leb-true, ne_eqb}
-use Rattle.signed.specs.Choose.{if◌then◌else◌}
 use Rattle.gregorian.specs.Days.{day_count}
 use Rattle.gregorian.specs.Year.{first_of_year, year_length}
 use Rattle.gregorian.proofs.YearLaws.{first-mono, year-least}

@@ -1,6 +1,5 @@
 // The days of a rule in a month, from the row that is kept for its kind.
-ghost use Rattle.std.specs.Prelude.{true, false, ◌≡◌, ◌+◌, ◌≤◌, length};
-ghost use Rattle.signed.specs.Choose.{if◌then◌else◌};
+ghost use Rattle.std.specs.Prelude.{if◌then◌else◌, true, false, ◌≡◌, ◌+◌, ◌≤◌, length};
 ghost use Rattle.rule.specs.declared.Frequency.TheVariants.{Monthly};
 ghost use Rattle.rule.specs.Inner.Bounds.{InCalendar};
 ghost use Rattle.matcher.specs.Inner.Layout.{row_size};

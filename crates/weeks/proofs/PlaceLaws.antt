@@ -1,4 +1,5 @@
 -- The code's way gives the places of request 1, and their tallies.
+use Rattle.std.specs.Prelude.{if◌then◌else◌}
 use Prim.Native.Nat.{ℕ, zero, suc, ◌<◌}
 use mathlib.Core.Bool.{Bool, true, false, not, ◌&&◌}
 use mathlib.Core.List.{List, [], ◌∷◌, map}
@@ -10,7 +11,6 @@ use lib.IntN.{ℤ, pos, negsuc}
 use mir.Syntax.{w64}
 use mir.Val.{SFits}
 use borrow.Author.Tests.{lt-ltb}
-use Rattle.signed.specs.Choose.{if◌then◌else◌}
 use Rattle.little_endian.proofs.ReadLaws.{signed-fits}
 use Rattle.rule.specs.Lists.{any, count_in}
 use Rattle.rule.proofs.Counting.{count_same}

@@ -1,7 +1,6 @@
 -- The call of request 1: its number, its tallies, and what it leaves in the lent places.
-use Rattle.std.specs.Prelude.{ℕ, Bool, true, not, ◌&&◌, List, [], ◌∷◌, ◌++◌, ◌≡◌, leb, eqb, ℤ, length, drop}
+use Rattle.std.specs.Prelude.{if◌then◌else◌, ℕ, Bool, true, not, ◌&&◌, List, [], ◌∷◌, ◌++◌, ◌≡◌, leb, eqb, ℤ, length, drop}
 use Rattle.std.specs.Int.Signed.{le_z}
-use Rattle.signed.specs.Choose.{if◌then◌else◌}
 use Rattle.rule.specs.Lists.{count_in}
 use Rattle.sheet.specs.Runs.{tabulate}
 use Rattle.sheet.specs.Records.{Row}

@@ -1,4 +1,5 @@
 -- Ids handed over in a lent slice: the loop that collects them, and what is known of what was handed over.
+use Rattle.std.specs.Prelude.{if◌then◌else◌}
 use Prim.Native.Nat.{ℕ, suc, ◌+◌, ◌-◌, ◌<◌, ◌≤◌}
 use mathlib.Core.Bool.{Bool, true, false}
 use mathlib.Core.List.{List, [], ◌∷◌, ◌++◌}
@@ -8,7 +9,6 @@ use lib.Dec.{eqb}
 use lib.ListN.{length, take, set, get_or, length-set}
 use lib.Seq.{take-suc-set, length-take-le}
 use borrow.Author.Tests.{eq-eqb, ne_eqb}
-use Rattle.signed.specs.Choose.{if◌then◌else◌}
 use Rattle.window.specs.Inner.Lists.{list_in}
 use Rattle.window.specs.Inner.Handed.{Handed}
 use Rattle.window.proofs.NextLaws.{Next}

@@ -1,11 +1,11 @@
 -- The next second that passes: it is at hand by what it is, and two tests have their next where the nearer has its own.
+use Rattle.std.specs.Prelude.{if◌then◌else◌}
 use Prim.Native.Nat.{ℕ, ◌-◌, ◌<◌, ◌≤◌}
 use mathlib.Core.Bool.{Bool, true, false, false≢true, ◌||◌}
 use mathlib.Core.Path.{◌≡◌, refl, sym, ◌∙◌}
 use native.Mathlib.Omega.{arith}
 use lib.Dec.{ltb}
 use borrow.Author.Tests.{ltb-true, ltb-false}
-use Rattle.signed.specs.Choose.{if◌then◌else◌}
 use Rattle.rule.proofs.Bools.{by, or_left, or_right}
 use Rattle.window.proofs.FirstLaws.{first-is}
 use Rattle.window.specs.Inner.Next.{next_of, lower}

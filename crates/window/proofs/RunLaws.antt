@@ -1,4 +1,5 @@
 -- A run that is filled, and the overrides: together they have the set.
+use Rattle.std.specs.Prelude.{if◌then◌else◌}
 use Prim.Native.Nat.{ℕ, ◌+◌, ◌-◌, ◌*◌, ◌/◌, ◌%◌, ◌<◌, ◌≤◌}
 use mathlib.Core.Bool.{Bool, true, false, ◌||◌}
 use mathlib.Core.List.{List}
@@ -7,7 +8,6 @@ use native.Mathlib.Omega.{arith}
 use lib.Dec.{eqb, ltb}
 use lib.ListN.{get_or}
 use borrow.Author.Tests.{ltb-false, eqb-true}
-use Rattle.signed.specs.Choose.{if◌then◌else◌}
 use Rattle.rule.specs.Gives.{on_day}
 use Rattle.rule.proofs.Bools.{by}
 use Rattle.track.specs.Inner.Runs.{run}

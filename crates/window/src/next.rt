@@ -1,6 +1,5 @@
 // The next date-time of the set within a run of days that is filled.
-ghost use Rattle.std.specs.Prelude.{false, ◌≡◌, ◌+◌, ◌-◌, ◌≤◌, length};
-ghost use Rattle.signed.specs.Choose.{if◌then◌else◌};
+ghost use Rattle.std.specs.Prelude.{if◌then◌else◌, false, ◌≡◌, ◌+◌, ◌-◌, ◌≤◌, length};
 ghost use Rattle.dates.specs.Inner.Overrides.{is_named, is_kept};
 ghost use Rattle.window.specs.Inner.Sorted.{Ordered};
 ghost use Rattle.window.specs.Inner.Next.{first_from, none_in, next_of, at_hit, TrueAt, is_hit, day_from, nearer, least_of, lower, renewed, Stretch};

@@ -1,4 +1,5 @@
 -- Request 5 of 02: the statement (specs/Halving) holds of the search.
+use Rattle.std.specs.Prelude.{if◌then◌else◌}
 use Prim.Native.Nat.{ℕ, zero, suc}
 use mathlib.Core.Bool.{Bool, true, false}
 use mathlib.Core.List.{List, [], ◌∷◌}
@@ -7,7 +8,6 @@ use native.Mathlib.Omega.{arith}
 use lib.Dec.{ltb}
 use lib.IntN.{ℤ}
 use lib.ListN.{length}
-use Rattle.signed.specs.Choose.{if◌then◌else◌}
 use Rattle.zone.specs.declared.search.Found.{Found}
 use Rattle.zone.specs.Table.{valid_table}
 use Rattle.zone.specs.Places.{mark_at}

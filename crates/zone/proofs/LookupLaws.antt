@@ -1,4 +1,5 @@
 -- The look-up in a valid table finds the first mark beyond the local time by halving; the offset it gives is one of the table's.
+use Rattle.std.specs.Prelude.{if◌then◌else◌}
 use Prim.Native.Nat.{ℕ, zero, suc, ◌+◌, ◌-◌, ◌<◌, ◌≤◌}
 use mathlib.Core.Bool.{Bool, true, false}
 use mathlib.Core.List.{List, [], ◌∷◌, map}
@@ -10,7 +11,6 @@ use borrow.Author.Tests.{ltb-true, ltb-false}
 use lib.IntN.{ℤ, pos, nat_abs}
 use lib.ListN.{length, get_or, drop, drop_of_length-le}
 use lib.Signed.{le_z, lt_z}
-use Rattle.signed.specs.Choose.{if◌then◌else◌}
 use Rattle.zone.specs.Table.{Transition, transitions, mark, within, all_within, increasing, valid_table}
 use Rattle.zone.specs.Places.{mark_at}
 use Rattle.zone.specs.Lookup.{last_after, offset_at, utc_at}

@@ -1,4 +1,5 @@
 -- The search over the marks: a step leaves at most half the run, so that n steps end in any run shorter than 2^n.
+use Rattle.std.specs.Prelude.{if◌then◌else◌}
 use Prim.Native.Nat.{ℕ, zero, suc, ◌+◌, ◌-◌, ◌*◌, ◌<◌, ◌≤◌, ◌^◌}
 use mathlib.Core.Bool.{Bool, true, false}
 use mathlib.Core.List.{List}
@@ -10,7 +11,6 @@ use borrow.Author.Tests.{ltb-true, ltb-false, lt-ltb, le-ltb}
 use lib.IntN.{ℤ}
 use lib.ListN.{length}
 use lib.Signed.{lt_z}
-use Rattle.signed.specs.Choose.{if◌then◌else◌}
 use Rattle.zone.specs.declared.search.Span.{Span}
 use Rattle.zone.specs.declared.search.Found.{Found}
 use Rattle.zone.specs.Table.{valid_table}

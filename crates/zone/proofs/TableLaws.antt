@@ -1,4 +1,5 @@
 -- The transitions of a table by their places, and what a valid table gives.
+use Rattle.std.specs.Prelude.{if◌then◌else◌}
 use Prim.Native.Nat.{ℕ, zero, suc, ◌<◌, ◌≤◌}
 use mathlib.Core.Bool.{Bool, true, false, ◌&&◌}
 use mathlib.Core.List.{List, [], ◌∷◌, map}
@@ -8,7 +9,6 @@ use borrow.Author.Tests.{leb-true, eqb-true}
 use lib.IntN.{ℤ, pos, nat_abs}
 use lib.ListN.{length, get_or, drop}
 use lib.Signed.{le_z}
-use Rattle.signed.specs.Choose.{if◌then◌else◌}
 use Rattle.zone.specs.Table.{Transition, transitions, larger, mark, within, all_within, increasing, valid_table}
 use Rattle.zone.specs.Places.{InRange, mark_at}
 use Rattle.zone.proofs.RangeLaws.{and_left, and_right, range-abs, range_at}

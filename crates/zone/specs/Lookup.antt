@@ -1,7 +1,6 @@
 -- The offset of a local time, and UTC (01, "Zone table and UTC").
-use Rattle.std.specs.Prelude.{List, [], ◌∷◌, ℤ, ◌-ℤ◌}
+use Rattle.std.specs.Prelude.{if◌then◌else◌, List, [], ◌∷◌, ℤ, ◌-ℤ◌}
 use Rattle.std.specs.Int.Signed.{le_z}
-use Rattle.signed.specs.Choose.{if◌then◌else◌}
 use Rattle.zone.specs.Table.{Transition, transitions, mark}
 
 -- "that after the last transition whose mark is at or before it, else the initial one": all transitions in order, each whose mark is at or

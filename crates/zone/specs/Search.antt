@@ -1,8 +1,7 @@
 -- The search for an offset by halving (02, request 5). `marks` gives the mark at a place; the run in question goes from `low` up to `high`,
 -- which is not in it.
-use Rattle.std.specs.Prelude.{ℕ, zero, suc, ◌+◌, ◌-◌, ◌*◌, ◌/◌, ◌≤◌, ◌≡◌, List, [], ◌∷◌, ltb, ℤ}
+use Rattle.std.specs.Prelude.{if◌then◌else◌, ℕ, zero, suc, ◌+◌, ◌-◌, ◌*◌, ◌/◌, ◌≤◌, ◌≡◌, List, [], ◌∷◌, ltb, ℤ}
 use Rattle.std.specs.Int.Signed.{lt_z}
-use Rattle.signed.specs.Choose.{if◌then◌else◌}
 use Rattle.zone.specs.declared.search.Span.{Span}
 use Rattle.zone.specs.declared.search.Found.{Found}
 

@@ -1,8 +1,7 @@
 -- The zone table and when it is valid (01, "Zone table and UTC"). A table is an initial offset, the entries' instants and the offsets from
 -- then on, all in seconds.
-use Rattle.std.specs.Prelude.{ℕ, ◌^◌, Bool, true, ◌&&◌, List, [], ◌∷◌, map, leb, eqb, ℤ, nat_abs, ◌+ℤ◌, length}
+use Rattle.std.specs.Prelude.{if◌then◌else◌, ℕ, ◌^◌, Bool, true, ◌&&◌, List, [], ◌∷◌, map, leb, eqb, ℤ, nat_abs, ◌+ℤ◌, length}
 use Rattle.std.specs.Int.Signed.{le_z, lt_z}
-use Rattle.signed.specs.Choose.{if◌then◌else◌}
 
 -- An entry as a change of the clock: its instant, and the offsets before and after.
 pub record Transition : Type 0 where

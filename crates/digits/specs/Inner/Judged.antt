@@ -1,6 +1,5 @@
 -- How the code judges a fraction, in one pass: a last digit that is not 0 says that it is non-zero, too.
-use Rattle.std.specs.Prelude.{ℕ, Bool, true, false, not, List, [], ◌∷◌, eqb}
-use Rattle.signed.specs.Choose.{if◌then◌else◌}
+use Rattle.std.specs.Prelude.{if◌then◌else◌, ℕ, Bool, true, false, not, List, [], ◌∷◌, eqb}
 use Rattle.json_text.specs.Bytes.{is_digit}
 
 -- The digits that are left to judge, and the one before them.

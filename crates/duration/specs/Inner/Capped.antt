@@ -1,6 +1,5 @@
 -- The numbers of a duration as the code counts them.
-use Rattle.std.specs.Prelude.{ℕ, ◌≤◌, ◌≡◌, ltb}
-use Rattle.signed.specs.Choose.{if◌then◌else◌}
+use Rattle.std.specs.Prelude.{if◌then◌else◌, ℕ, ◌≤◌, ◌≡◌, ltb}
 
 -- One second more than 366 days. The code counts no number further: it is over the limit either way.
 abbrev pub enough : ℕ

@@ -1,7 +1,6 @@
 -- What the gathering of entries leaves.
-use Rattle.std.specs.Prelude.{ℕ, ◌≡◌, List, ltb, ℤ, length, take}
+use Rattle.std.specs.Prelude.{if◌then◌else◌, ℕ, ◌≡◌, List, ltb, ℤ, length, take}
 use Rattle.std.proofs.lemmas.List.Edits.{sets}
-use Rattle.signed.specs.Choose.{if◌then◌else◌}
 use Rattle.entries.specs.declared.Transition.{Transition}
 use Rattle.entries.specs.Gather.{instants_of, offsets_of}
 

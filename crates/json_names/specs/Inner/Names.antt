@@ -1,6 +1,5 @@
 -- Faults of member names: two equal ones in one object, or a backslash in one, in any object of the text.
-use Rattle.std.specs.Prelude.{ℕ, zero, suc, Bool, true, false, List, [], ◌∷◌, ◌==◌}
-use Rattle.signed.specs.Choose.{if◌then◌else◌}
+use Rattle.std.specs.Prelude.{if◌then◌else◌, ℕ, zero, suc, Bool, true, false, List, [], ◌∷◌, ◌==◌}
 use Rattle.json_text.specs.Bytes.{byte}
 use Rattle.json_walk.specs.Walk.{members_of, elements_of}
 use Rattle.json_walk.specs.Strings.{raw_at, same, slashed}

@@ -1,6 +1,5 @@
 -- What the walk over the members of an object asks: only the code does; what a fault is says `Names`.
-use Rattle.std.specs.Prelude.{ℕ, Bool, true, false, List, [], ◌∷◌, ◌==◌}
-use Rattle.signed.specs.Choose.{if◌then◌else◌}
+use Rattle.std.specs.Prelude.{if◌then◌else◌, ℕ, Bool, true, false, List, [], ◌∷◌, ◌==◌}
 use Rattle.json_walk.specs.Strings.{slashed}
 use Rattle.json_walk.specs.declared.Member.{Member}
 use Rattle.json_names.specs.Inner.Names.{name_of}

@@ -1,6 +1,5 @@
 -- Runs of plain bytes: chars of one byte that stand for themselves. Only the code asks for them; what a string is says `Strings`.
-use Rattle.std.specs.Prelude.{ℕ, ◌+◌, ◌<◌, Bool, true, false, List, ◌≡◌, eqb, ltb, get_or}
-use Rattle.signed.specs.Choose.{if◌then◌else◌}
+use Rattle.std.specs.Prelude.{if◌then◌else◌, ℕ, ◌+◌, ◌<◌, Bool, true, false, List, ◌≡◌, eqb, ltb, get_or}
 use Rattle.json_text.specs.Bytes.{past}
 
 -- %x20-21 / %x23-5B / %x5D-7F

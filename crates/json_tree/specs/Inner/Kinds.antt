@@ -1,6 +1,5 @@
 -- The kind and the place of a value: the code asks for the kind before it reads.
-use Rattle.std.specs.Prelude.{ℕ, List, eqb}
-use Rattle.signed.specs.Choose.{if◌then◌else◌}
+use Rattle.std.specs.Prelude.{if◌then◌else◌, ℕ, List, eqb}
 use Rattle.json_text.specs.Bytes.{byte}
 use Rattle.json_tree.specs.declared.Kind.{Kind}
 use Rattle.json_tree.specs.declared.Kind.TheVariants as kind

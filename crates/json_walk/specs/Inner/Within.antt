@@ -1,6 +1,5 @@
 -- The places between the quotes of a string.
-use Rattle.std.specs.Prelude.{ℕ, ◌+◌, ◌-◌, List, length, ltb}
-use Rattle.signed.specs.Choose.{if◌then◌else◌}
+use Rattle.std.specs.Prelude.{if◌then◌else◌, ℕ, ◌+◌, ◌-◌, List, length, ltb}
 
 -- The place after i, and past the end of the text i itself: all bytes there are 0.
 unfoldable pub ahead : List ℕ → ℕ → ℕ

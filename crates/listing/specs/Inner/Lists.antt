@@ -1,6 +1,5 @@
 -- Days as a list in a lent slice.
-use Rattle.std.specs.Prelude.{ℕ, ◌+◌, ◌-◌, ◌<◌, ◌≤◌, Bool, true, false, List, ◌++◌, map, ◌≡◌, eqb, length, take, get_or}
-use Rattle.signed.specs.Choose.{if◌then◌else◌}
+use Rattle.std.specs.Prelude.{if◌then◌else◌, ℕ, ◌+◌, ◌-◌, ◌<◌, ◌≤◌, Bool, true, false, List, ◌++◌, map, ◌≡◌, eqb, length, take, get_or}
 use Rattle.rule.specs.Gives.{end_day}
 use Rattle.track.specs.declared.Track.{Track}
 use Rattle.track.specs.Inner.Runs.{has_day}

@@ -1,6 +1,5 @@
 -- The days that a window asks for.
-use Rattle.std.specs.Prelude.{ℕ, ◌+◌, ◌/◌, ltb}
-use Rattle.signed.specs.Choose.{if◌then◌else◌}
+use Rattle.std.specs.Prelude.{if◌then◌else◌, ℕ, ◌+◌, ◌/◌, ltb}
 use Rattle.rule.specs.Gives.{end_day}
 
 -- The day after the last one of a window to `to`, and no further than 9998.

@@ -1,6 +1,5 @@
 -- The row of flags of a rule, as the code keeps it. proofs/ show that it says what the rule's by-lists say.
-use Rattle.std.specs.Prelude.{ℕ, ◌+◌, ◌-◌, ◌*◌, ◌/◌, ◌<◌, ◌≤◌, Bool, true, false, List, ◌≡◌, get_or}
-use Rattle.signed.specs.Choose.{if◌then◌else◌}
+use Rattle.std.specs.Prelude.{if◌then◌else◌, ℕ, ◌+◌, ◌-◌, ◌*◌, ◌/◌, ◌<◌, ◌≤◌, Bool, true, false, List, ◌≡◌, get_or}
 use Rattle.rule.specs.declared.Day.{Day}
 use Rattle.matcher.specs.Inner.Layout.{row_size, dates_at, dates_back, weekdays_at, nths_at, nths_back}
 

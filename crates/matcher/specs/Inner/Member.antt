@@ -1,6 +1,5 @@
 -- Whether a rule has a day, its `count` apart, over its terms and its row of flags.
-use Rattle.std.specs.Prelude.{ℕ, ◌+◌, ◌-◌, ◌*◌, ◌/◌, ◌%◌, ◌<◌, ◌≤◌, Bool, true, false, not, ◌&&◌, List, ◌≡◌, eqb}
-use Rattle.signed.specs.Choose.{if◌then◌else◌}
+use Rattle.std.specs.Prelude.{if◌then◌else◌, ℕ, ◌+◌, ◌-◌, ◌*◌, ◌/◌, ◌%◌, ◌<◌, ◌≤◌, Bool, true, false, not, ◌&&◌, List, ◌≡◌, eqb}
 use Rattle.rule.specs.declared.Day.{Day}
 use Rattle.rule.specs.declared.End.{End}
 use Rattle.rule.specs.Day.{day_at}

@@ -1,6 +1,5 @@
 -- What a month has of a rule, where the rule has the month: by its length and the weekday of its first day.
-use Rattle.std.specs.Prelude.{ℕ, ◌+◌, ◌%◌, ◌<◌, ◌≤◌, Bool, true, false, List, get_or}
-use Rattle.signed.specs.Choose.{if◌then◌else◌}
+use Rattle.std.specs.Prelude.{if◌then◌else◌, ℕ, ◌+◌, ◌%◌, ◌<◌, ◌≤◌, Bool, true, false, List, get_or}
 use Rattle.rule.specs.Lists.{count_in}
 use Rattle.matcher.specs.Inner.Flags.{named, nth_by}
 use Rattle.matcher.specs.Inner.Layout.{dates_at, dates_back, weekdays_at, positions_at, positions_back}

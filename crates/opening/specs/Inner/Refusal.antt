@@ -1,7 +1,6 @@
 -- The part of `answer_for` that does not depend on the table: 10, 11 and 12, the lowest that applies, or 0.
-use Rattle.std.specs.Prelude.{ℕ, not, ◌&&◌, List, ℤ}
+use Rattle.std.specs.Prelude.{if◌then◌else◌, ℕ, not, ◌&&◌, List, ℤ}
 use Rattle.std.proofs.Math.Option.{Option}
-use Rattle.signed.specs.Choose.{if◌then◌else◌}
 use Rattle.zone.specs.Table.{valid_table}
 use Rattle.keywords.specs.declared.Privacy.{Privacy}
 use Rattle.call_definitions.specs.Window.{valid_window}

@@ -1,7 +1,6 @@
 -- The overrides as lists, written into lent slices.
-use Rattle.std.specs.Prelude.{ℕ, Bool, List, [], map, ◌≡◌, eqb, length, take}
+use Rattle.std.specs.Prelude.{if◌then◌else◌, ℕ, Bool, List, [], map, ◌≡◌, eqb, length, take}
 use Rattle.std.proofs.lemmas.List.Edits.{sets}
-use Rattle.signed.specs.Choose.{if◌then◌else◌}
 use Rattle.json_text.specs.Bytes.{byte}
 use Rattle.json_walk.specs.Walk.{members_of}
 use Rattle.json_walk.specs.declared.Member.{Member}

@@ -1,6 +1,5 @@
 -- A row: the members of an object by the numbers of their names.
-use Rattle.std.specs.Prelude.{ℕ, zero, suc, ◌<◌, ◌≤◌, List, ◌≡◌, eqb, length, get_or, set}
-use Rattle.signed.specs.Choose.{if◌then◌else◌}
+use Rattle.std.specs.Prelude.{if◌then◌else◌, ℕ, zero, suc, ◌<◌, ◌≤◌, List, ◌≡◌, eqb, length, get_or, set}
 use Rattle.json_walk.specs.Walk.{members_of}
 use Rattle.json_tree.specs.Inner.Members.{find_in}
 use Rattle.json_tree.specs.declared.Found.{Found}

@@ -1,6 +1,5 @@
 -- The names of the members that are read, by their numbers, and how the number of a name is found.
-use Rattle.std.specs.Prelude.{ℕ, List, [], ◌∷◌, eqb, ltb, get_or}
-use Rattle.signed.specs.Choose.{if◌then◌else◌}
+use Rattle.std.specs.Prelude.{if◌then◌else◌, ℕ, List, [], ◌∷◌, eqb, ltb, get_or}
 use Rattle.json_text.specs.Bytes.{byte}
 use Rattle.json_walk.specs.Strings.{raw_at, same}
 use Rattle.json_walk.specs.Inner.Within.{ahead, within}

@@ -1,6 +1,5 @@
 -- Strings by their place in a text.
-use Rattle.std.specs.Prelude.{ℕ, List, eqb, ltb, length}
-use Rattle.signed.specs.Choose.{if◌then◌else◌}
+use Rattle.std.specs.Prelude.{if◌then◌else◌, ℕ, List, eqb, ltb, length}
 use Rattle.json_text.specs.Bytes.{byte}
 use Rattle.json_text.specs.Strings.{string_at}
 use Rattle.json_walk.specs.Strings.{raw_at, slashed}

@@ -1,6 +1,5 @@
 -- The marks of a record, without the event that they come from.
-use Rattle.std.specs.Prelude.{ℕ, ◌+◌, Bool}
-use Rattle.signed.specs.Choose.{if◌then◌else◌}
+use Rattle.std.specs.Prelude.{if◌then◌else◌, ℕ, ◌+◌, Bool}
 
 -- "marks (1: busy 1, all-day 2, floating 4)"
 unfoldable pub marks_for : Bool → Bool → Bool → ℕ

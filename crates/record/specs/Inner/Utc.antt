@@ -1,6 +1,5 @@
 -- An occurrence's start and end in UTC, by the values that the code has of it.
-use Rattle.std.specs.Prelude.{◌+◌, ◌*◌, ◌<◌, ◌≤◌, ◌^◌, Bool, true, List, ◌≡◌, ℤ, pos, ◌+ℤ◌, ◌-ℤ◌}
-use Rattle.signed.specs.Choose.{if◌then◌else◌}
+use Rattle.std.specs.Prelude.{if◌then◌else◌, ◌+◌, ◌*◌, ◌<◌, ◌≤◌, ◌^◌, Bool, true, List, ◌≡◌, ℤ, pos, ◌+ℤ◌, ◌-ℤ◌}
 use Rattle.zone.specs.Table.{valid_table}
 use Rattle.zone.specs.Lookup.{offset_at}
 use Rattle.event.specs.Types.{Details}

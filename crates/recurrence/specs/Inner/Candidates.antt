@@ -1,8 +1,7 @@
 -- The ids of a window in a form that is computed: kept from candidates that end where nothing can follow. proofs/Candidates says that
 -- these are `ids`.
-use Rattle.std.specs.Prelude.{ℕ, zero, suc, ◌-◌, ◌/◌, Bool, false, not, ◌&&◌, ◌||◌, List, [], ◌∷◌, map, eqb, leb, ltb}
+use Rattle.std.specs.Prelude.{if◌then◌else◌, ℕ, zero, suc, ◌-◌, ◌/◌, Bool, false, not, ◌&&◌, ◌||◌, List, [], ◌∷◌, map, eqb, leb, ltb}
 use Rattle.std.proofs.Math.Option.{Option}
-use Rattle.signed.specs.Choose.{if◌then◌else◌}
 use Rattle.rule.specs.Written.{RecurrenceRule}
 use Rattle.rule.specs.Lists.{within, not_after}
 use Rattle.rule.specs.Gives.{end_day, on_day, falls}

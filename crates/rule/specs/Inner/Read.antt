@@ -1,7 +1,6 @@
 -- The rule that the code's struct stands for.
-use Rattle.std.specs.Prelude.{ℕ, ◌<◌, ◌≤◌, List, [], ◌∷◌, ltb, ℤ, length, take}
+use Rattle.std.specs.Prelude.{if◌then◌else◌, ℕ, ◌<◌, ◌≤◌, List, [], ◌∷◌, ltb, ℤ, length, take}
 use Rattle.std.proofs.Math.Option.{Option, none, some}
-use Rattle.signed.specs.Choose.{if◌then◌else◌}
 use Rattle.signed.specs.Parts.{pos_part, neg_part}
 use Rattle.rule.specs.declared.End.{End}
 use Rattle.rule.specs.declared.End.TheVariants.{Never, Until, Count}

@@ -1,8 +1,7 @@
 -- The by-lists of a rule: where one stands, and its fault.
-use Rattle.std.specs.Prelude.{ℕ, ◌<◌, Bool, true, false, List, map, ◌≡◌, eqb, ltb, ℤ, pos, length}
+use Rattle.std.specs.Prelude.{if◌then◌else◌, ℕ, ◌<◌, Bool, true, false, List, map, ◌≡◌, eqb, ltb, ℤ, pos, length}
 use Rattle.std.proofs.Math.Option.{Option, none, some}
 use Rattle.std.proofs.lemmas.List.Edits.{sets}
-use Rattle.signed.specs.Choose.{if◌then◌else◌}
 use Rattle.fault.specs.Fault.{lower, first}
 use Rattle.fault.specs.declared.First.{First}
 use Rattle.fault.specs.declared.First.TheVariants as fault

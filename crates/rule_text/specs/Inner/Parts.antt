@@ -1,7 +1,6 @@
 -- The parts of a rule that are read together: its head, what ends it, its lists. l is the depth of the values of its members.
-use Rattle.std.specs.Prelude.{ℕ, suc, ◌≤◌, Bool, true, List, [], ◌∷◌, ◌≡◌, ℤ, length, take}
+use Rattle.std.specs.Prelude.{if◌then◌else◌, ℕ, suc, ◌≤◌, Bool, true, List, [], ◌∷◌, ◌≡◌, ℤ, length, take}
 use Rattle.std.proofs.Math.Option.{Option}
-use Rattle.signed.specs.Choose.{if◌then◌else◌}
 use Rattle.fault.specs.Fault.{Fault, all_of, lower, first}
 use Rattle.fault.specs.declared.First.{First}
 use Rattle.fault.specs.declared.First.TheVariants.{None, At}

@@ -1,7 +1,6 @@
 -- The places of the rules of a list.
-use Rattle.std.specs.Prelude.{ℕ, List, [], map, ◌≡◌, eqb, ltb, length}
+use Rattle.std.specs.Prelude.{if◌then◌else◌, ℕ, List, [], map, ◌≡◌, eqb, ltb, length}
 use Rattle.std.proofs.lemmas.List.Edits.{sets}
-use Rattle.signed.specs.Choose.{if◌then◌else◌}
 use Rattle.fault.specs.Fault.{lower, first}
 use Rattle.fault.specs.declared.First.{First}
 use Rattle.fault.specs.declared.First.TheVariants.{At}

@@ -1,6 +1,5 @@
 -- Ids by listed days: of events with one rule that goes by months, none excluded, and no override.
-use Rattle.std.specs.Prelude.{ℕ, ◌*◌, ◌/◌, ◌≤◌, Bool, List, map, ◌≡◌, ltb, length, take, get_or}
-use Rattle.signed.specs.Choose.{if◌then◌else◌}
+use Rattle.std.specs.Prelude.{if◌then◌else◌, ℕ, ◌*◌, ◌/◌, ◌≤◌, Bool, List, map, ◌≡◌, ltb, length, take, get_or}
 use Rattle.rule.specs.Gives.{on_day}
 use Rattle.matcher.specs.Inner.Layout.{row_size}
 use Rattle.track.specs.declared.Track.{Track}

@@ -1,7 +1,6 @@
 -- What the look-up's answers mean: the number and the place of the text, for every case.
-use Rattle.std.specs.Prelude.{ℕ, ◌+◌, ◌≤◌, Bool, true, false, ◌≡◌, eqb}
+use Rattle.std.specs.Prelude.{if◌then◌else◌, ℕ, ◌+◌, ◌≤◌, Bool, true, false, ◌≡◌, eqb}
 use Rattle.std.proofs.Math.Option.{Option}
-use Rattle.signed.specs.Choose.{if◌then◌else◌}
 use Rattle.event.specs.Types.{Text, Details}
 use Rattle.call_definitions.specs.Call.{Shown, no_place}
 use Rattle.texts.specs.declared.Part.{Part}

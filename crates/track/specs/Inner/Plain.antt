@@ -1,6 +1,5 @@
 -- Days of one month.
-use Rattle.std.specs.Prelude.{ℕ, ◌+◌, ◌≤◌, ◌≡◌, ltb}
-use Rattle.signed.specs.Choose.{if◌then◌else◌}
+use Rattle.std.specs.Prelude.{if◌then◌else◌, ℕ, ◌+◌, ◌≤◌, ◌≡◌, ltb}
 use Rattle.rule.specs.declared.Day.{Day}
 use Rattle.rule.specs.Gives.{end_day}
 use Rattle.track.specs.Inner.Skips.{to_month_end}

@@ -1,6 +1,5 @@
 -- Which weeks are touched, as the code finds it, over natural numbers: `up t` is t + 2^63, and b is `up` of the range's start.
-use Rattle.std.specs.Prelude.{ℕ, suc, ◌+◌, ◌-◌, ◌/◌, ◌^◌, List, [], ◌∷◌, ltb, leb, eqb, ℤ, pos, negsuc, get_or, set}
-use Rattle.signed.specs.Choose.{if◌then◌else◌}
+use Rattle.std.specs.Prelude.{if◌then◌else◌, ℕ, suc, ◌+◌, ◌-◌, ◌/◌, ◌^◌, List, [], ◌∷◌, ltb, leb, eqb, ℤ, pos, negsuc, get_or, set}
 use Rattle.signed.specs.Parts.{pos_part, neg_part}
 use Rattle.sheet.specs.Records.{Row, row_at}
 

@@ -1,6 +1,5 @@
 -- Uploads and tallies, as the code finds them in the places; b is `up` of the range's start.
-use Rattle.std.specs.Prelude.{ℕ, zero, suc, ◌+◌, ◌≤◌, Bool, List, [], ◌∷◌, ltb, eqb, ℤ, pos, negsuc, get_or, set}
-use Rattle.signed.specs.Choose.{if◌then◌else◌}
+use Rattle.std.specs.Prelude.{if◌then◌else◌, ℕ, zero, suc, ◌+◌, ◌≤◌, Bool, List, [], ◌∷◌, ltb, eqb, ℤ, pos, negsuc, get_or, set}
 use Rattle.signed.specs.Parts.{pos_part}
 use Rattle.weeks.specs.Inner.Marks.{up, first_of}
 

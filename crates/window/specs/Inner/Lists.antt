@@ -1,6 +1,5 @@
 -- The date-times of a stretch of time, as a list.
-use Rattle.std.specs.Prelude.{ℕ, zero, suc, Bool, List, [], ◌∷◌}
-use Rattle.signed.specs.Choose.{if◌then◌else◌}
+use Rattle.std.specs.Prelude.{if◌then◌else◌, ℕ, zero, suc, Bool, List, [], ◌∷◌}
 
 -- All of n seconds from a on that pass, in order.
 unfoldable pub list_in : (ℕ → Bool) → ℕ → ℕ → List ℕ

@@ -1,6 +1,5 @@
 -- Overrides whose ids increase, as those of most texts do.
-use Rattle.std.specs.Prelude.{ℕ, suc, ◌+◌, ◌<◌, ◌≤◌, Bool, true, List, [], ◌∷◌, ◌≡◌, ltb, length, get_or}
-use Rattle.signed.specs.Choose.{if◌then◌else◌}
+use Rattle.std.specs.Prelude.{if◌then◌else◌, ℕ, suc, ◌+◌, ◌<◌, ◌≤◌, Bool, true, List, [], ◌∷◌, ◌≡◌, ltb, length, get_or}
 
 -- Each id is less than the one after it.
 pub record Rising (ids : List ℕ) : Type 0 where

@@ -1,6 +1,5 @@
 -- The details of an occurrence over the overrides' ids and the places of their patches, and its record.
-use Rattle.std.specs.Prelude.{ℕ, ◌<◌, ◌≤◌, Bool, List, [], ◌∷◌, ◌≡◌, eqb, ℤ, length, get_or}
-use Rattle.signed.specs.Choose.{if◌then◌else◌}
+use Rattle.std.specs.Prelude.{if◌then◌else◌, ℕ, ◌<◌, ◌≤◌, Bool, List, [], ◌∷◌, ◌≡◌, eqb, ℤ, length, get_or}
 use Rattle.sheet.specs.Records.{Row}
 use Rattle.event.specs.Types.{Details}
 use Rattle.call_definitions.specs.Occurrence.{with_start}

@@ -1,6 +1,5 @@
 -- The table of a window as bytes, and what a call leaves of it in a buffer that was lent.
-use Rattle.std.specs.Prelude.{ℕ, ◌-◌, Bool, List, map, ltb, length}
-use Rattle.signed.specs.Choose.{if◌then◌else◌}
+use Rattle.std.specs.Prelude.{if◌then◌else◌, ℕ, ◌-◌, Bool, List, map, ltb, length}
 use Rattle.sheet.specs.Records.{Row}
 use Rattle.sheet.specs.Writing.{sheet_of}
 use Rattle.call_definitions.specs.Bytes.{written_version}

@@ -1,7 +1,6 @@
 -- The look at the hint, before the search: is the local time still where the last one was found? `marks` gives the mark at a place.
-use Rattle.std.specs.Prelude.{ℕ, ◌-◌, Bool, true, false, ltb, eqb, ℤ}
+use Rattle.std.specs.Prelude.{if◌then◌else◌, ℕ, ◌-◌, Bool, true, false, ltb, eqb, ℤ}
 use Rattle.std.specs.Int.Signed.{le_z, lt_z}
-use Rattle.signed.specs.Choose.{if◌then◌else◌}
 
 -- The mark before the place i, if there is one, is at or before the local time.
 unfoldable pub begun_at : (ℕ → ℤ) → ℤ → ℕ → Bool

@@ -1,4 +1,5 @@
 -- `replay::tallies::tally` meets its contract: what is counted, and what is to come, is the whole.
+use Rattle.std.specs.Prelude.{if◌then◌else◌}
 use Prim.Native.Nat.{ℕ, ◌-◌}
 use lib.Dec.{eqb}
 use mathlib.Core.Path.{◌≡◌, ap, ◌∙◌}
@@ -8,7 +9,6 @@ use lib.IntN.{pos}
 use mir.Syntax.{w64}
 use mir.Val.{SFits}
 use Rattle.signed.proofs.Parts.{passed}
-use Rattle.signed.specs.Choose.{if◌then◌else◌}
 use Rattle.weeks.specs.Inner.Places.{class_of, in_class}
 use Rattle.replay.proofs.TallyLaws.{one-most, count_turn, count-done}
 use Rattle.replay.proofs.tallies.tally.Goals as goal
