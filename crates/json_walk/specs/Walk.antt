@@ -70,7 +70,7 @@ next_element_at s i = element_more (after_at 0x5D s i) (λ k. element_at s k)
 
 -- An element and those that follow it, at most n.
 unfoldable pub elements_from : ℕ → List ℕ → ElementStep → List Element
-elements_from zero s step = []
+elements_from zero s _ = []
 elements_from (suc n) s (Next e) = e ∷ elements_from n s (next_element_at s e.after)
 elements_from (suc n) s Stop = []
 
