@@ -78,14 +78,21 @@ def programs_of(edit):
     return [Program(it) for it, some in zip(blocks, told) if len(some) == 1], faults
 
 
+def cycle_of(crate, function):
+    """The name of the cycle of calls that a function is in, as its attribute says it, or None."""
+    *modules, name = function.split("::")
+    for file in ["/".join(modules) + ".rt"] if modules else ["lib.rt", "main.rt"]:
+        if (crate / "src" / file).is_file():
+            found = re.search(rf"#\[cycle\((\w+)\)\]\s+(?:pub(?:\([^)]*\))? )?fn {name}\b", (crate / "src" / file).read_text(encoding="utf-8"))
+            return found and found[1]
+    return None
+
+
 def proof_of(crate, function):
     """The folder of a function's proof below proofs/: its own, or that of the cycle of calls that it is in."""
+    cycle = cycle_of(crate, function)
     *modules, name = function.split("::")
-    folder = pathlib.Path(*modules)
-    for cycle in (crate / "proofs" / folder).glob("+*"):
-        if name in cycle.name.split("+"):
-            return folder / cycle.name
-    return folder / name
+    return pathlib.Path(*modules, f"+{cycle}" if cycle else name)
 
 
 def errors_in(path, log):
@@ -97,6 +104,12 @@ def errors_in(path, log):
 def files_of(crate, function):
     """The files of a function's proof."""
     return [f"proofs/{proof_of(crate, function)}/{name}.antt" for name in ("Invariants", "Answers", "Proof")]
+
+
+def own_errors(crate, function, log):
+    """The errors of a function's own proof: of the goals under its name, where it shares the files with the cycle of calls that it is in."""
+    own = function.rpartition("::")[2] + "-" if cycle_of(crate, function) else ""
+    return [it for path in files_of(crate, function) for it in errors_in(path, log) if it[0].startswith(own)]
 
 
 def renamed(text, names):
@@ -163,8 +176,7 @@ def verdict(crate, program, log):
     if target.startswith("proofs/"):
         errors = errors_in(f"{target}.antt", log)
     else:
-        errors = [it for path in files_of(crate, target) for it in errors_in(path, log)]
-        errors += searched(crate, target, log)
+        errors = own_errors(crate, target, log) + searched(crate, target, log)
     # What has no name was not even read.
     if any(not name or LOST.search(text) for name, text in errors):
         return "refused by its shape"
