@@ -37,6 +37,7 @@ import threading
 ROOT = pathlib.Path(__file__).resolve().parent.parent
 WAITS = re.compile(r"was not admitted|\d+ declarations? that depends? on ")
 LOST = re.compile(r"has no field|has no `|expected type `tie\.|is not in scope|is no name")
+STATED = re.compile(r"(.*-)?(invariant|decreases)-")
 # The names of the prover's own goals: first those of a promise, then those of safety. In a cycle of calls the function's name stands before them.
 PROMISED = re.compile(r"(.*-)?returns(-.*)?$|.*-requires(-.*)?$|(.*-)?loop-.*-(init|preserved|smaller)(-.*)?$")
 SAFETY = re.compile(
@@ -177,8 +178,8 @@ def verdict(crate, program, log):
         errors = errors_in(f"{target}.antt", log)
     else:
         errors = own_errors(crate, target, log) + searched(crate, target, log)
-    # What has no name was not even read.
-    if any(not name or LOST.search(text) for name, text in errors):
+    # What has no name was not even read, and an invariant or a measure only states.
+    if any(not name or STATED.match(name) or LOST.search(text) for name, text in errors):
         return "refused by its shape"
     names = [name for name, _ in errors]
     if fact and fact not in names:
