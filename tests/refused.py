@@ -154,7 +154,8 @@ def new_names(crate, program, log):
             else:
                 continue
             new = next((it for it in near if it not in cited), None)
-            if new and old not in found:
+            # A number at its end says that another condition has the same text, and which is which is not known.
+            if new and old not in found and (re.search(r"-\d$", old) or not re.search(r"-\d$", new)):
                 found[old] = new
     return found
 
