@@ -161,9 +161,13 @@ def new_names(crate, program, log):
 
 
 def searched(crate, function, log):
-    """The facts of a function that stand in no file, and that the prover did not find by itself."""
-    line = re.search(rf"^fn {crate.name}::{function}: .*`search` did not prove (.*)", log, re.M)
-    return [(name, "") for name in re.findall(r"`([^`]*)`", line[1].partition("; it calls")[0])] if line else []
+    """The facts of a function that stand in no file, and that the prover did not find by itself. Its line lists them, or notes right above it do."""
+    line = re.search(rf"^((?:(?:note|help): .*\n)*)fn {re.escape(f'{crate.name}::{function}')}: (.*)", log, re.M)
+    if not line:
+        return []
+    listed = line[2].partition("`search` did not prove ")[2].partition("; it calls")[0]
+    noted = re.findall(r"^note: src/\S+: it is not proved that .*?\(`([^`]*)`\)", line[1], re.M)
+    return [(name, "") for name in [*re.findall(r"`([^`]*)`", listed), *noted]]
 
 
 def is_untried(crate, function, log):
