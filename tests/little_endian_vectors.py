@@ -9,7 +9,11 @@ SOURCE = pathlib.Path(__file__).parent.parent / "crates/little_endian_vectors/sr
 
 
 def main():
-    for kind, bits, at, value in re.findall(r"show_([ui])(\d+)\((\d+), (-?\d+)\);", SOURCE.read_text()):
+    text = SOURCE.read_text(encoding="utf-8")
+    calls = re.findall(r"^    show_([ui])(\d+)\(rt, (\d+), (-?\d+)\)", text, re.M)
+    if len(calls) != len(re.findall(r"^    show_", text, re.M)):
+        raise SystemExit("little_endian_vectors.py: a call in the program's source is not read")
+    for kind, bits, at, value in calls:
         before = bytes(range(160, 172))
         number = int(value).to_bytes(int(bits) // 8, "little", signed=kind == "i")
         after = before[:int(at)] + number + before[int(at) + len(number):]

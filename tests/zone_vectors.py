@@ -50,7 +50,10 @@ def show(initial, instants, offsets, local):
 
 def main():
     many = [(DAY * k, 3600 * (k % 2)) for k in range(1025)]
-    calls = re.findall(r"    (none|one|two|three|fewer_offsets|fewer_instants|many)\((-?\d+(?:, -?\d+)*)\);", SOURCE.read_text())
+    text, kinds = SOURCE.read_text(encoding="utf-8"), "none|one|two|three|fewer_offsets|fewer_instants|many"
+    calls = re.findall(rf"^    ({kinds})\(\s*rt,\s*(-?\d+(?:,\s*-?\d+)*),?\s*\)", text, re.M)
+    if len(calls) != len(re.findall(rf"^    (?:{kinds})\(", text, re.M)):
+        raise SystemExit("zone_vectors.py: a call in the program's source is not read")
     for kind, words in calls:
         first, *entries, local = [int(word) for word in words.split(",")]
         instants, offsets = entries[0::2], entries[1::2]
