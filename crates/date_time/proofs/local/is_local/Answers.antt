@@ -3,10 +3,6 @@ use Rattle.date_time.specs.Local.{is_local}
 use borrow.Author.Tests.{le-leb, lt-leb, not-false, not-true}
 use Rattle.date_time.proofs.local.is_local.Goals as goal
 
--- OLD
--- OLD slice-aggregate-follows : tie.Need-slice-aggregate-follows
--- OLD slice-aggregate-follows c = search rules
-
 pub returns-then-not-follows : goal.returns-then-not-follows
 unfolding is_local
 returns-then-not-follows c = rw (

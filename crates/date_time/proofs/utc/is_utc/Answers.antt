@@ -3,10 +3,6 @@ use Rattle.date_time.specs.Utc.{is_utc}
 use borrow.Author.Tests.{not-false, not-true}
 use Rattle.date_time.proofs.utc.is_utc.Goals as goal
 
--- OLD
--- OLD slice-aggregate-follows : tie.Need-slice-aggregate-follows
--- OLD slice-aggregate-follows c = search rules
-
 pub returns-then-not-follows : goal.returns-then-not-follows
 unfolding is_utc
 returns-then-not-follows c = rw (

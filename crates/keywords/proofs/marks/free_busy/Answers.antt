@@ -2,17 +2,9 @@
 use Rattle.keywords.specs.Marks.{free_busy_of}
 use Rattle.keywords.proofs.marks.free_busy.Goals as goal
 
--- OLD
--- OLD slice-aggregate-is : tie.Need-slice-aggregate-is
--- OLD slice-aggregate-is c = search rules
-
 pub returns-then-is : goal.returns-then-is
 unfolding free_busy_of
 returns-then-is c = rw (← c.is.ensures, c.if-is.true)
-
--- OLD
--- OLD slice-aggregate-is-2 : tie.Need-slice-aggregate-is-2
--- OLD slice-aggregate-is-2 c = search rules
 
 pub returns-then-is-2 : goal.returns-then-is-2
 unfolding free_busy_of

@@ -2,20 +2,12 @@
 use Rattle.keywords.specs.Rules.{frequency_of}
 use Rattle.keywords.proofs.rules.frequency.Goals as goal
 
--- OLD
--- OLD slice-aggregate-is : tie.Need-slice-aggregate-is
--- OLD slice-aggregate-is c = search rules
-
 pub returns-then-is : goal.returns-then-is
 unfolding frequency_of
 returns-then-is c = rw (
   ← c.is.ensures,
   c.if-is.true,
 )
-
--- OLD
--- OLD slice-aggregate-is-2 : tie.Need-slice-aggregate-is-2
--- OLD slice-aggregate-is-2 c = search rules
 
 pub returns-then-is-2 : goal.returns-then-is-2
 unfolding frequency_of
@@ -25,10 +17,6 @@ returns-then-is-2 c = rw (
   ← c.is-2.ensures,
   c.if-is-2.true,
 )
-
--- OLD
--- OLD slice-aggregate-is-3 : tie.Need-slice-aggregate-is-3
--- OLD slice-aggregate-is-3 c = search rules
 
 pub returns-then-is-3 : goal.returns-then-is-3
 unfolding frequency_of
@@ -40,10 +28,6 @@ returns-then-is-3 c = rw (
   ← c.is-3.ensures,
   c.if-is-3.true,
 )
-
--- OLD
--- OLD slice-aggregate-is-4 : tie.Need-slice-aggregate-is-4
--- OLD slice-aggregate-is-4 c = search rules
 
 pub returns-then-is-4 : goal.returns-then-is-4
 unfolding frequency_of
@@ -57,10 +41,6 @@ returns-then-is-4 c = rw (
   ← c.is-4.ensures,
   c.if-is-4.true,
 )
-
--- OLD
--- OLD slice-aggregate-is-5 : tie.Need-slice-aggregate-is-5
--- OLD slice-aggregate-is-5 c = search rules
 
 pub returns-then-is-5 : goal.returns-then-is-5
 unfolding frequency_of
@@ -76,10 +56,6 @@ returns-then-is-5 c = rw (
   ← c.is-5.ensures,
   c.if-is-5.true,
 )
-
--- OLD
--- OLD slice-aggregate-is-6 : tie.Need-slice-aggregate-is-6
--- OLD slice-aggregate-is-6 c = search rules
 
 pub returns-then-is-6 : goal.returns-then-is-6
 unfolding frequency_of
@@ -97,10 +73,6 @@ returns-then-is-6 c = rw (
   ← c.is-6.ensures,
   c.if-is-6.true,
 )
-
--- OLD
--- OLD slice-aggregate-is-7 : tie.Need-slice-aggregate-is-7
--- OLD slice-aggregate-is-7 c = search rules
 
 pub returns-then-is-7 : goal.returns-then-is-7
 unfolding frequency_of

@@ -2,10 +2,6 @@
 use Rattle.keywords.specs.Rules.{rscale_fault}
 use Rattle.keywords.proofs.rules.rscale.Goals as goal
 
--- OLD
--- OLD slice-aggregate-is : tie.Need-slice-aggregate-is
--- OLD slice-aggregate-is c = search rules
-
 pub returns-then-is : goal.returns-then-is
 unfolding rscale_fault
 returns-then-is c = rw (

@@ -4,10 +4,6 @@ use Rattle.event.specs.Overrides.{name_fault}
 use Rattle.json_walk.specs.Strings.{raw_at}
 use Rattle.override_text.proofs.names.name_fault.Goals as goal
 
--- OLD
--- OLD slice-aggregate-raw-is : tie.Need-slice-aggregate-raw-is
--- OLD slice-aggregate-raw-is c = search rules
-
 pub returns-then-raw_is : goal.returns-then-raw_is
 unfolding name_fault raw_at first faults_at lower
 returns-then-raw_is c = rw (

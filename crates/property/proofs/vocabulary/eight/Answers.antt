@@ -4,20 +4,12 @@ use Rattle.property.specs.Inner.Vocabulary.{of_eight}
 use borrow.Author.Tests.{eq-eqb, ne_eqb}
 use Rattle.property.proofs.vocabulary.eight.Goals as goal
 
--- OLD
--- OLD slice-aggregate-number : tie.Need-slice-aggregate-number
--- OLD slice-aggregate-number c = search rules
-
 pub returns-then-b-eq116 : goal.returns-then-b-eq116
 unfolding of_eight raw_at
 returns-then-b-eq116 c = rw (
   eq-eqb _ _ c.if-b-eq116.true,
   ← c.number.ensures,
 )
-
--- OLD
--- OLD slice-aggregate-number-2 : tie.Need-slice-aggregate-number-2
--- OLD slice-aggregate-number-2 c = search rules
 
 pub returns-then-b-eq100 : goal.returns-then-b-eq100
 unfolding of_eight raw_at
@@ -27,10 +19,6 @@ returns-then-b-eq100 c = rw (
   ← c.number-then-b-eq100.ensures,
 )
 
--- OLD
--- OLD slice-aggregate-number-3 : tie.Need-slice-aggregate-number-3
--- OLD slice-aggregate-number-3 c = search rules
-
 pub returns-then-b-eq105 : goal.returns-then-b-eq105
 unfolding of_eight raw_at
 returns-then-b-eq105 c = rw (
@@ -39,10 +27,6 @@ returns-then-b-eq105 c = rw (
   eq-eqb _ _ c.if-b-eq105.true,
   ← c.number-then-b-eq105.ensures,
 )
-
--- OLD
--- OLD slice-aggregate-number-4 : tie.Need-slice-aggregate-number-4
--- OLD slice-aggregate-number-4 c = search rules
 
 pub returns-then-b-eq101 : goal.returns-then-b-eq101
 unfolding of_eight raw_at
@@ -54,10 +38,6 @@ returns-then-b-eq101 c = rw (
   ← c.number-then-b-eq101.ensures,
 )
 
--- OLD
--- OLD slice-aggregate-raw-is : tie.Need-slice-aggregate-raw-is
--- OLD slice-aggregate-raw-is c = search rules
-
 pub returns-then-raw_is : goal.returns-then-raw_is
 unfolding of_eight raw_at
 returns-then-raw_is c = rw (
@@ -68,10 +48,6 @@ returns-then-raw_is c = rw (
   ← c.raw_is.ensures,
   c.if-raw_is.true,
 )
-
--- OLD
--- OLD slice-aggregate-raw-is-2 : tie.Need-slice-aggregate-raw-is-2
--- OLD slice-aggregate-raw-is-2 c = search rules
 
 pub returns-then-raw_is-2 : goal.returns-then-raw_is-2
 unfolding of_eight raw_at
@@ -85,10 +61,6 @@ returns-then-raw_is-2 c = rw (
   ← c.raw_is-2.ensures,
   c.if-raw_is-2.true,
 )
-
--- OLD
--- OLD slice-aggregate-number-5 : tie.Need-slice-aggregate-number-5
--- OLD slice-aggregate-number-5 c = search rules
 
 pub returns : goal.returns
 unfolding of_eight raw_at

@@ -4,20 +4,12 @@ use Rattle.property.specs.Inner.Vocabulary.{of_five}
 use borrow.Author.Tests.{eq-eqb, ne_eqb}
 use Rattle.property.proofs.vocabulary.five.Goals as goal
 
--- OLD
--- OLD slice-aggregate-number : tie.Need-slice-aggregate-number
--- OLD slice-aggregate-number c = search rules
-
 pub returns-then-b-eq64 : goal.returns-then-b-eq64
 unfolding of_five raw_at
 returns-then-b-eq64 c = rw (
   eq-eqb _ _ c.if-b-eq64.true,
   ← c.number.ensures,
 )
-
--- OLD
--- OLD slice-aggregate-number-2 : tie.Need-slice-aggregate-number-2
--- OLD slice-aggregate-number-2 c = search rules
 
 pub returns-then-b-eq115 : goal.returns-then-b-eq115
 unfolding of_five raw_at
@@ -27,10 +19,6 @@ returns-then-b-eq115 c = rw (
   ← c.number-then-b-eq115.ensures,
 )
 
--- OLD
--- OLD slice-aggregate-number-3 : tie.Need-slice-aggregate-number-3
--- OLD slice-aggregate-number-3 c = search rules
-
 pub returns-then-b-eq116 : goal.returns-then-b-eq116
 unfolding of_five raw_at
 returns-then-b-eq116 c = rw (
@@ -39,10 +27,6 @@ returns-then-b-eq116 c = rw (
   eq-eqb _ _ c.if-b-eq116.true,
   ← c.number-then-b-eq116.ensures,
 )
-
--- OLD
--- OLD slice-aggregate-number-4 : tie.Need-slice-aggregate-number-4
--- OLD slice-aggregate-number-4 c = search rules
 
 pub returns-then-b-eq117 : goal.returns-then-b-eq117
 unfolding of_five raw_at
@@ -54,10 +38,6 @@ returns-then-b-eq117 c = rw (
   ← c.number-then-b-eq117.ensures,
 )
 
--- OLD
--- OLD slice-aggregate-number-5 : tie.Need-slice-aggregate-number-5
--- OLD slice-aggregate-number-5 c = search rules
-
 pub returns-then-b-eq99 : goal.returns-then-b-eq99
 unfolding of_five raw_at
 returns-then-b-eq99 c = rw (
@@ -68,10 +48,6 @@ returns-then-b-eq99 c = rw (
   eq-eqb _ _ c.if-b-eq99.true,
   ← c.number-then-b-eq99.ensures,
 )
-
--- OLD
--- OLD slice-aggregate-number-6 : tie.Need-slice-aggregate-number-6
--- OLD slice-aggregate-number-6 c = search rules
 
 pub returns : goal.returns
 unfolding of_five raw_at

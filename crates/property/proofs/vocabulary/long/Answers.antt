@@ -4,20 +4,12 @@ use Rattle.property.specs.Inner.Vocabulary.{of_long}
 use borrow.Author.Tests.{eq-eqb, ne_eqb}
 use Rattle.property.proofs.vocabulary.long.Goals as goal
 
--- OLD
--- OLD slice-aggregate-number : tie.Need-slice-aggregate-number
--- OLD slice-aggregate-number c = search rules
-
 pub returns-then-b-eq115 : goal.returns-then-b-eq115
 unfolding of_long raw_at
 returns-then-b-eq115 c = rw (
   eq-eqb _ _ c.if-b-eq115.true,
   ← c.number.ensures,
 )
-
--- OLD
--- OLD slice-aggregate-number-2 : tie.Need-slice-aggregate-number-2
--- OLD slice-aggregate-number-2 c = search rules
 
 pub returns-then-b-eq98 : goal.returns-then-b-eq98
 unfolding of_long raw_at
@@ -26,10 +18,6 @@ returns-then-b-eq98 c = rw (
   eq-eqb _ _ c.if-b-eq98.true,
   ← c.number-then-b-eq98.ensures,
 )
-
--- OLD
--- OLD slice-aggregate-number-3 : tie.Need-slice-aggregate-number-3
--- OLD slice-aggregate-number-3 c = search rules
 
 pub returns-then-b-eq101 : goal.returns-then-b-eq101
 unfolding of_long raw_at
@@ -40,10 +28,6 @@ returns-then-b-eq101 c = rw (
   ← c.number-then-b-eq101.ensures,
 )
 
--- OLD
--- OLD slice-aggregate-raw-is : tie.Need-slice-aggregate-raw-is
--- OLD slice-aggregate-raw-is c = search rules
-
 pub returns-then-raw_is : goal.returns-then-raw_is
 unfolding of_long raw_at
 returns-then-raw_is c = rw (
@@ -53,10 +37,6 @@ returns-then-raw_is c = rw (
   ← c.raw_is.ensures,
   c.if-raw_is.true,
 )
-
--- OLD
--- OLD slice-aggregate-raw-is-2 : tie.Need-slice-aggregate-raw-is-2
--- OLD slice-aggregate-raw-is-2 c = search rules
 
 pub returns-then-raw_is-2 : goal.returns-then-raw_is-2
 unfolding of_long raw_at
@@ -69,10 +49,6 @@ returns-then-raw_is-2 c = rw (
   ← c.raw_is-2.ensures,
   c.if-raw_is-2.true,
 )
-
--- OLD
--- OLD slice-aggregate-raw-is-3 : tie.Need-slice-aggregate-raw-is-3
--- OLD slice-aggregate-raw-is-3 c = search rules
 
 pub returns-then-raw_is-3 : goal.returns-then-raw_is-3
 unfolding of_long raw_at
@@ -87,10 +63,6 @@ returns-then-raw_is-3 c = rw (
   ← c.raw_is-3.ensures,
   c.if-raw_is-3.true,
 )
-
--- OLD
--- OLD slice-aggregate-number-4 : tie.Need-slice-aggregate-number-4
--- OLD slice-aggregate-number-4 c = search rules
 
 pub returns : goal.returns
 unfolding of_long raw_at

@@ -4,20 +4,12 @@ use Rattle.property.specs.Inner.Vocabulary.{of_seven}
 use borrow.Author.Tests.{eq-eqb, ne_eqb}
 use Rattle.property.proofs.vocabulary.seven.Goals as goal
 
--- OLD
--- OLD slice-aggregate-number : tie.Need-slice-aggregate-number
--- OLD slice-aggregate-number c = search rules
-
 pub returns-then-b-eq117 : goal.returns-then-b-eq117
 unfolding of_seven raw_at
 returns-then-b-eq117 c = rw (
   eq-eqb _ _ c.if-b-eq117.true,
   ← c.number.ensures,
 )
-
--- OLD
--- OLD slice-aggregate-number-2 : tie.Need-slice-aggregate-number-2
--- OLD slice-aggregate-number-2 c = search rules
 
 pub returns-then-b-eq112 : goal.returns-then-b-eq112
 unfolding of_seven raw_at
@@ -26,10 +18,6 @@ returns-then-b-eq112 c = rw (
   eq-eqb _ _ c.if-b-eq112.true,
   ← c.number-then-b-eq112.ensures,
 )
-
--- OLD
--- OLD slice-aggregate-number-3 : tie.Need-slice-aggregate-number-3
--- OLD slice-aggregate-number-3 c = search rules
 
 pub returns-then-b-eq114 : goal.returns-then-b-eq114
 unfolding of_seven raw_at
@@ -40,10 +28,6 @@ returns-then-b-eq114 c = rw (
   ← c.number-then-b-eq114.ensures,
 )
 
--- OLD
--- OLD slice-aggregate-raw-is : tie.Need-slice-aggregate-raw-is
--- OLD slice-aggregate-raw-is c = search rules
-
 pub returns-then-raw_is : goal.returns-then-raw_is
 unfolding of_seven raw_at
 returns-then-raw_is c = rw (
@@ -53,10 +37,6 @@ returns-then-raw_is c = rw (
   ← c.raw_is.ensures,
   c.if-raw_is.true,
 )
-
--- OLD
--- OLD slice-aggregate-number-4 : tie.Need-slice-aggregate-number-4
--- OLD slice-aggregate-number-4 c = search rules
 
 pub returns : goal.returns
 unfolding of_seven raw_at

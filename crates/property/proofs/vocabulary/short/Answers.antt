@@ -4,20 +4,12 @@ use Rattle.property.specs.Inner.Vocabulary.{of_short}
 use borrow.Author.Tests.{eq-eqb, ne_eqb}
 use Rattle.property.proofs.vocabulary.short.Goals as goal
 
--- OLD
--- OLD slice-aggregate-number : tie.Need-slice-aggregate-number
--- OLD slice-aggregate-number c = search rules
-
 pub returns-then-b-eq117 : goal.returns-then-b-eq117
 unfolding of_short raw_at
 returns-then-b-eq117 c = rw (
   eq-eqb _ _ c.if-b-eq117.true,
   ← c.number.ensures,
 )
-
--- OLD
--- OLD slice-aggregate-number-2 : tie.Need-slice-aggregate-number-2
--- OLD slice-aggregate-number-2 c = search rules
 
 pub returns-then-b-eq100 : goal.returns-then-b-eq100
 unfolding of_short raw_at
@@ -26,10 +18,6 @@ returns-then-b-eq100 c = rw (
   eq-eqb _ _ c.if-b-eq100.true,
   ← c.number-then-b-eq100.ensures,
 )
-
--- OLD
--- OLD slice-aggregate-number-3 : tie.Need-slice-aggregate-number-3
--- OLD slice-aggregate-number-3 c = search rules
 
 pub returns : goal.returns
 unfolding of_short raw_at

@@ -4,20 +4,12 @@ use Rattle.property.specs.Inner.Vocabulary.{of_twelve}
 use borrow.Author.Tests.{eq-eqb, ne_eqb}
 use Rattle.property.proofs.vocabulary.twelve.Goals as goal
 
--- OLD
--- OLD slice-aggregate-number : tie.Need-slice-aggregate-number
--- OLD slice-aggregate-number c = search rules
-
 pub returns-then-b-eq102 : goal.returns-then-b-eq102
 unfolding of_twelve raw_at
 returns-then-b-eq102 c = rw (
   eq-eqb _ _ c.if-b-eq102.true,
   ← c.number.ensures,
 )
-
--- OLD
--- OLD slice-aggregate-number-2 : tie.Need-slice-aggregate-number-2
--- OLD slice-aggregate-number-2 c = search rules
 
 pub returns-then-b-eq100 : goal.returns-then-b-eq100
 unfolding of_twelve raw_at
@@ -27,10 +19,6 @@ returns-then-b-eq100 c = rw (
   ← c.number-then-b-eq100.ensures,
 )
 
--- OLD
--- OLD slice-aggregate-number-3 : tie.Need-slice-aggregate-number-3
--- OLD slice-aggregate-number-3 c = search rules
-
 pub returns-then-b-eq110 : goal.returns-then-b-eq110
 unfolding of_twelve raw_at
 returns-then-b-eq110 c = rw (
@@ -39,10 +27,6 @@ returns-then-b-eq110 c = rw (
   eq-eqb _ _ c.if-b-eq110.true,
   ← c.number-then-b-eq110.ensures,
 )
-
--- OLD
--- OLD slice-aggregate-number-4 : tie.Need-slice-aggregate-number-4
--- OLD slice-aggregate-number-4 c = search rules
 
 pub returns-then-b-eq114 : goal.returns-then-b-eq114
 unfolding of_twelve raw_at
@@ -54,10 +38,6 @@ returns-then-b-eq114 c = rw (
   ← c.number-then-b-eq114.ensures,
 )
 
--- OLD
--- OLD slice-aggregate-raw-is : tie.Need-slice-aggregate-raw-is
--- OLD slice-aggregate-raw-is c = search rules
-
 pub returns-then-raw_is : goal.returns-then-raw_is
 unfolding of_twelve raw_at
 returns-then-raw_is c = rw (
@@ -68,10 +48,6 @@ returns-then-raw_is c = rw (
   ← c.raw_is.ensures,
   c.if-raw_is.true,
 )
-
--- OLD
--- OLD slice-aggregate-number-5 : tie.Need-slice-aggregate-number-5
--- OLD slice-aggregate-number-5 c = search rules
 
 pub returns : goal.returns
 unfolding of_twelve raw_at
