@@ -10,8 +10,8 @@ SOURCE = pathlib.Path(__file__).parent.parent / "crates/little_endian_vectors/sr
 
 def main():
     text = SOURCE.read_text(encoding="utf-8")
-    calls = re.findall(r"^    show_([ui])(\d+)\(rt, (\d+), (-?\d+)\)", text, re.M)
-    if len(calls) != len(re.findall(r"^    show_", text, re.M)):
+    calls = re.findall(r"^    show\(rt, \|buf\| put_([ui])(\d+)\(buf, (\d+), (-?\d+)\)\)", text, re.M)
+    if len(calls) != len(re.findall(r"^    show\(", text, re.M)):
         raise SystemExit("little_endian_vectors.py: a call in the program's source is not read")
     for kind, bits, at, value in calls:
         before = bytes(range(160, 172))

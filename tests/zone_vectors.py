@@ -50,18 +50,18 @@ def show(initial, instants, offsets, local):
 
 def main():
     many = [(DAY * k, 3600 * (k % 2)) for k in range(1025)]
-    text, kinds = SOURCE.read_text(encoding="utf-8"), "none|one|two|three|fewer_offsets|fewer_instants|many"
-    calls = re.findall(rf"^    ({kinds})\(\s*rt,\s*(-?\d+(?:,\s*-?\d+)*),?\s*\)", text, re.M)
-    if len(calls) != len(re.findall(rf"^    (?:{kinds})\(", text, re.M)):
+    text, number = SOURCE.read_text(encoding="utf-8"), r"(-?\d+)"
+    # A literal array of a call may be written over several lines.
+    text = re.sub(r"\s+", " ", text).replace("( ", "(").replace("[ ", "[").replace(", )", ")").replace(", ]", "]")
+    listing = r"&\[((?:-?\d+(?:, )?)*)\]"
+    calls = re.findall(rf" (?:show\(rt, {number}, {listing}, {listing}, {number}\)|many\(rt, {number}, {number}\))", text)
+    if len(calls) != len(re.findall(r" (?:show\(rt, -?\d+, &\[|many\(rt, -?\d)", text)):
         raise SystemExit("zone_vectors.py: a call in the program's source is not read")
-    for kind, words in calls:
-        first, *entries, local = [int(word) for word in words.split(",")]
-        instants, offsets = entries[0::2], entries[1::2]
-        if kind == "fewer_instants":
-            instants, offsets = entries[:1], entries[1:]
-        if kind == "many":
-            instants, offsets = [t for t, _ in many[:first]], [o for _, o in many[:first]]
-        show(0 if kind == "many" else first, instants, offsets, local)
+    for initial, instants, offsets, local, count, late in calls:
+        if count:
+            show(0, [t for t, _ in many[:int(count)]], [o for _, o in many[:int(count)]], int(late))
+        else:
+            show(int(initial), *[[int(it) for it in part.split(", ") if it] for part in (instants, offsets)], int(local))
 
 
 main()

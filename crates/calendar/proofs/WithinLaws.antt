@@ -1,14 +1,14 @@
 -- The year of a cycle and the month of a year that hold a day: the guess, or the one after it. And the date that they make.
-use Prim.Native.Nat.{ℕ, zero, suc, ◌+◌, ◌-◌, ◌*◌, ◌/◌, ◌%◌, ◌<◌, ◌≤◌}
+use Prim.Native.Nat.{ℕ, ◌+◌, ◌-◌, ◌*◌, ◌/◌, ◌%◌, ◌<◌, ◌≤◌}
 use mathlib.Core.Bool.{Bool, true, false}
-use mathlib.Core.Path.{◌≡◌, refl, sym, ap, ◌∙◌}
+use mathlib.Core.Path.{◌≡◌, refl, sym, ◌∙◌}
 use native.Mathlib.Omega.{arith}
 use native.Mathlib.Numerals.{add-one}
 use lib.Dec.{ltb}
 use borrow.Author.Tests.{ltb-true, ltb-false}
 use Rattle.gregorian.specs.declared.Date.{Date}
 use Rattle.gregorian.specs.Year.{year_length, first_of_year}
-use Rattle.gregorian.specs.Month.{month_length, month_start}
+use Rattle.gregorian.specs.Month.{month_start}
 use Rattle.gregorian.specs.Days.{day_of, day_count, date_of}
 use Rattle.calendar.specs.Inner.Within.{HoldsDay, HoldsDayOfYear}
 use Rattle.gregorian.proofs.YearLaws.{first-suc, first-cycle, guess-low, guess-high, cycle-length, year-most, length-repeats}

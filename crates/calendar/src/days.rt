@@ -14,21 +14,12 @@ pub fn weekday(day: u32) -> u32
 }
 
 // Whether the calendar has this date.
+#[tactic(auto, unfolding(gregorian::specs::Days::is_date))]
 pub fn is_date(date: Date) -> bool
     ensures { result ≡ is_date date }
 {
-    let year = date.year;
-    let day = date.day;
-    if year < 1600 {
-        return false;
-    }
-    if 9999 < year {
-        return false;
-    }
-    if day < 1 {
-        return false;
-    }
-    day <= super::month::month_length(year, date.month)
+    (1600..=9999).contains(&date.year)
+        && (1..=super::month::month_length(date.year, date.month)).contains(&date.day)
 }
 
 pub fn day_number(date: Date) -> u32

@@ -24,7 +24,5 @@ pub fn seconds_of(moment: Moment) -> i64
     requires { (moment.day < day_count) × (moment.second < 86400) }
     ensures { result ≡ seconds_of moment }
 {
-    let day = moment.day;
-    let second = moment.second;
-    signed::difference(day as u64 * 86400 + second as u64, EPOCH)
+    signed::difference(moment.day as u64 * 86400 + moment.second as u64, EPOCH)
 }

@@ -42,25 +42,22 @@ const COMMON_YEAR: u32 = 365;
 
 const LEAP_YEAR: u32 = 366;
 
+#[tactic(auto, unfolding(gregorian::specs::Year::is_leap))]
 pub(crate) fn is_leap(year: u32) -> bool
     ensures { result ≡ is_leap year }
 {
-    if year % 400 == 0 {
-        return true;
-    }
-    if year % 100 == 0 {
-        return false;
-    }
-    year % 4 == 0
+    year % 400 == 0 || year % 100 != 0 && year % 4 == 0
 }
 
+#[tactic(auto, unfolding(gregorian::specs::Year::year_length))]
 pub fn year_length(year: u32) -> u32
     ensures { result ≡ year_length year }
 {
     if is_leap(year) {
-        return LEAP_YEAR;
+        LEAP_YEAR
+    } else {
+        COMMON_YEAR
     }
-    COMMON_YEAR
 }
 
 // The day number, in the cycle of 400 years that 1600 begins, of the first day of the cycle's year k.

@@ -2,69 +2,43 @@
 // tests/calendar_vectors.py.
 #![tactic(auto)]
 
-ghost use Rattle.std.specs.Prelude.{◌≤◌};
-
 use gregorian::{Date, Moment};
+use show::{Iso, Local, Weekday};
 use std::io;
 
 fn show_date(rt: &impl Print, year: u32, month: u32, day: u32) -> io::Result<()> {
-    let d = Date { year, month, day };
-    show::date(rt, d)?;
-    if !calendar::days::is_date(d) {
-        return show::text(rt, b": no date\n");
+    let date = Date { year, month, day };
+    if !calendar::days::is_date(date) {
+        return println!(rt; "{}: no date", Iso(date));
     }
-    let n = calendar::days::day_number(d);
-    show::text(rt, b": day ")?;
-    show::number(rt, n as u64)?;
-    show::text(rt, b" ")?;
-    show::weekday(rt, calendar::days::weekday(n))?;
-    show::text(rt, b"\n")
+    let n = calendar::days::day_number(date);
+    let weekday = Weekday(calendar::days::weekday(n));
+    println!(rt; "{}: day {n} {weekday}", Iso(date))
 }
 
 fn show_day(rt: &impl Print, n: u32) -> io::Result<()> {
-    show::text(rt, b"day ")?;
-    show::number(rt, n as u64)?;
     if 3068036 < n {
-        return show::text(rt, b": none\n");
+        return println!(rt; "day {n}: none");
     }
-    show::text(rt, b": ")?;
-    show::date(rt, calendar::days::date_of(n))?;
-    show::text(rt, b"\n")
+    println!(rt; "day {n}: {}", Iso(calendar::days::date_of(n)))
 }
 
 fn show_seconds(rt: &impl Print, t: i64) -> io::Result<()> {
-    show::signed_number(rt, t)?;
-    show::text(rt, b": ")?;
-    show::seconds(rt, t)?;
-    show::text(rt, b"\n")
+    println!(rt; "{t}: {}", Local(t))
 }
 
 // The seconds of a day and a second of it.
 fn show_moment(rt: &impl Print, day: u32, second: u32) -> io::Result<()> {
-    show::text(rt, b"day ")?;
-    show::number(rt, day as u64)?;
-    show::text(rt, b" second ")?;
-    show::number(rt, second as u64)?;
-    if 3068036 < day {
-        return show::text(rt, b": none\n");
+    if 3068036 < day || 86399 < second {
+        return println!(rt; "day {day} second {second}: none");
     }
-    if 86399 < second {
-        return show::text(rt, b": none\n");
-    }
-    show::text(rt, b": ")?;
-    show::signed_number(rt, calendar::seconds::seconds_of(Moment { day, second }))?;
-    show::text(rt, b"\n")
+    let seconds = calendar::seconds::seconds_of(Moment { day, second });
+    println!(rt; "day {day} second {second}: {seconds}")
 }
 
 fn show_month_day(rt: &impl Print, year: u32, month: u32, z: i64) -> io::Result<()> {
-    show::signed_number(rt, z)?;
-    show::text(rt, b" of ")?;
-    show::four_digits(rt, year)?;
-    show::text(rt, b"-")?;
-    show::two_digits(rt, month)?;
-    show::text(rt, b": ")?;
-    show::number(rt, calendar::month::month_day(year, month, z) as u64)?;
-    show::text(rt, b"\n")
+    let day = calendar::month::month_day(year, month, z);
+    println!(rt; "{z} of {year:04}-{month:02}: {day}")
 }
 
 // Every day of the calendar to its date and back: how many come back as they were, and a checksum of all dates and weekdays.
@@ -74,36 +48,26 @@ fn sweep(rt: &impl Print) -> io::Result<()> {
     for n in 0..3068037 {
         let d = calendar::days::date_of(n);
         sum = mixed(sum, d, calendar::days::weekday(n));
-        same += came_back(d, n);
+        if came_back(d, n) {
+            same += 1;
+        }
     }
-    show::text(rt, b"days that come back: ")?;
-    show::number(rt, same)?;
-    show::text(rt, b", checksum ")?;
-    show::number(rt, sum)?;
-    show::text(rt, b"\n")
+    println!(rt; "days that come back: {same}, checksum {sum}")
 }
 
 // The checksum with one day more.
 fn mixed(sum: u64, d: Date, weekday: u32) -> u64 {
     let next = sum % 1000003 * 8191
-        + d.year as u64 * 372
-        + d.month as u64 * 31
-        + d.day as u64 * 7
-        + weekday as u64;
+        + u64::from(d.year) * 372
+        + u64::from(d.month) * 31
+        + u64::from(d.day) * 7
+        + u64::from(weekday);
     next % 1000003
 }
 
-// 1 where d is a date and its day is n.
-fn came_back(d: Date, n: u32) -> u64
-    ensures { result ≤ 1 }
-{
-    if !calendar::days::is_date(d) {
-        return 0;
-    }
-    if calendar::days::day_number(d) == n {
-        return 1;
-    }
-    0
+// Whether d is a date and its day is n.
+fn came_back(d: Date, n: u32) -> bool {
+    calendar::days::is_date(d) && calendar::days::day_number(d) == n
 }
 
 // The dates of document 01's worked dates, and their neighbours.

@@ -1,9 +1,8 @@
 // One case.
 ghost use Rattle.std.specs.Prelude.{◌≤◌, ◌<◌, ◌^◌, length};
 
-use crate::print::{hexadecimal, number, say};
-use crate::zones;
-use crate::zones::Zone;
+use crate::print::hexadecimal;
+use crate::zones::{Zone, numbered};
 use record::window::since_1970;
 use smocurant::by_numbers::smocurant_expand;
 use smocurant::places::smocurant_locate;
@@ -13,10 +12,7 @@ use std::io;
 fn locate(rt: &impl Print, text: &[u8]) -> io::Result<()> {
     let mut place: u64 = 999999;
     let answer = smocurant_locate(text, &mut place);
-    number(rt, answer as u64)?;
-    say(rt, b" ")?;
-    number(rt, place)?;
-    say(rt, b" ")
+    print!(rt; "{answer} {place} ")
 }
 
 // How many bytes from a place on are not what they were: 0.
@@ -27,32 +23,19 @@ fn changed(buffer: &[u8], from: usize) -> u64
 }
 
 fn show(rt: &impl Print, answer: u32, size: u64, buffer: &[u8]) -> io::Result<()> {
-    number(rt, answer as u64)?;
-    say(rt, b" ")?;
-    number(rt, size)?;
-    say(rt, b" ")?;
+    print!(rt; "{answer} {size} ")?;
     if size <= buffer.len() as u64 {
         let end = size as usize;
+        let rest = changed(buffer, end);
         hexadecimal(rt, &buffer[..end])?;
-        say(rt, b" ")?;
-        number(rt, changed(buffer, end))?;
+        print!(rt; " {rest}")?;
     }
-    say(rt, b"\n")
-}
-
-fn room_of(room: u64) -> usize
-    ensures { result ≤ 8192 }
-{
-    if room < 8192 {
-        return room as usize;
-    }
-    8192
+    println!(rt)
 }
 
 fn run(
     rt: &impl Print,
     zone: Zone,
-    name: &[u8],
     text: &[u8],
     from: u64,
     to: u64,
@@ -63,7 +46,7 @@ fn run(
     let mut size: u64 = 0;
     let answer = smocurant_expand(
         text,
-        name,
+        zone.name,
         zone.initial,
         &zone.instants,
         &zone.offsets,
@@ -73,58 +56,6 @@ fn run(
         &mut size,
     );
     show(rt, answer, size, buffer)
-}
-
-// The zone table is given by its number: 0 is New York's, and so is every number that is not listed.
-fn run_in(
-    rt: &impl Print,
-    zone_number: u64,
-    text: &[u8],
-    from: u64,
-    to: u64,
-    buffer: &mut [u8],
-) -> io::Result<()>
-    requires { (from < 2 ^ 60) × (to < 2 ^ 60) }
-{
-    match zone_number {
-        1 => run(
-            rt,
-            zones::london(),
-            b"Europe/London",
-            text,
-            from,
-            to,
-            buffer,
-        ),
-        2 => run(
-            rt,
-            zones::lord_howe(),
-            b"Australia/Lord_Howe",
-            text,
-            from,
-            to,
-            buffer,
-        ),
-        3 => run(rt, zones::apia(), b"Pacific/Apia", text, from, to, buffer),
-        4 => run(
-            rt,
-            zones::widest(),
-            b"Example/Widest",
-            text,
-            from,
-            to,
-            buffer,
-        ),
-        _ => run(
-            rt,
-            zones::new_york(),
-            b"America/New_York",
-            text,
-            from,
-            to,
-            buffer,
-        ),
-    }
 }
 
 pub(crate) fn call(
@@ -139,6 +70,13 @@ pub(crate) fn call(
 {
     locate(rt, text)?;
     let mut buffer = [0u8; 8192];
-    let end = room_of(room);
-    run_in(rt, zone_number, text, from, to, &mut buffer[..end])
+    let end = room.min(8192) as usize;
+    run(
+        rt,
+        numbered(zone_number),
+        text,
+        from,
+        to,
+        &mut buffer[..end],
+    )
 }

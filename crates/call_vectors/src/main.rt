@@ -25,16 +25,15 @@ fn text_end(all: &[u8], from: usize) -> usize
     requires { from ≤ length all.now }
     ensures { (from ≤ result) × (result ≤ length all.now) }
 {
-    for i in from..all.len() {
-        if all[i] == MARK {
-            return i;
-        }
+    match all[from..].iter().position(|b| *b == MARK) {
+        Some(n) => from + n,
+        None => all.len(),
     }
-    all.len()
 }
 
 fn read_all(rt: &impl Print, all: &[u8]) -> io::Result<()> {
     let mut at = 0;
+    // No for: a case begins where the text of the one before ends.
     while at < all.len() {
         let zone = numbers::number_at(all, at);
         let from = numbers::number_at(all, zone.next);

@@ -12,7 +12,7 @@ fn append(n: u64, digit: u8) -> u64
     ensures { result < 2 ^ 60 }
 {
     if n < 1000000000000000 {
-        return n * 10 + (digit % 16) as u64;
+        return n * 10 + u64::from(digit % 16);
     }
     0
 }

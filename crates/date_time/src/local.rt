@@ -12,27 +12,20 @@ use digits::legal_fraction;
 use json_text::bytes::byte;
 
 // Is what stands before a fraction right?
+#[tactic(auto, unfolding(crate::specs::Local::is_local))]
 fn is_local(raw: &[u8], last: u32) -> bool
     ensures { result ≡ is_local last raw.now }
 {
-    if !follows(b"0000-00-00T00:00:00", raw) {
-        return false;
-    }
     let date = date(raw);
-    let year = date.year;
-    if !is_date(date) {
-        return false;
-    }
-    if !is_time(raw) {
-        return false;
-    }
-    if year < 1601 {
-        return false;
-    }
-    year <= last
+    follows(b"0000-00-00T00:00:00", raw)
+        && is_date(date)
+        && is_time(raw)
+        && 1601 <= date.year
+        && date.year <= last
 }
 
 // The fault of what stands after the seconds.
+#[tactic(auto, unfolding(crate::specs::Local::fraction_fault))]
 fn fraction_fault(raw: &[u8]) -> u32
     ensures { result ≡ fraction_fault raw.now }
 {
@@ -45,15 +38,17 @@ fn fraction_fault(raw: &[u8]) -> u32
     21
 }
 
+#[tactic(auto, unfolding(crate::specs::Local::seconds_at))]
 fn seconds(raw: &[u8]) -> u64
     requires { is_date (date_at raw.now) ≡ true }
     ensures { result ≡ seconds_at raw.now }
 {
     let day = day_number(date(raw));
     let second = second_of_day(raw);
-    86400 * (day as u64) + second as u64
+    86400 * u64::from(day) + u64::from(second)
 }
 
+#[tactic(auto, unfolding(crate::specs::Local::local_of))]
 pub fn local(raw: &[u8], last: u32) -> DateTime
     ensures { result ≡ local_of last raw.now }
 {

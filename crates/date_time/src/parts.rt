@@ -6,6 +6,7 @@ use calendar::month::month_length;
 use digits::{four, two};
 use gregorian::Date;
 
+#[tactic(auto, unfolding(crate::specs::Parts::date_at))]
 pub(crate) fn date(raw: &[u8]) -> Date
     ensures { result ≡ date_at raw.now }
 {
@@ -15,29 +16,22 @@ pub(crate) fn date(raw: &[u8]) -> Date
     Date { year, month, day }
 }
 
+#[tactic(auto, unfolding(crate::specs::Parts::is_time))]
 pub(crate) fn is_time(raw: &[u8]) -> bool
     ensures { result ≡ is_time raw.now }
 {
-    if 23 < two(raw, 11) {
-        return false;
-    }
-    if 59 < two(raw, 14) {
-        return false;
-    }
-    two(raw, 17) <= 59
+    two(raw, 11) <= 23 && two(raw, 14) <= 59 && two(raw, 17) <= 59
 }
 
 // Has the month this day?
+#[tactic(auto, unfolding(crate::specs::Parts::is_real))]
 pub(crate) fn is_real(date: Date) -> bool
     ensures { result ≡ is_real date }
 {
-    let day = date.day;
-    if day < 1 {
-        return false;
-    }
-    day <= month_length(date.year, date.month)
+    1 <= date.day && date.day <= month_length(date.year, date.month)
 }
 
+#[tactic(auto, unfolding(crate::specs::Parts::second_of_day))]
 pub(crate) fn second_of_day(raw: &[u8]) -> u32
     ensures { result ≡ second_of_day raw.now }
 {

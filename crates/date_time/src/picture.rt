@@ -2,15 +2,13 @@
 ghost use Rattle.std.specs.Prelude.{◌≡◌};
 ghost use Rattle.date_time.specs.Picture.{meets, follows};
 
-use json_text::bytes::{byte, is_digit};
+use json_text::bytes::is_digit;
 
+#[tactic(auto, unfolding(crate::specs::Picture::meets))]
 fn meets(p: u8, b: u8) -> bool
     ensures { result ≡ meets p b }
 {
-    if p == 0x30 {
-        return is_digit(b);
-    }
-    b == p
+    if p == 0x30 { is_digit(b) } else { b == p }
 }
 
 // Does the string begin as the picture shows?
@@ -20,12 +18,10 @@ pub(crate) fn follows(picture: &[u8], raw: &[u8]) -> bool
     if raw.len() < picture.len() {
         return false;
     }
-    let mut i = 0;
-    while i < picture.len() {
-        if !meets(byte(picture, i), byte(raw, i)) {
+    for i in 0..picture.len() {
+        if !meets(picture[i], raw[i]) {
             return false;
         }
-        i += 1;
     }
     true
 }

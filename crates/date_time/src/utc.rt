@@ -8,6 +8,7 @@ use digits::legal_fraction;
 use json_text::bytes::byte;
 
 // Is what stands after the seconds right?
+#[tactic(auto, unfolding(crate::specs::Utc::ends_in_z))]
 fn ends_in_z(raw: &[u8]) -> bool
     ensures { result ≡ ends_in_z raw.now }
 {
@@ -29,17 +30,9 @@ fn ends_in_z(raw: &[u8]) -> bool
     legal_fraction(&raw[20..end])
 }
 
+#[tactic(auto, unfolding(crate::specs::Utc::is_utc))]
 pub fn is_utc(raw: &[u8]) -> bool
     ensures { result ≡ is_utc raw.now }
 {
-    if !follows(b"0000-00-00T00:00:00", raw) {
-        return false;
-    }
-    if !is_real(date(raw)) {
-        return false;
-    }
-    if !is_time(raw) {
-        return false;
-    }
-    ends_in_z(raw)
+    follows(b"0000-00-00T00:00:00", raw) && is_real(date(raw)) && is_time(raw) && ends_in_z(raw)
 }

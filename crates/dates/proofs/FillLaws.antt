@@ -1,9 +1,9 @@
 -- A run that was marked step by step has the set of the event.
 use Rattle.std.specs.Prelude.{if◌then◌else◌}
-use Prim.Native.Nat.{ℕ, zero, suc, ◌+◌, ◌-◌, ◌*◌, ◌/◌, ◌%◌, ◌<◌, ◌≤◌}
+use Prim.Native.Nat.{ℕ, zero, suc, ◌/◌, ◌%◌}
 use mathlib.Core.Bool.{Bool, true, false}
-use mathlib.Core.List.{List, [], ◌∷◌}
-use mathlib.Core.Path.{◌≡◌, refl, sym, ap, ◌∙◌, subst}
+use mathlib.Core.List.{List, ◌∷◌}
+use mathlib.Core.Path.{◌≡◌, refl, ap, ◌∙◌}
 use native.Mathlib.Omega.{arith}
 use lib.Dec.{eqb}
 use borrow.Author.Tests.{eq-eqb, eqb-true}
@@ -13,7 +13,7 @@ use Rattle.track.specs.Inner.Runs.{marked, run}
 use Rattle.track.specs.Inner.Settle.{cleared}
 use Rattle.track.proofs.RunLaws.{marked-run, run-same}
 use Rattle.dates.specs.Inner.Tracked.{some_has, mark_each}
-use Rattle.dates.specs.Inner.Overrides.{is_named, is_date, names_day}
+use Rattle.dates.specs.Inner.Overrides.{is_date, names_day}
 use Rattle.dates.specs.Inner.Loaded.{Loaded, by_rules, is_in, is_on}
 use Rattle.dates.proofs.TrackLaws.{each-run}
 

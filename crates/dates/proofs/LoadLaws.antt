@@ -1,15 +1,14 @@
 -- Rules that are loaded one after the other stand for the rules of an event.
-use Prim.Native.Nat.{ℕ, zero, suc, ◌+◌, ◌-◌, ◌*◌, ◌/◌, ◌<◌, ◌≤◌}
-use mathlib.Core.Bool.{Bool, true, false}
+use Prim.Native.Nat.{ℕ, zero, suc, ◌+◌, ◌*◌, ◌<◌, ◌≤◌}
+use mathlib.Core.Bool.{Bool}
 use mathlib.Core.List.{List, [], ◌∷◌, ◌++◌}
-use mathlib.Core.Path.{◌≡◌, refl, sym, ap, ◌∙◌, subst}
+use mathlib.Core.Path.{◌≡◌, sym, ap, ◌∙◌, subst}
 use native.Mathlib.Omega.{arith}
 use native.Mathlib.Numerals.{add-one}
-use lib.ListN.{length, take, drop, get_or, set, length-set}
-use lib.Seq.{take_at, drop_at, length-take-le, take-suc-set, take-add, take-take, drop-drop, take-nil}
+use lib.ListN.{length, take, drop, set, length-set}
+use lib.Seq.{take_at, drop_at, length-take-le, take-suc-set, take-take, drop-drop, take-nil}
 use Rattle.rule.specs.declared.Rule.{Rule}
 use Rattle.rule.specs.Written.{RecurrenceRule}
-use Rattle.rule.specs.Gives.{end_day}
 use Rattle.rule.specs.Inner.Read.{written}
 use Rattle.matcher.specs.Inner.Layout.{row_size}
 use Rattle.track.specs.declared.Track.{Track}

@@ -1,50 +1,16 @@
 -- Clearing a run, marking a date-time and marking the overrides.
-use Rattle.std.specs.Prelude.{if◌then◌else◌}
-use Prim.Native.Nat.{ℕ, zero, suc, ◌+◌, ◌-◌, ◌*◌, ◌/◌, ◌%◌, ◌<◌, ◌≤◌}
+use Prim.Native.Nat.{ℕ, ◌+◌, ◌-◌, ◌/◌, ◌%◌, ◌<◌, ◌≤◌}
 use mathlib.Core.Bool.{Bool, true, false, ◌&&◌, ◌||◌}
-use mathlib.Core.List.{List, [], ◌∷◌, ◌++◌}
-use mathlib.Core.Path.{◌≡◌, refl, sym, ap, ◌∙◌, subst}
+use mathlib.Core.List.{List, [], ◌∷◌}
+use mathlib.Core.Path.{◌≡◌, refl, sym, ap, ◌∙◌}
 use native.Mathlib.Omega.{arith}
-use native.Mathlib.Numerals.{add-one}
 use lib.Dec.{eqb}
-use lib.ListN.{length, take, drop, get_or, set, replicate, length-set}
-use lib.Seq.{drop-cons, drop-length, take-suc-set, take_all}
+use lib.ListN.{length, set}
 use borrow.Author.Tests.{eq-eqb, ne_eqb}
 use Rattle.rule.specs.Gives.{on_day}
-use Rattle.track.specs.Inner.Runs.{marked, run}
-use Rattle.track.specs.Inner.Settle.{cleared}
-use Rattle.track.proofs.RunLaws.{marked-length, marked-or, marked-same, marked-none, marked-one}
+use Rattle.track.specs.Inner.Runs.{marked}
+use Rattle.track.proofs.RunLaws.{marked-or, marked-same, marked-none, marked-one}
 use Rattle.dates.specs.Inner.Overrides.{counts, is_named, is_date, names_day}
-
--- ---- clearing
-
-pub record ClearAt (before hits : List Bool) (i : ℕ) : Type 0 where
-  pub within : i ≤ length hits
-  pub size : length hits ≡ length before
-  pub clear : take i hits ≡ replicate i false
-
-replicate-snoc : (n : ℕ) → replicate n false ++ (false ∷ []) ≡ replicate (suc n) false
-replicate-snoc zero = refl
-replicate-snoc (suc n) = ap (λ (l : List Bool). false ∷ l) (replicate-snoc n)
-
-pub clear-starts : (before : List Bool) → ClearAt before before 0
-clear-starts before = record { within = omega arith; size = refl; clear = refl }
-
-module _ (before hits : List Bool) where
-  pub clear-goes-on : (i : ℕ) → ClearAt before hits i → i < length hits → ClearAt before (set hits i false) (i + 1)
-  clear-goes-on i a more =
-      rw (add-one i)
-      (record {
-        within = rw (length-set hits i false) more;
-        size = length-set hits i false ∙ a.size;
-        clear = take-suc-set hits i false more ∙ (ap (λ (l : List Bool). l ++ (false ∷ [])) a.clear ∙ replicate-snoc i);
-      })
-
-  pub clear-ends : (i : ℕ) → ClearAt before hits i → length hits ≤ i → hits ≡ cleared (length before)
-  unfolding cleared
-  clear-ends i a over =
-      let all : i ≡ length before = omega (arith, a.within, a.size) in
-      sym (take_all i hits over) ∙ (a.clear ∙ ap (λ (n : ℕ). replicate n false) all)
 
 -- ---- one date-time
 
@@ -80,48 +46,30 @@ module _ (start x first : ℕ) (value : Bool) (hits : List Bool) where
       (eq-eqb x (on_day start (first + (x / 86400 - first))) (omega arith))
       (λ e other. ne_eqb x (on_day start e) (λ same. other (omega arith))))
 
--- ---- the overrides, one after the other
+-- ---- the overrides, one after the other: those that are left mark here what all of them mark in the run as it was
 
-pub record IdsAt (only : Bool) (ids : List ℕ) (gone : List Bool) (start : ℕ) (value : Bool) (first : ℕ) (before hits : List Bool) (i : ℕ) : Type 0 where
-  pub within : i ≤ length ids
-  pub size : length hits ≡ length before
-  pub same : marked (names_day only (drop i ids) (drop i gone) start) value first hits ≡ marked (names_day only ids gone start) value first before
+pub record IdsAt (only : Bool) (ids : List ℕ) (gone : List Bool) (start : ℕ) (value : Bool) (first : ℕ) (before hits : List Bool) (left : List ℕ) (marks : List Bool) : Type 0 where
+  pub sizes : length left ≡ length marks
+  pub same : marked (names_day only left marks start) value first hits ≡ marked (names_day only ids gone start) value first before
 
 module _ (only : Bool) (ids : List ℕ) (gone : List Bool) (start : ℕ) (value : Bool) (first : ℕ) (before : List Bool) where
-  pub ids-start : IdsAt only ids gone start value first before before 0
-  ids-start = record { within = omega arith; size = refl; same = refl }
-
-  pub ids-go-on : (hits next : List Bool) (i : ℕ) (counted : Bool) → IdsAt only ids gone start value first before hits i → i < length ids → length ids ≡ length gone
-      → counted ≡ counts only (get_or gone i false) → next ≡ marked (is_date counted start (get_or ids i 0)) value first hits
-      → IdsAt only ids gone start value first before next (i + 1)
+  pub ids-go-on : (hits next : List Bool) (i : ℕ) (g : Bool) (left : List ℕ) (marks : List Bool) (counted : Bool)
+      → IdsAt only ids gone start value first before hits (i ∷ left) (g ∷ marks)
+      → counted ≡ counts only g → next ≡ marked (is_date counted start i) value first hits
+      → IdsAt only ids gone start value first before next left marks
   unfolding names_day is_named is_date
-  ids-go-on hits next i counted a more same_length is is-next =
-      let rest_ids : drop i ids ≡ get_or ids i 0 ∷ drop (suc i) ids = drop-cons ids i 0 more in
-      let rest_gone : drop i gone ≡ get_or gone i false ∷ drop (suc i) gone = drop-cons gone i false (omega arith) in
-      let whole : marked (names_day only (get_or ids i 0 ∷ drop (suc i) ids) (get_or gone i false ∷ drop (suc i) gone) start) value first hits ≡ marked (names_day only ids gone start) value first before =
-      ap (λ (g : List Bool). marked (names_day only (get_or ids i 0 ∷ drop (suc i) ids) g start) value first hits) (sym rest_gone)
-      ∙ (ap (λ (l : List ℕ). marked (names_day only l (drop i gone) start) value first hits) (sym rest_ids) ∙ a.same)
-      in
-      rw (add-one i)
-      (record {
-        within = more;
-        size = ap length is-next ∙ (marked-length (is_date counted start (get_or ids i 0)) value first hits ∙ a.size);
+  ids-go-on hits next i g left marks counted a is is-next =
+      let sizes = a.sizes in
+      record {
+        sizes = omega arith;
         same =
-            ap (marked (names_day only (drop (suc i) ids) (drop (suc i) gone) start) value first) is-next
-            ∙ (marked-or (is_date counted start (get_or ids i 0)) (names_day only (drop (suc i) ids) (drop (suc i) gone) start) value first hits
-            ∙ (marked-same _ _ value first hits
-            (λ e. ap (λ (b : Bool). (b && eqb (get_or ids i 0) (on_day start e)) || is_named only (drop (suc i) ids) (drop (suc i) gone) (on_day start e)) is)
-            ∙ whole));
-      })
+            ap (marked (names_day only left marks start) value first) is-next
+            ∙ (marked-or (is_date counted start i) (names_day only left marks start) value first hits
+            ∙ (marked-same _ _ value first hits (λ e. ap (λ (b : Bool). (b && eqb i (on_day start e)) || is_named only left marks (on_day start e)) is)
+            ∙ a.same));
+      }
 
-  pub ids-end : (hits : List Bool) (i : ℕ) → IdsAt only ids gone start value first before hits i → length ids ≤ i
+  pub ids-end : (hits : List Bool) → IdsAt only ids gone start value first before hits [] []
       → hits ≡ marked (names_day only ids gone start) value first before
   unfolding names_day is_named
-  ids-end hits i a over =
-      let all : i ≡ length ids = omega (arith, a.within) in
-      let none : drop i ids ≡ [] = rw all (drop-length ids) in
-      let gone-by : marked (names_day only (drop i ids) (drop i gone) start) value first hits ≡ hits =
-      ap (λ (l : List ℕ). marked (names_day only l (drop i gone) start) value first hits) none
-      ∙ marked-none (names_day only [] (drop i gone) start) value first hits (λ e low high. refl)
-      in
-      sym gone-by ∙ a.same
+  ids-end hits a = sym (marked-none (names_day only [] [] start) value first hits (λ e low high. refl)) ∙ a.same

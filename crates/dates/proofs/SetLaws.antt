@@ -1,16 +1,16 @@
 -- The set over what the code keeps is the set of the event that it stands for.
 use Rattle.std.specs.Prelude.{if◌then◌else◌}
-use Prim.Native.Nat.{ℕ, zero, suc, ◌+◌, ◌-◌, ◌*◌, ◌/◌, ◌%◌, ◌<◌, ◌≤◌}
+use Prim.Native.Nat.{ℕ, ◌/◌, ◌%◌, ◌<◌, ◌≤◌}
 use mathlib.Core.Bool.{Bool, true, false, not, ◌&&◌, ◌||◌}
 use mathlib.Core.List.{List, [], ◌∷◌}
-use mathlib.Core.Path.{◌≡◌, refl, sym, ap, ◌∙◌, subst}
+use mathlib.Core.Path.{◌≡◌, refl, sym, ap, ◌∙◌}
 use native.Mathlib.Omega.{arith}
 use lib.Dec.{eqb, ltb}
 use lib.ListN.{take, drop}
 use borrow.Author.Tests.{eq-eqb, ne_eqb, eqb-true, eqb-false, ltb-true, ltb-false, lt-ltb}
 use Rattle.rule.specs.Written.{RecurrenceRule}
 use Rattle.rule.specs.Lists.{any}
-use Rattle.rule.specs.Gives.{end_day, on_day, gives}
+use Rattle.rule.specs.Gives.{on_day, gives}
 use Rattle.rule.proofs.Bools.{by}
 use Rattle.matcher.specs.Inner.Layout.{row_size}
 use Rattle.matcher.specs.Inner.Member.{is_first}

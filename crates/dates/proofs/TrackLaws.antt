@@ -3,11 +3,11 @@ use Rattle.std.specs.Prelude.{if◌then◌else◌}
 use Prim.Native.Nat.{ℕ, zero, suc, ◌+◌, ◌-◌, ◌*◌, ◌<◌, ◌≤◌}
 use mathlib.Core.Bool.{Bool, true, false, ◌||◌}
 use mathlib.Core.List.{List, [], ◌∷◌}
-use mathlib.Core.Path.{◌≡◌, refl, sym, ap, ◌∙◌, subst}
+use mathlib.Core.Path.{◌≡◌, refl, sym, ap, ◌∙◌}
 use native.Mathlib.Omega.{arith}
 use native.Mathlib.Numerals.{add-one}
 use lib.ListN.{length, take, drop, get_or, length-drop}
-use lib.Seq.{drop-cons, drop-drop, drop-length, length-take-le, get_or-take}
+use lib.Seq.{drop-cons, drop-drop, drop-length, length-take-le}
 use Rattle.matcher.specs.Inner.Layout.{row_size}
 use Rattle.track.specs.declared.Track.{Track}
 use Rattle.track.specs.Inner.Runs.{has_day, marked, run, Marking}
@@ -80,21 +80,15 @@ row_is flags i =
     let less : row_size * i + row_size - row_size * i ≡ row_size = omega arith in
     rw less
 
-module _ (ts : Tracks) (flags : List Bool) (k : Tracked ts (length flags)) (i : ℕ) (h : i < ts.count) (d : Track) where
-  pub tracks-length : length (tracks_of ts) ≡ ts.count
-  tracks-length = length-take-le ts.count ts.list k.list
-
-  pub track-at : get_or ts.list i d ≡ get_or (tracks_of ts) i d
-  track-at = sym (get_or-take ts.count ts.list i d h)
-
-  pub marking : (first n m : ℕ) → Run first n → m ≡ n
-      → Marking (get_or ts.list i d) (length (take (row_size * i + row_size - row_size * i) (drop (row_size * i) flags))) first m
-  marking first n m r same =
-      let rest = length-drop (row_size * i) flags in
-      let size : row_size ≤ length (drop (row_size * i) flags) = omega (arith, k.rows) in
-      record {
-        row_length = ap length (row_is flags i) ∙ length-take-le row_size (drop (row_size * i) flags) size;
-        week = rw track-at (weeks-at (tracks_of ts) i d k.weeks (omega (arith, tracks-length)));
-        low = r.low;
-        high = omega (arith, r.high);
-      }
+pub marking : (ts : Tracks) (flags : List Bool) (k : Tracked ts (length flags)) (i : ℕ) (d : Track) (first n m : ℕ) → i < length (tracks_of ts) → Run first n → m ≡ n
+    → Marking (get_or (tracks_of ts) i d) (length (take (row_size * i + row_size - row_size * i) (drop (row_size * i) flags))) first m
+marking ts flags k i d first n m h r same =
+    let rest = length-drop (row_size * i) flags in
+    let less = length-take-le ts.count ts.list k.list in
+    let size : row_size ≤ length (drop (row_size * i) flags) = omega (arith, k.rows) in
+    record {
+      row_length = ap length (row_is flags i) ∙ length-take-le row_size (drop (row_size * i) flags) size;
+      week = weeks-at (tracks_of ts) i d k.weeks h;
+      low = r.low;
+      high = omega (arith, r.high);
+    }

@@ -16,7 +16,7 @@ pub fn fill(dates: Dates, rows: &[bool], ids: &[u64], gone: &[bool], hits: &mut 
 {
     let start = dates.start;
     let begin = (start / 86400) as u32;
-    super::marks::clear(hits);
+    hits.fill(false);
     super::marks::mark_tracks(dates.rules, &rows[..LIST], hits, first, begin, true);
     super::marks::mark_date(hits, first, start, start, true, true);
     super::marks::mark_tracks(dates.excluded, &rows[LIST..], hits, first, begin, false);

@@ -33,18 +33,17 @@ fn settle_row(excluded: bool, rule: Rule, start: u64, limit: u32, row: &mut [boo
     requires { Sized rule × Settling (length row.old) start limit }
     ensures { SettledBy excluded rule start limit (cleared (length row.old)) row.new result }
 {
-    super::marks::clear(row);
+    row.fill(false);
     track::settle::settle(excluded, rule, start, limit, row)
 }
 
-fn put_track(tracks: Tracks, track: Track) -> Tracks
+fn put_track(mut tracks: Tracks, track: Track) -> Tracks
     requires { (tracks.count < length tracks.list) × (tracks.count < 8) }
     ensures { result ≡ put tracks track }
 {
-    let i = tracks.count;
-    let mut list = tracks.list;
-    list[i] = track;
-    Tracks { list, count: i + 1 }
+    tracks.list[tracks.count] = track;
+    tracks.count += 1;
+    tracks
 }
 
 // One more rule: its row is the next of the flags.
@@ -59,8 +58,7 @@ pub fn load(
     requires { Sized rule × Loading tracks.count (length tracks.list) (length flags.old) start limit }
     ensures { Added excluded rule start limit tracks flags.old flags.new result }
 {
-    let i = tracks.count;
-    let at = ROW * i;
+    let at = ROW * tracks.count;
     let track = settle_row(excluded, rule, start, limit, &mut flags[at..at + ROW]);
     put_track(tracks, track)
 }

@@ -1,5 +1,5 @@
 -- What decides of a list of faults is what the conditions give.
-use Rattle.std.specs.Prelude.{if◌then◌else◌}
+use Rattle.std.specs.Prelude.{if◌then◌else◌, Some, None}
 use Prim.Native.Nat.{ℕ, suc, ◌≤◌, ◌<◌}
 use mathlib.Core.Bool.{Bool, true, false, not, ◌&&◌, ◌||◌}
 use mathlib.Core.List.{List, [], ◌∷◌, ◌++◌, map}
@@ -11,9 +11,8 @@ use Rattle.signed.proofs.Parts.{false-true}
 use mathlib.Core.Logic.{⊎_elim}
 use Rattle.rule.proofs.Bools.{by, or-either, left, right}
 use Rattle.rule.specs.Lists.{any}
-use Rattle.fault.specs.declared.First.{First}
-use Rattle.fault.specs.declared.First.TheVariants.{None, At}
-use Rattle.fault.specs.Fault.{Fault, is_wrong, order, decides, lower, first, first_number, first_place}
+use Rattle.fault.specs.declared.Fault.{Fault}
+use Rattle.fault.specs.Fault.{is_wrong, order, decides, lower, first, first_number, first_place, First}
 use Rattle.fault.proofs.Laws.{Comes, by_order, by_place, by_number, comes, later as comes-later, told, through}
 use Rattle.event.proofs.ValueNumbers.{is_number}
 use Rattle.event.proofs.Numbers.{Each, AllNumbered}
@@ -34,7 +33,7 @@ record Found (l : List Fault) (n p : ℕ) : Type 0 where
 
 abbrev Finds : List Fault → First → Type 0
 Finds l None = l ≡ []
-Finds l (At n p) = Found l n p
+Finds l (Some f) = Found l f.number f.place
 
 itself : (n p : ℕ) → is_at n p (record { number = n; place = p }) ≡ true
 itself n p = rw (eq-eqb n n refl, eq-eqb p p refl)
@@ -51,18 +50,18 @@ unfolding first lower any
 finds [] = refl
 finds (f ∷ l) = go (first l) (finds l)
   where
-    go : (x : First) → Finds l x → Finds (f ∷ l) (lower (At f.number f.place) x)
+    go : (x : First) → Finds l x → Finds (f ∷ l) (lower (Some f) x)
     go None e = rw e (record { there = rw (itself f.number f.place); least = (same-decides f.number f.place, tt) })
-    go (At m q) h = two (decides f.number f.place m q) refl
+    go (Some g) h = two (decides f.number f.place g.number g.place) refl
       where
-        two : (t : Bool) → decides f.number f.place m q ≡ t → Finds (f ∷ l) (if t then At f.number f.place else At m q)
+        two : (t : Bool) → decides f.number f.place g.number g.place ≡ t → Finds (f ∷ l) (if t then Some f else Some g)
         two true e = record {
           there = rw (itself f.number f.place);
-          least = (same-decides f.number f.place, after-all f.number f.place m q e l h.least);
+          least = (same-decides f.number f.place, after-all f.number f.place g.number g.place e l h.least);
         }
         two false e = record {
-          there = rw h.there (or-true (is_at m q f));
-          least = (told m q f.number f.place (comes-later f.number f.place m q e), h.least);
+          there = rw h.there (or-true (is_at g.number g.place f));
+          least = (told g.number g.place f.number f.place (comes-later f.number f.place g.number g.place e), h.least);
         }
 
 -- ---- the conditions
@@ -289,7 +288,7 @@ module _ (l : List Fault) (numbers : AllNumbered l) where
     where
       go : (x : First) → Finds l x → Given (fault_conditions l) (first_number x)
       go None e = nothing-given l e
-      go (At n p) found = decided n p found (is_wrong n) refl
+      go (Some f) found = decided f.number f.place found (is_wrong f.number) refl
 
   -- and for 20 to 26 it stands at its place, with nothing that is wrong before it
   pub fault-located : is_wrong (first_number (first l)) ≡ true
@@ -300,4 +299,4 @@ module _ (l : List Fault) (numbers : AllNumbered l) where
       go : (x : First) → Finds l x → is_wrong (first_number x) ≡ true
           → (any (is_at (first_number x) (first_place x)) l ≡ true) × (any (earlier (first_number x) (first_place x)) l ≡ false)
       go None e w = false-true (unfold is_wrong in w)
-      go (At n p) found w = rw w (found.there, none_passes (After n p) (earlier n p) (not_earlier n p w) l found.least)
+      go (Some f) found w = rw w (found.there, none_passes (After f.number f.place) (earlier f.number f.place) (not_earlier f.number f.place w) l found.least)

@@ -1,5 +1,5 @@
 -- Request 4: what the call for the place of a fault hands back.
-use Rattle.std.specs.Prelude.{if◌then◌else◌}
+use Rattle.std.specs.Prelude.{if◌then◌else◌, Some, None, Result, Ok, Err}
 use Prim.Native.Nat.{ℕ}
 use mathlib.Core.Bool.{Bool, true, false}
 use mathlib.Core.List.{List}
@@ -11,11 +11,10 @@ use lib.IntN.{ℤ}
 use lib.ListN.{length}
 use borrow.Author.Tests.{ne_eqb}
 use Rattle.signed.proofs.Parts.{false-true}
-use Rattle.fault.specs.Fault.{Fault, is_wrong, first, first_number, first_place}
-use Rattle.fault.specs.declared.First.{First}
-use Rattle.fault.specs.declared.First.TheVariants.{None, At}
-use Rattle.json_text.specs.declared.Read.{Read}
-use Rattle.json_text.specs.declared.Read.TheVariants.{To, Bad, Deep}
+use Rattle.fault.specs.declared.Fault.{Fault}
+use Rattle.fault.specs.Fault.{is_wrong, first, first_number, first_place, First, a_fault}
+use Rattle.json_text.specs.declared.SyntaxError.{SyntaxError}
+use Rattle.json_text.specs.declared.SyntaxError.TheVariants.{Malformed, TooDeep}
 use Rattle.json_value.specs.Values.{text_at}
 use Rattle.json_tree.specs.Faults.{faulty}
 use Rattle.json_tree.specs.Tree.{text_tree}
@@ -47,15 +46,14 @@ answer-low : (s : List ℕ) → NotWrong (answer_of s)
 unfolding is_wrong answer_of
 answer-low s = pick NotWrong (ltb limit (length s)) _ _ refl (read (text_at s))
   where
-    paired : (r : Read) → NotWrong (paired_answer s r)
-    paired (To i) = unfold paired_answer is_wrong in pick NotWrong (faulty (text_tree s)) _ _ refl refl
-    paired Bad = unfold paired_answer is_wrong in refl
-    paired Deep = unfold paired_answer is_wrong in refl
+    paired : (r : Result ℕ SyntaxError) → NotWrong (paired_answer s r)
+    paired (Ok i) = unfold paired_answer is_wrong in pick NotWrong (faulty (text_tree s)) _ _ refl refl
+    paired (Err e) = unfold paired_answer is_wrong in refl
 
-    read : (r : Read) → NotWrong (read_answer s r)
-    read (To i) = unfold read_answer in paired (pairs_at (length s) s 0)
-    read Bad = unfold read_answer is_wrong in refl
-    read Deep = unfold read_answer is_wrong in refl
+    read : (r : Result ℕ SyntaxError) → NotWrong (read_answer s r)
+    read (Ok i) = unfold read_answer in paired (pairs_at (length s) s 0)
+    read (Err Malformed) = unfold read_answer is_wrong in refl
+    read (Err TooDeep) = unfold read_answer is_wrong in refl
 
 -- ---- the place
 
@@ -70,13 +68,13 @@ without-place s answer e = record { there = λ w. false-true (sym e ∙ w); firs
 
 no-other-place : (x : First) → is_wrong (first_number x) ≡ false → first_place x ≡ 0
 no-other-place None w = refl
-no-other-place (At n p) w = rw w
+no-other-place (Some f) w = rw w
 
 event-placed : (s : List ℕ) → Placed s (event_fault s) (event_place s)
 unfolding event_fault event_place event_first
 event-placed s = go (is_no_event (object (text_tree s)))
   where
-    go : (t : Bool) → Placed s (first_number (if t then At 5 0 else first (faults_of s))) (first_place (if t then At 5 0 else first (faults_of s)))
+    go : (t : Bool) → Placed s (first_number (if t then Some (a_fault 5 0) else first (faults_of s))) (first_place (if t then Some (a_fault 5 0) else first (faults_of s)))
     go true = unfold is_wrong in without-place s 5 refl
     go false =
         record {

@@ -1,5 +1,5 @@
 -- The texts of an event are parts of the text that it was read from.
-use Rattle.std.specs.Prelude.{if◌then◌else◌}
+use Rattle.std.specs.Prelude.{if◌then◌else◌, Result, Ok, Err}
 use Prim.Native.Nat.{ℕ, zero, suc, ◌+◌, ◌-◌, ◌≤◌}
 use mathlib.Core.Bool.{Bool, true, false}
 use mathlib.Core.List.{List, [], ◌∷◌}
@@ -12,8 +12,7 @@ use lib.ListN.{length, take, drop, get_or}
 use lib.Seq.{drop-cons}
 use Rattle.json_text.specs.Bytes.{byte, space_at}
 use Rattle.json_text.specs.Strings.{string_at}
-use Rattle.json_text.specs.declared.Read.{Read}
-use Rattle.json_text.specs.declared.Read.TheVariants.{To, Bad, Deep}
+use Rattle.json_text.specs.declared.SyntaxError.{SyntaxError}
 use Rattle.json_walk.specs.Strings.{bytes_at, raw_at, same}
 use Rattle.json_value.specs.Values.{levels}
 use Rattle.json_walk.specs.Walk.{members_of}
@@ -47,14 +46,13 @@ bytes-part (suc n) s i h =
 abbrev pub Own : List ℕ → Text → Type 0
 Own s t = take (length t.raw) (drop t.at s) ≡ t.raw
 
-raw-own : (s : List ℕ) (i : ℕ) (r : Read) → string_at s i ≡ r → Own s (record { at = i + 1; raw = raw_at s i (end_of r) })
+raw-own : (s : List ℕ) (i : ℕ) (r : Result ℕ SyntaxError) → string_at s i ≡ r → Own s (record { at = i + 1; raw = raw_at s i (end_of r) })
 unfolding raw_at
-raw-own s i (To j) e =
+raw-own s i (Ok j) e =
     let ends = string-end s i j e in
     let n = length-bytes (j - i - 2) s (i + 1) in
     rw n (bytes-part (j - i - 2) s (i + 1) (omega (arith, ends.0, ends.1)))
-raw-own s i Bad e = let z = raw-none s i in unfold raw_at in rw z
-raw-own s i Deep e = let z = raw-none s i in unfold raw_at in rw z
+raw-own s i (Err x) e = let z = raw-none s i in unfold raw_at in rw z
 
 -- A text that may be absent.
 abbrev pub OwnIn : List ℕ → Option Text → Type 0

@@ -1,5 +1,5 @@
 -- The definitions ask 1 to 9 one after the other: what they give is the first of the conditions that holds.
-use Rattle.std.specs.Prelude.{if◌then◌else◌}
+use Rattle.std.specs.Prelude.{if◌then◌else◌, Some, Result, Ok, Err}
 use Prim.Native.Nat.{ℕ, ◌+◌}
 use mathlib.Core.Bool.{Bool, true, false, not, ◌||◌}
 use mathlib.Core.List.{List, [], ◌∷◌}
@@ -8,11 +8,10 @@ use mathlib.Core.Path.{◌≡◌, refl, sym, ap, ◌∙◌}
 use native.Mathlib.Omega.{arith}
 use lib.Dec.{eqb, ltb}
 use lib.ListN.{length}
-use Rattle.fault.specs.Fault.{first, first_number}
-use Rattle.fault.specs.declared.First.TheVariants.{At}
+use Rattle.fault.specs.Fault.{first, first_number, a_fault}
 use Rattle.json_text.specs.Bytes.{space_at, next}
-use Rattle.json_text.specs.declared.Read.{Read}
-use Rattle.json_text.specs.declared.Read.TheVariants.{To, Bad, Deep}
+use Rattle.json_text.specs.declared.SyntaxError.{SyntaxError}
+use Rattle.json_text.specs.declared.SyntaxError.TheVariants.{Malformed, TooDeep}
 use Rattle.json_value.specs.Values.{value_at, end_at, text_at, levels}
 use Rattle.json_value.proofs.Levels.{Stays, to-deep, bad-deep, text-stays}
 use Rattle.json_tree.specs.Faults.{faulty}
@@ -40,7 +39,7 @@ module _ (s : List ℕ) where
 
   -- a text that is not too deep is read with more levels as with 16
   json-is : Stays (text_at s) (next (value_at (levels + length s) s (space_at s 0)) (λ j. end_at s (space_at s j)))
-      → (text_at s ≡ Deep → ⊥) → is_json s ≡ is_read (text_at s)
+      → (text_at s ≡ Err TooDeep → ⊥) → is_json s ≡ is_read (text_at s)
   unfolding is_json
   json-is stays h = ap is_read (sym (stays h))
 
@@ -48,18 +47,17 @@ module _ (s : List ℕ) where
   unfolding json_conditions given_by answer_of read_answer paired_answer is_unpaired
   json-given = go (ltb limit (length s)) (text_at s) (json-is (text-stays (levels + length s) (omega arith) s))
     where
-      paired : (p : Read) → (if not (is_read p) then 3 else (if faulty (text_tree s) then 4 else 0)) ≡ paired_answer s p
-      paired (To i) = refl
-      paired Bad = refl
-      paired Deep = refl
+      paired : (p : Result ℕ SyntaxError) → (if not (is_read p) then 3 else (if faulty (text_tree s) then 4 else 0)) ≡ paired_answer s p
+      paired (Ok i) = refl
+      paired (Err e) = refl
 
-      go : (long : Bool) (r : Read) → ((r ≡ Deep → ⊥) → is_json s ≡ is_read r)
+      go : (long : Bool) (r : Result ℕ SyntaxError) → ((r ≡ Err TooDeep → ⊥) → is_json s ≡ is_read r)
           → (if long then 1 else if is_deep r then 2 else if not (is_json s) || not (is_read (pairs_at (length s) s 0)) then 3 else if faulty (text_tree s) then 4 else 0)
           ≡ (if long then 1 else read_answer s r)
       go true r h = refl
-      go false (To i) h = rw (h (to-deep i)) (paired (pairs_at (length s) s 0))
-      go false Bad h = rw (h bad-deep)
-      go false Deep h = refl
+      go false (Ok i) h = rw (h (to-deep i)) (paired (pairs_at (length s) s 0))
+      go false (Err Malformed) h = rw (h bad-deep)
+      go false (Err TooDeep) h = refl
 
   -- ---- 5 to 9
 
@@ -70,7 +68,7 @@ module _ (s : List ℕ) where
   unfolding event_conditions given_by event_fault event_first
   event-given = go (is_no_event (object (text_tree s)))
     where
-      go : (t : Bool) → (if t then 5 else given_by (fault_conditions (faults_of s))) ≡ first_number (if t then At 5 0 else first (faults_of s))
+      go : (t : Bool) → (if t then 5 else given_by (fault_conditions (faults_of s))) ≡ first_number (if t then Some (a_fault 5 0) else first (faults_of s))
       go true = refl
       go false = sym (given_is (fault-given (faults_of s) (faults-numbered s)))
 

@@ -1,15 +1,16 @@
 -- 01, "Answer numbers": the numbers of the table, each with its condition.
-use Rattle.std.specs.Prelude.{if◌then◌else◌, ℕ, ◌+◌, ◌≤◌, Bool, true, false, not, ◌&&◌, ◌||◌, List, [], ◌∷◌, ◌++◌, map, ◌≡◌, eqb, ltb, leb, ℤ, length}
+use Rattle.std.specs.Prelude.{if◌then◌else◌, ℕ, ◌+◌, ◌≤◌, Bool, true, false, not, ◌&&◌, ◌||◌, List, [], ◌∷◌, ◌++◌, map, ◌≡◌, eqb, ltb, leb, ℤ, length, Result, Ok, Err}
 use Rattle.std.proofs.Math.Option.{Option, none, some}
 use Rattle.json_text.specs.Bytes.{space_at, next}
-use Rattle.json_text.specs.declared.Read.{Read}
-use Rattle.json_text.specs.declared.Read.TheVariants.{To, Bad, Deep}
+use Rattle.json_text.specs.declared.SyntaxError.{SyntaxError}
+use Rattle.json_text.specs.declared.SyntaxError.TheVariants.{Malformed, TooDeep}
 use Rattle.json_value.specs.Values.{value_at, end_at, text_at, levels}
 use Rattle.json_strict.specs.Answer.{limit}
 use Rattle.json_strict.specs.Surrogates.{pairs_at}
 use Rattle.json_tree.specs.Tree.{text_tree}
 use Rattle.json_tree.specs.Faults.{faulty}
-use Rattle.fault.specs.Fault.{Fault, is_wrong}
+use Rattle.fault.specs.declared.Fault.{Fault}
+use Rattle.fault.specs.Fault.{is_wrong}
 use Rattle.zone.specs.Table.{valid_table}
 use Rattle.rule.specs.Lists.{any}
 use Rattle.event.specs.Types.{Event}
@@ -71,17 +72,16 @@ fault_conditions l =
 
 -- ---- 1 to 9, of a text
 
--- The reader goes from byte to byte and stops at the first that cannot stand there. `Deep`: all bytes before an opening bracket are the beginning
+-- The reader goes from byte to byte and stops at the first that cannot stand there. `TooDeep`: all bytes before an opening bracket are the beginning
 -- of a JSON text, and it opens a 17th level.
-abbrev pub is_deep : Read → Bool
-is_deep (To i) = false
-is_deep Bad = false
-is_deep Deep = true
+abbrev pub is_deep : Result ℕ SyntaxError → Bool
+is_deep (Ok i) = false
+is_deep (Err Malformed) = false
+is_deep (Err TooDeep) = true
 
-abbrev pub is_read : Read → Bool
-is_read (To i) = true
-is_read Bad = false
-is_read Deep = false
+abbrev pub is_read : Result ℕ SyntaxError → Bool
+is_read (Ok i) = true
+is_read (Err e) = false
 
 -- "a JSON text in valid UTF-8", however many levels it opens: JSON-text = ws value ws, with more levels than the text has bytes.
 unfoldable pub is_json : List ℕ → Bool

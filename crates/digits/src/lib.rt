@@ -2,6 +2,8 @@
 #![tactic(auto)]
 
 ghost use Rattle.std.specs.Prelude.{◌≡◌, ◌<◌};
+ghost use Rattle.std.specs.List.{list_all};
+ghost use Rattle.json_text.specs.Bytes.{is_digit};
 ghost use Rattle.digits.specs.Digits.{digit, four_at};
 ghost use Rattle.digits.specs.Inner.Small.{TwoAt};
 ghost use Rattle.digits.specs.Fraction.{legal_fraction};
@@ -12,10 +14,7 @@ use json_text::bytes::{byte, is_digit};
 pub fn digit(b: u8) -> u32
     ensures { result ≡ digit b }
 {
-    if b < 0x30 {
-        return 0;
-    }
-    (b - 0x30) as u32
+    u32::from(b.saturating_sub(0x30))
 }
 
 // The number that two digits write.
@@ -38,18 +37,19 @@ pub fn four(raw: &[u8], at: usize) -> u32
     100 * a + b
 }
 
+// Are all bytes digits?
+fn all_digits(part: &[u8]) -> bool
+    ensures { result ≡ list_all is_digit part.now }
+{
+    part.iter().all(|b| is_digit(*b))
+}
+
 // Are the bytes after a point a legal fraction: digits, non-zero, with no trailing zero? A last digit that is not 0 says both.
 pub fn legal_fraction(part: &[u8]) -> bool
     ensures { result ≡ legal_fraction part.now }
 {
-    let mut last = 0x30;
-    let mut i = 0;
-    while i < part.len() {
-        last = byte(part, i);
-        if !is_digit(last) {
-            return false;
-        }
-        i += 1;
+    match part {
+        [.., last] => *last != 0x30 && all_digits(part),
+        [] => false,
     }
-    last != 0x30
 }

@@ -2,14 +2,9 @@
 ghost use Rattle.std.specs.Prelude.{◌≡◌};
 ghost use Rattle.duration_grammar.specs.Letter.{upper};
 
+#[tactic(auto, unfolding(crate::specs::Letter::upper))]
 pub fn upper(b: u8) -> u8
     ensures { result ≡ upper b }
 {
-    if b < 0x61 {
-        return b;
-    }
-    if b <= 0x7A {
-        return b - 0x20;
-    }
-    b
+    b.to_ascii_uppercase()
 }

@@ -1,6 +1,6 @@
 -- The loop of `gather`: where it starts, one turn of it, and its end.
 use Rattle.std.specs.Prelude.{if◌then◌else◌}
-use Prim.Native.Nat.{ℕ, suc, ◌+◌, ◌<◌, ◌≤◌}
+use Prim.Native.Nat.{ℕ, ◌+◌, ◌<◌, ◌≤◌}
 use mathlib.Core.Bool.{Bool, true, false}
 use mathlib.Core.Path.{◌≡◌, refl, sym, ap, ◌∙◌}
 use mathlib.Core.List.{List, map}
@@ -9,7 +9,7 @@ use native.Mathlib.Omega.{arith}
 use borrow.Author.Tests.{ltb-true, ltb-false}
 use lib.Dec.{ltb}
 use lib.IntN.{ℤ}
-use lib.ListN.{length, get_or, set, take, drop}
+use lib.ListN.{length, get_or, set, take, drop, drop_of_length-le}
 use lib.Seq.{sets, drop-cons, take_all, take-length, length-take-le}
 use Rattle.entries.specs.declared.Transition.{Transition}
 use Rattle.entries.specs.Inner.Gathers.{lesser, gathered}
@@ -42,11 +42,15 @@ take-lesser ys = by (ltb 1025 (length ys)) refl
 pub lesser-number : (ys : List Transition) → lesser (length ys) 1025 ≡ length (gathered ys)
 lesser-number ys = sym (length-take-le (lesser (length ys) 1025) ys (lesser-le (length ys) 1025)) ∙ ap length (take-lesser ys)
 
--- A run after the stores that are left: from i on, one number of each of the next k entries.
-abbrev pub stores : (Transition → ℤ) → List ℤ → ℕ → ℕ → List Transition → List ℤ
-stores f l k i ys = sets l i (map f (take k (drop i ys)))
+-- A run after the stores that are left: from i on, one number of each entry from the i-th on.
+abbrev pub stores : (Transition → ℤ) → List ℤ → ℕ → List Transition → List ℤ
+stores f l i ys = sets l i (map f (drop i ys))
 
 -- One of these stores is done.
-pub stores-next : (f : Transition → ℤ) (l : List ℤ) (k i : ℕ) (ys : List Transition) (d : Transition) → i < length ys
-    → stores f (set l i (f (get_or ys i d))) k (i + 1) ys ≡ stores f l (suc k) i ys
-stores-next f l k i ys d h = rw (drop-cons ys i d h, add-one)
+pub stores-next : (f : Transition → ℤ) (l : List ℤ) (i : ℕ) (ys : List Transition) (d : Transition) → i < length ys
+    → stores f (set l i (f (get_or ys i d))) (i + 1) ys ≡ stores f l i ys
+stores-next f l i ys d h = rw (drop-cons ys i d h, add-one)
+
+-- None is left at the end.
+pub stores-end : (f : Transition → ℤ) (l : List ℤ) (i : ℕ) (ys : List Transition) → length ys ≤ i → stores f l i ys ≡ l
+stores-end f l i ys h = rw (drop_of_length-le ys h)

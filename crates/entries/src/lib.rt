@@ -13,13 +13,11 @@ pub struct Transition {
 }
 
 // One more than a valid table may have is enough to see that a table is too long.
+#[tactic(auto, unfolding(crate::specs::Inner::Gathers::lesser))]
 fn limit(n: usize) -> usize
     ensures { result ≡ lesser n 1025 }
 {
-    if 1025 < n {
-        return 1025;
-    }
-    n
+    n.min(1025)
 }
 
 // The entries' numbers go to the first places of both runs; the result says to how many. The runs are the caller's, so that no table is copied for an entry.
@@ -28,11 +26,9 @@ pub fn gather(entries: &[Transition], instants: &mut [i64], offsets: &mut [i64])
     ensures { Gathers entries.now instants.old offsets.old result instants.new offsets.new }
 {
     let n = limit(entries.len());
-    let mut i = 0;
-    while i < n {
-        instants[i] = entries[i].instant;
-        offsets[i] = entries[i].offset;
-        i += 1;
+    for (i, entry) in entries[..n].iter().enumerate() {
+        instants[i] = entry.instant;
+        offsets[i] = entry.offset;
     }
     n
 }

@@ -7,7 +7,8 @@ use mathlib.Core.Path.{◌≡◌, refl}
 use lib.Dec.{eqb, ltb}
 use lib.ListN.{length}
 use borrow.Author.Tests.{eq-eqb}
-use Rattle.fault.specs.Fault.{Fault, faults_at}
+use Rattle.fault.specs.declared.Fault.{Fault}
+use Rattle.fault.specs.Fault.{faults_at}
 use Rattle.json_text.specs.Ascii.{ascii}
 use Rattle.json_walk.specs.Strings.{same}
 use Rattle.json_tree.specs.Tree.{Json, Items, Fields, null_at, false_at, true_at, number_of, string_of, array_of, object_of, no_item, item, no_field, field, place_of, text_tree}

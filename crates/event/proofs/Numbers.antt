@@ -1,5 +1,5 @@
 -- The faults of an event have the numbers 7 to 9 and 20 to 26. So where the number that is given is 0, there is no fault.
-use Rattle.std.specs.Prelude.{if◌then◌else◌}
+use Rattle.std.specs.Prelude.{if◌then◌else◌, Some, None}
 use Prim.Native.Nat.{ℕ}
 use mathlib.Core.Bool.{Bool, true, false, not, ◌&&◌, ◌||◌}
 use mathlib.Core.List.{List, [], ◌∷◌, ◌++◌}
@@ -9,9 +9,8 @@ use native.Mathlib.Omega.{arith}
 use lib.Dec.{eqb, ltb}
 use lib.ListN.{length}
 use Rattle.signed.proofs.Parts.{false-true}
-use Rattle.fault.specs.Fault.{Fault, faults_at, all_of, decides, lower, first, first_number}
-use Rattle.fault.specs.declared.First.{First}
-use Rattle.fault.specs.declared.First.TheVariants.{None, At}
+use Rattle.fault.specs.declared.Fault.{Fault}
+use Rattle.fault.specs.Fault.{faults_at, all_of, decides, lower, first, first_number, First, a_fault}
 use Rattle.fault.proofs.Laws.{first-none}
 use Rattle.json_text.specs.Ascii.{ascii}
 use Rattle.json_walk.specs.Strings.{same}
@@ -249,23 +248,23 @@ faults-numbered s = go (object (text_tree s))
 
 abbrev Real : First → Type 0
 Real None = Unit {0}
-Real (At n p) = is_number n ≡ true
+Real (Some f) = is_number f.number ≡ true
 
 first-real : (l : List Fault) → AllNumbered l → Real (first l)
 unfolding first
 first-real [] h = tt
 first-real (f ∷ l) h = go (first l) (first-real l h.1)
   where
-    go : (x : First) → Real x → Real (lower (At f.number f.place) x)
+    go : (x : First) → Real x → Real (lower (Some f) x)
     go None r = unfold lower in h.0
-    go (At m q) r = unfold lower in pick Real (decides f.number f.place m q) _ _ h.0 r
+    go (Some g) r = unfold lower in pick Real (decides f.number f.place g.number g.place) _ _ h.0 r
 
 number-none : (l : List Fault) → AllNumbered l → first_number (first l) ≡ 0 → l ≡ []
 number-none l h e = first-none l (go (first l) (first-real l h) e)
   where
     go : (x : First) → Real x → first_number x ≡ 0 → x ≡ None
     go None r z = refl
-    go (At n p) r z = false-true (rw z at r)
+    go (Some f) r z = false-true (rw z at r)
 
 -- "An event is accepted when none of 1 to 9 applies": it is an event, and nothing of it has a fault.
 module _ (s : List ℕ) (accepted : event_fault s ≡ 0) where
@@ -273,7 +272,7 @@ module _ (s : List ℕ) (accepted : event_fault s ≡ 0) where
   unfolding event_fault event_first
   both_hold = go (is_no_event (object (text_tree s))) refl accepted
     where
-      go : (t : Bool) → is_no_event (object (text_tree s)) ≡ t → first_number (if t then At 5 0 else first (faults_of s)) ≡ 0
+      go : (t : Bool) → is_no_event (object (text_tree s)) ≡ t → first_number (if t then Some (a_fault 5 0) else first (faults_of s)) ≡ 0
           → (is_no_event (object (text_tree s)) ≡ false) × (faults_of s ≡ [])
       go true e z = absurd (omega (arith, z))
       go false e z = (e, number-none (faults_of s) (faults-numbered s) z)

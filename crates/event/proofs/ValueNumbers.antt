@@ -13,6 +13,7 @@ use Rattle.json_text.specs.Ascii.{ascii}
 use Rattle.json_text.specs.Bytes.{byte}
 use Rattle.json_walk.specs.Strings.{same, slashed}
 use Rattle.json_tree.specs.Tree.{Json}
+use Rattle.std.specs.Prelude as std
 use Rattle.json_tree.specs.declared.Integer.{Integer}
 use Rattle.keywords.specs.Rules.{frequency_of, weekday_of, skip_fault, rscale_fault}
 use Rattle.keywords.specs.Months.{month_written, month_of}
@@ -63,7 +64,7 @@ module _ {B : Type 0} (b : B) where
 
   of-integer : (f : ℤ → Reading B) → ((z : ℤ) → Right (f z)) → (v : Json) → Right (of_integer b f v)
   unfolding of_integer
-  of-integer f h v = or-wrong b 20 refl _ (λ (n : Integer). or-wrong b 23 refl f h (as_integer n)) (number v)
+  of-integer f h v = or-wrong b 20 refl _ (λ (n : std.Option Integer). or-wrong b 23 refl f h (as_integer n)) (number v)
 
 module _ {A : Type 0} (a : A) (f : Json → Reading A) (h : (v : Json) → Told (f v).fault) where
   pub if-there : (o : Option Json) → Told (optional a f o).fault

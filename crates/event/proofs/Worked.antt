@@ -29,7 +29,6 @@ use Rattle.date_time.specs.Picture.{meets, follows}
 use Rattle.date_time.specs.Utc.{ends_in_z, is_utc}
 use Rattle.digits.specs.Digits.{two_at, four_at}
 use Rattle.digits.specs.Fraction.{all_digits, non_zero, last_of, ends_in_zero, legal_fraction}
-use Rattle.digits.specs.Inner.Judged.{judged}
 use Rattle.duration.specs.Amount.{before, amount_of}
 use Rattle.duration.specs.Inner.Capped.{capped}
 use Rattle.duration.specs.Length.{point_at, days_of, seconds_of, whole_of, fraction_of, length_of}
@@ -109,5 +108,5 @@ abbrev Found : Type 0
 Found = ℕ × ℕ
 
 pub worked : map {B = Found} (λ (c : Case). (event_fault (ascii c.text), event_place (ascii c.text))) cases ≡ map (λ (c : Case). (c.number, c.place)) cases
-unfolding cases run past is_space is_digit space_at digits_at some_digits_at int_at frac_at power_at exp_at unsigned_at number_at is_hex hex_at is_escaped escape_at char_at chars_at string_at is_tail tails_at second_at multi_at word_at scalar_at after_at first_at colon_at name_at elements_at members_at array_of object_of value_of value_at array_at object_at end_at text_at bytes_at raw_at same slashed ahead member_at first_member_at next_member_at members_from members_of element_at first_element_at next_element_at elements_from elements_of field_named fields_repeat fields_slashed fields_bad find_in look_up decimal goes_on signed size_at whole_at integer_at scalar_tree fields_of items_of tree_by tree_at text_tree kind_at free_busy_of privacy_of month_written month_of frequency_of weekday_of skip_fault rscale_fault is_local fraction_fault seconds_at local_of date_at is_time is_real second_of_day meets follows ends_in_z is_utc two_at four_at all_digits non_zero last_of ends_in_zero legal_fraction judged before amount_of capped point_at days_of seconds_of whole_of fraction_of length_of letter_at unit_at secondAt-duration-grammar minute_at hour_at clock_at time_at day_at week_at cal_at dated_at duration_at is_duration upper lower is_date day_of from_month from_year date_of weekdayOf-gregorian length_in start_in month_length month_start month_day is_leap year_length leap_years first_of_year missing no_event details_in event_in event_fault patched patched_start has_mark name_fault name_faults alone excluded_fault patch_in override_of overrides_in read_overrides filled read_uid read_updated date_time read_start read_until named read_zone read_length read_busy read_boolean read_privacy read_text or_wrong optional unsupported read_all limited required read_frequency at_least_one read_count signed_up_to read_signed read_weekday read_nth nday_in read_nday read_month entries_of by_list read_scale read_skip unsupported_lists both_ends any_nth nth_under maybe rule_in read_rule read_rules list_of member is_text is_type faults_at all_of is_wrong order decides first faults_in faults_of is_no_event event_first event_place place_in placed entry inside present read_type of_word of_integer
+unfolding cases run past is_space is_digit space_at digits_at some_digits_at int_at frac_at power_at exp_at unsigned_at number_at is_hex hex_at is_escaped escape_at char_at chars_at string_at is_tail tails_at second_at multi_at word_at scalar_at after_at first_at colon_at name_at elements_at members_at array_of object_of value_of value_at array_at object_at end_at text_at bytes_at raw_at same slashed ahead member_at first_member_at next_member_at members_from members_of element_at first_element_at next_element_at elements_from elements_of field_named fields_repeat fields_slashed fields_bad find_in look_up decimal goes_on signed size_at whole_at integer_at scalar_tree fields_of items_of tree_by tree_at text_tree kind_at free_busy_of privacy_of month_written month_of frequency_of weekday_of skip_fault rscale_fault is_local fraction_fault seconds_at local_of date_at is_time is_real second_of_day meets follows ends_in_z is_utc two_at four_at all_digits non_zero last_of ends_in_zero legal_fraction before amount_of capped point_at days_of seconds_of whole_of fraction_of length_of letter_at unit_at secondAt-duration-grammar minute_at hour_at clock_at time_at day_at week_at cal_at dated_at duration_at is_duration upper lower is_date day_of from_month from_year date_of weekdayOf-gregorian length_in start_in month_length month_start month_day is_leap year_length leap_years first_of_year missing no_event details_in event_in event_fault patched patched_start has_mark name_fault name_faults alone excluded_fault patch_in override_of overrides_in read_overrides filled read_uid read_updated date_time read_start read_until named read_zone read_length read_busy read_boolean read_privacy read_text or_wrong optional unsupported read_all limited required read_frequency at_least_one read_count signed_up_to read_signed read_weekday read_nth nday_in read_nday read_month entries_of by_list read_scale read_skip unsupported_lists both_ends any_nth nth_under maybe rule_in read_rule read_rules list_of member is_text is_type faults_at all_of is_wrong order decides first faults_in faults_of is_no_event event_first event_place place_in placed entry inside present read_type of_word of_integer
 worked = refl

@@ -1,9 +1,8 @@
 -- 01, "Reading the event": the event of a text that is past answers 1 to 4, all its faults, and the one of 5 to 9 that is given. 02, 4: 20 to 26 for 6.
-use Rattle.std.specs.Prelude.{if◌then◌else◌, ℕ, Bool, true, false, not, ◌||◌, List, [], ◌∷◌}
+use Rattle.std.specs.Prelude.{if◌then◌else◌, ℕ, Bool, true, false, not, ◌||◌, List, [], ◌∷◌, Some}
 use Rattle.std.proofs.Math.Option.{Option, none, some}
-use Rattle.fault.specs.Fault.{Fault, all_of, first, first_number, first_place}
-use Rattle.fault.specs.declared.First.{First}
-use Rattle.fault.specs.declared.First.TheVariants.{At}
+use Rattle.fault.specs.declared.Fault.{Fault}
+use Rattle.fault.specs.Fault.{all_of, first, first_number, first_place, First, a_fault}
 use Rattle.json_tree.specs.Tree.{Json, Fields, place_of, text_tree}
 use Rattle.keywords.specs.declared.Privacy.TheVariants.{Public}
 use Rattle.json_text.specs.Ascii.{ascii}
@@ -97,7 +96,7 @@ is_no_event (some fields) = no_event fields
 
 -- "Where 5 applies, 6 to 9 are not judged". What decides of a text that is past 1 to 4: 5, or the fault of its list that does, or none.
 unfoldable pub event_first : List ℕ → First
-event_first s = let others = first (faults_of s) in if is_no_event (object (text_tree s)) then At 5 0 else others
+event_first s = let others = first (faults_of s) in if is_no_event (object (text_tree s)) then Some (a_fault 5 0) else others
 
 -- 5, 7 to 9 or 20 to 26, and 0 where there is none; and the place that 20 to 26 carry.
 unfoldable pub event_fault : List ℕ → ℕ

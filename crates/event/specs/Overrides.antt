@@ -1,7 +1,8 @@
 -- 01, "Reading the event": `recurrenceOverrides`.
 use Rattle.std.specs.Prelude.{if◌then◌else◌, ℕ, Bool, true, false, ◌||◌, ◌&&◌, not, List, [], ◌∷◌, ◌++◌, eqb}
 use Rattle.std.proofs.Math.Option.{Option, none, some}
-use Rattle.fault.specs.Fault.{Fault, faults_at, all_of}
+use Rattle.fault.specs.declared.Fault.{Fault}
+use Rattle.fault.specs.Fault.{faults_at, all_of}
 use Rattle.json_walk.specs.Strings.{same}
 use Rattle.json_tree.specs.Tree.{Json, Fields, no_field, field, place_of}
 use Rattle.json_text.specs.Ascii.{ascii}

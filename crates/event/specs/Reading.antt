@@ -1,7 +1,8 @@
 -- What is read of a text, with what is wrong in it. A value by itself is judged by a number; where it stands in the text is said once, here.
 use Rattle.std.specs.Prelude.{if◌then◌else◌, ℕ, List, [], ◌∷◌, ◌++◌, ltb, length}
 use Rattle.std.proofs.Math.Option.{Option, none, some}
-use Rattle.fault.specs.Fault.{Fault, faults_at}
+use Rattle.fault.specs.declared.Fault.{Fault}
+use Rattle.fault.specs.Fault.{faults_at}
 use Rattle.json_tree.specs.Tree.{Json, place_of}
 
 -- ---- one value

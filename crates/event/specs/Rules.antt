@@ -1,7 +1,8 @@
 -- 01, "Rules of recurrence", its first paragraph: how a rule is read.
 use Rattle.std.specs.Prelude.{if◌then◌else◌, ℕ, zero, suc, Bool, true, false, ◌||◌, ◌&&◌, List, [], ◌∷◌, leb, ℤ, pos, negsuc, nat_abs}
 use Rattle.std.proofs.Math.Option.{Option, none, some}
-use Rattle.fault.specs.Fault.{Fault, faults_at, all_of}
+use Rattle.fault.specs.declared.Fault.{Fault}
+use Rattle.fault.specs.Fault.{faults_at, all_of}
 use Rattle.json_walk.specs.Strings.{same}
 use Rattle.json_tree.specs.Tree.{Json, Fields, place_of}
 use Rattle.rule.specs.declared.Frequency.{Frequency}

@@ -4,8 +4,8 @@ use Rattle.std.proofs.Math.Option.{Option, none, some}
 use Rattle.json_walk.specs.Strings.{same, slashed}
 use Rattle.event.specs.Types.{Text}
 use Rattle.event.specs.Reading.{Reading, wrong, or_wrong}
+use Rattle.std.specs.Prelude as std
 use Rattle.json_tree.specs.declared.Integer.{Integer}
-use Rattle.json_tree.specs.declared.Integer.TheVariants.{Is, No}
 use Rattle.json_tree.specs.Finds
 use Rattle.json_tree.specs.Finds.{Value?, look_up}
 use Rattle.json_tree.specs.Tree.{Json, Items, Fields, null_at, false_at, true_at, number_of, string_of, array_of, object_of, no_item, item}
@@ -65,13 +65,16 @@ object (array_of i items) = none
 object (object_of i fields) = some fields
 
 -- "Integers: optional minus and digits by JSON's grammar, no fraction or exponent, from -(2^53-1) to 2^53-1."
-abbrev pub as_integer : Integer → Option ℤ
-as_integer (Is false n) = some (pos n)
-as_integer (Is true zero) = some (pos 0)
-as_integer (Is true (suc n)) = some (negsuc n)
-as_integer No = none
+abbrev pub sized : Bool → ℕ → ℤ
+sized false n = pos n
+sized true zero = pos 0
+sized true (suc n) = negsuc n
 
-abbrev pub number : Json → Option Integer
+abbrev pub as_integer : std.Option Integer → Option ℤ
+as_integer std.None = none
+as_integer (std.Some n) = some (sized n.negative n.size)
+
+abbrev pub number : Json → Option (std.Option Integer)
 number (null_at i) = none
 number (false_at i) = none
 number (true_at i) = none
@@ -82,7 +85,7 @@ number (object_of i fields) = none
 
 -- 02, 4: "wrong JSON type 20", "number out of range or with a fraction or exponent 23".
 unfoldable pub of_integer : {B : Type 0} → B → (ℤ → Reading B) → Json → Reading B
-of_integer b f v = or_wrong b 20 (λ (n : Integer). or_wrong b 23 f (as_integer n)) (number v)
+of_integer b f v = or_wrong b 20 (λ (n : std.Option Integer). or_wrong b 23 f (as_integer n)) (number v)
 
 -- The member of that name.
 abbrev pub as_option : Value? → Option Json

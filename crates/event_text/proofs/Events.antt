@@ -4,8 +4,8 @@ use Prim.Native.Nat.{ℕ}
 use mathlib.Core.List.{List}
 use mathlib.Core.Option.{Option, none, some}
 use mathlib.Core.Path.{◌≡◌, refl}
-use Rattle.fault.specs.Fault.{lower, first}
-use Rattle.fault.specs.declared.First.TheVariants.{At}
+use Rattle.std.proofs.Common.{Some}
+use Rattle.fault.specs.Fault.{a_fault, lower, first}
 use Rattle.fault.proofs.Laws.{first-groups}
 use Rattle.json_tree.specs.Finds.{look_up}
 use Rattle.json_tree.specs.Tree.{Fields, no_field, place_of, text_tree}
@@ -36,11 +36,11 @@ unfolding event_in front_in lists_faults
 first-in at fields = first-groups _ _
 
 -- "Where 5 applies, 6 to 9 are not judged".
-pub first-none : (s : List ℕ) → object (text_tree s) ≡ none → event_first s ≡ At 5 0
+pub first-none : (s : List ℕ) → object (text_tree s) ≡ none → event_first s ≡ Some (a_fault 5 0)
 unfolding event_first is_no_event
 first-none s e = rw e
 
 pub first_some : (s : List ℕ) (fields : Fields) → object (text_tree s) ≡ some fields
-    → event_first s ≡ (if no_event fields then At 5 0 else lower (front_of s).fault (first (lists_faults (front_of s))))
+    → event_first s ≡ (if no_event fields then Some (a_fault 5 0) else lower (front_of s).fault (first (lists_faults (front_of s))))
 unfolding event_first faults_of faults_in is_no_event front_of
 first_some s fields e = rw (e, ← (first-in (place_of (text_tree s)) fields))

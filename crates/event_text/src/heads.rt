@@ -33,23 +33,18 @@ fn head_by(text: &[u8], at: usize, row: &[usize]) -> Head
     let updated = fault_in(text, at, row, UPDATED, updated_fault(text, at, row));
     let named = fault_in(text, at, row, ZONE, zone.fault);
     let shown = fault_in(text, at, row, PRIVACY, access.fault);
-    let details = own.fault;
-    let rest = lower(details, id_fault(text, at, row));
+    let rest = lower(own.fault, id_fault(text, at, row));
     let fault = lower(uid, lower(updated, lower(named, lower(shown, rest))));
-    let name = zone.place;
-    let privacy = access.privacy;
-    let title = own.title;
-    let description = own.description;
     Head {
-        zone: name,
-        privacy,
+        zone: zone.place,
+        privacy: access.privacy,
         start: own.start,
         days: own.days,
         seconds: own.seconds,
         busy: own.busy,
         allday: own.allday,
-        title,
-        description,
+        title: own.title,
+        description: own.description,
         rules,
         excluded,
         overrides,
@@ -83,15 +78,13 @@ pub fn head(text: &[u8], ends: &[u32]) -> Head
 pub fn own_of(head: Head) -> Own
     ensures { (s : List ℕ) → details_in s result ≡ (from_head inner s head).details }
 {
-    let title = head.title;
-    let description = head.description;
     Own {
         start: head.start,
         days: head.days,
         seconds: head.seconds,
         busy: head.busy,
         allday: head.allday,
-        title,
-        description,
+        title: head.title,
+        description: head.description,
     }
 }

@@ -11,10 +11,8 @@ ghost use Rattle.event.specs.Values.{string, member, is_text, is_type};
 ghost use Rattle.property.specs.Inner.From.{fields_in};
 ghost use Rattle.property.specs.Inner.Rows.{RowTo};
 
-use fault::First;
+use fault::{Fault, fault_at};
 use json_text::bytes::byte;
-use json_tree::Found;
-use property::Place;
 use property::dates::read_updated;
 use property::members::member;
 use property::names::read_uid;
@@ -28,8 +26,8 @@ pub(crate) fn uid_fault(text: &[u8], at: usize, row: &[usize]) -> u32
     ensures { (l : ℕ) → result ≡ (required [] read_uid (member (ascii "uid") (fields_in l text.now at))).fault }
 {
     match place(text, at, row, UID) {
-        Place::At(i) => read_uid(text, i),
-        Place::None => 26,
+        Some(i) => read_uid(text, i),
+        None => 26,
     }
 }
 
@@ -39,65 +37,48 @@ pub(crate) fn updated_fault(text: &[u8], at: usize, row: &[usize]) -> u32
     ensures { (l : ℕ) → result ≡ (required true read_updated (member (ascii "updated") (fields_in l text.now at))).fault }
 {
     match place(text, at, row, UPDATED) {
-        Place::At(i) => read_updated(text, i),
-        Place::None => 26,
+        Some(i) => read_updated(text, i),
+        None => 26,
     }
 }
 
 // 8 where there is a `recurrenceId`, at its value.
-pub(crate) fn id_fault(text: &[u8], at: usize, row: &[usize]) -> First
+pub(crate) fn id_fault(text: &[u8], at: usize, row: &[usize]) -> Option<Fault>
     requires { RowTo 18 text.now at row.now }
     ensures { (l : ℕ) → result ≡ fault_first (unsupported (member (ascii "recurrenceId") (fields_in l text.now at))) }
 {
-    match place(text, at, row, RECURRENCE_ID) {
-        Place::At(i) => First::At(8, i),
-        Place::None => First::None,
-    }
+    fault_at(8, place(text, at, row, RECURRENCE_ID)?)
 }
 
 // Is the value at a place the string `Event`?
 fn is_type(text: &[u8], at: usize) -> bool
     ensures { (l : ℕ) → result ≡ is_text (ascii "Event") (string (tree_at l text.now at)) }
 {
-    if byte(text, at) != 0x22 {
-        return false;
-    }
-    keywords::types::is_event(word(text, at))
+    byte(text, at) == 0x22 && keywords::types::is_event(word(text, at))
 }
 
 fn is_event(text: &[u8], ends: &[u32], at: usize) -> bool
     requires { Ends text.now ends.now }
     ensures { (l : ℕ) → result ≡ is_type (ascii "Event") (member (ascii "@type") (fields_in l text.now at)) }
 {
-    match member(text, ends, at, b"@type") {
-        Found::Here(m) => is_type(text, m.value),
-        Found::Missing => false,
-    }
+    member(text, ends, at, b"@type").is_some_and(|m| is_type(text, m.value))
 }
 
 fn is_missing(text: &[u8], ends: &[u32], at: usize, name: &[u8]) -> bool
     requires { Ends text.now ends.now }
     ensures { (l : ℕ) → result ≡ missing (member name.now (fields_in l text.now at)) }
 {
-    match member(text, ends, at, name) {
-        Found::Here(_) => false,
-        Found::Missing => true,
-    }
+    member(text, ends, at, name).is_none()
 }
 
 // Does 5 apply to the object at a place?
+#[tactic(auto, unfolding(event::specs::Event::no_event))]
 pub(crate) fn no_event(text: &[u8], ends: &[u32], at: usize) -> bool
     requires { Ends text.now ends.now }
     ensures { (l : ℕ) → result ≡ no_event (fields_in l text.now at) }
 {
-    if !is_event(text, ends, at) {
-        return true;
-    }
-    if is_missing(text, ends, at, b"uid") {
-        return true;
-    }
-    if is_missing(text, ends, at, b"updated") {
-        return true;
-    }
-    is_missing(text, ends, at, b"start")
+    !is_event(text, ends, at)
+        || is_missing(text, ends, at, b"uid")
+        || is_missing(text, ends, at, b"updated")
+        || is_missing(text, ends, at, b"start")
 }

@@ -10,43 +10,13 @@ mod spots;
 mod times;
 pub mod whole;
 
-use fault::First;
+use fault::Fault;
 use keywords::Privacy;
-use property::Place;
 
-// What was read of a member, with its fault, 0 where there is none: a moment, in seconds from 1600-01-01T00:00:00;
-#[derive(Clone, Copy)]
-pub struct Moment {
-    pub value: u64,
-    pub fault: u32,
-}
-
-// a length, its days apart from its seconds;
-#[derive(Clone, Copy)]
-pub struct Lasting {
-    pub days: u64,
-    pub seconds: u64,
-    pub fault: u32,
-}
-
-// a mark;
-#[derive(Clone, Copy)]
-pub struct Mark {
-    pub value: bool,
-    pub fault: u32,
-}
-
-// who may see the event;
+// Who may see the event, as it was read, with its fault, 0 where there is none. Moments, lengths, marks and strings are those of `override_text`.
 #[derive(Clone, Copy)]
 pub struct Access {
     pub privacy: Privacy,
-    pub fault: u32,
-}
-
-// a string, by its place.
-#[derive(Clone, Copy)]
-pub struct Spot {
-    pub place: Place,
     pub fault: u32,
 }
 
@@ -58,25 +28,25 @@ pub struct Details {
     pub seconds: u64,
     pub busy: bool,
     pub allday: bool,
-    pub title: Place,
-    pub description: Place,
-    pub fault: First,
+    pub title: Option<usize>,
+    pub description: Option<usize>,
+    pub fault: Option<Fault>,
 }
 
 // An event but for its lists, of which it has the places, with the fault of it that decides.
 #[derive(Clone, Copy)]
 pub struct Head {
-    pub zone: Place,
+    pub zone: Option<usize>,
     pub privacy: Privacy,
     pub start: u64,
     pub days: u64,
     pub seconds: u64,
     pub busy: bool,
     pub allday: bool,
-    pub title: Place,
-    pub description: Place,
-    pub rules: Place,
-    pub excluded: Place,
-    pub overrides: Place,
-    pub fault: First,
+    pub title: Option<usize>,
+    pub description: Option<usize>,
+    pub rules: Option<usize>,
+    pub excluded: Option<usize>,
+    pub overrides: Option<usize>,
+    pub fault: Option<Fault>,
 }

@@ -33,16 +33,14 @@ pub(crate) fn own_details(text: &[u8], at: usize, row: &[usize]) -> Details
     let texts = lower(fifth, sixth);
     let marks = lower(third, lower(fourth, texts));
     let fault = lower(first, lower(second, marks));
-    let heading = title.place;
-    let body = description.place;
     Details {
         start: start.value,
         days: length.days,
         seconds: length.seconds,
         busy: busy.value,
         allday: allday.value,
-        title: heading,
-        description: body,
+        title: title.place,
+        description: description.place,
         fault,
     }
 }

@@ -1,46 +1,34 @@
 // An event on the output: the number, its place, and what was read.
 ghost use Rattle.json_ends.specs.Inner.Ends.{Ends};
 
-use crate::print::{mark, number, passage, say};
+use crate::print::{mark, passage, say, show};
 use event_text::Head;
+use event_text::heads::own_of;
 use keywords::Privacy;
 use override_text::Own;
 use override_text::patches::patch;
-use property::Place;
 use std::io;
 
 fn privacy(rt: &impl Print, p: Privacy) -> io::Result<()> {
     match p {
-        Privacy::Public => number(rt, 0),
-        Privacy::Private => number(rt, 1),
-        Privacy::Secret => number(rt, 2),
+        Privacy::Public => show(rt, 0),
+        Privacy::Private => show(rt, 1),
+        Privacy::Secret => show(rt, 2),
     }
 }
 
 fn details(rt: &impl Print, text: &[u8], own: Own) -> io::Result<()> {
     say(rt, b" start ")?;
-    number(rt, own.start)?;
+    show(rt, own.start)?;
     say(rt, b" days ")?;
-    number(rt, own.days)?;
+    show(rt, own.days)?;
     say(rt, b" seconds ")?;
-    number(rt, own.seconds)?;
+    show(rt, own.seconds)?;
     mark(rt, b" busy ", own.busy)?;
     mark(rt, b" allday ", own.allday)?;
     passage(rt, b" title ", text, own.title)?;
     passage(rt, b" description ", text, own.description)?;
     say(rt, b"\n")
-}
-
-fn own_of(head: Head) -> Own {
-    Own {
-        start: head.start,
-        days: head.days,
-        seconds: head.seconds,
-        busy: head.busy,
-        allday: head.allday,
-        title: head.title,
-        description: head.description,
-    }
 }
 
 fn override_line(
@@ -55,7 +43,7 @@ fn override_line(
     requires { Ends text.now ends.now }
 {
     say(rt, b"override ")?;
-    number(rt, id)?;
+    show(rt, id)?;
     mark(rt, b" excluded ", gone)?;
     let p = patch(text, ends, at, own, id);
     details(
@@ -80,8 +68,8 @@ fn overrides(rt: &impl Print, text: &[u8], ends: &[u32], own: Own, at: usize) ->
     let mut gone = [false; 256];
     let mut places = [0usize; 256];
     let n = override_text::lists::overrides(text, ends, at, &mut ids, &mut gone, &mut places);
-    for i in 0..n.min(256) {
-        override_line(rt, text, ends, own, ids[i], gone[i], places[i])?;
+    for ((id, gone), at) in ids.iter().zip(&gone).zip(&places).take(n) {
+        override_line(rt, text, ends, own, *id, *gone, *at)?;
     }
     Ok(())
 }
@@ -97,8 +85,8 @@ fn accepted(rt: &impl Print, text: &[u8], ends: &[u32], head: Head) -> io::Resul
     crate::rules::rules(rt, b"rule ", text, ends, head.rules)?;
     crate::rules::rules(rt, b"excluded ", text, ends, head.excluded)?;
     match head.overrides {
-        Place::None => Ok(()),
-        Place::At(at) => overrides(rt, text, ends, own, at),
+        None => Ok(()),
+        Some(at) => overrides(rt, text, ends, own, at),
     }
 }
 
@@ -108,9 +96,9 @@ fn judged(rt: &impl Print, text: &[u8], ends: &[u32]) -> io::Result<()>
     let head = event_text::heads::head(text, ends);
     let first = event_text::whole::event_first(text, ends, head);
     let answer = fault::number_of(first);
-    number(rt, answer as u64)?;
+    show(rt, answer)?;
     say(rt, b" ")?;
-    number(rt, fault::place_of(first) as u64)?;
+    show(rt, fault::place_of(first))?;
     say(rt, b"\n")?;
     if answer == 0 {
         return accepted(rt, text, ends, head);

@@ -2,8 +2,6 @@
 // is none, and what is read of an accepted event. The input comes in blocks of 262,144 bytes; a text does not go over from one to the next.
 #![tactic(auto)]
 
-ghost use Rattle.std.specs.Prelude.{◌≤◌, length};
-
 use std::io;
 use std::io::Read;
 
@@ -16,28 +14,12 @@ const MARK: u8 = 0x1E;
 
 const BLOCK: u64 = 262144;
 
-// The end of the text that begins at a place.
-fn text_end(all: &[u8], from: usize) -> usize
-    requires { from ≤ length all.now }
-    ensures { (from ≤ result) × (result ≤ length all.now) }
-{
-    for i in from..all.len() {
-        if all[i] == MARK {
-            return i;
-        }
-    }
-    all.len()
-}
-
+// Reads each text that ends in the block.
 fn read_all(rt: &impl Print, all: &[u8]) -> io::Result<()> {
-    let mut from = 0;
-    while from < all.len() {
-        let end = text_end(all, from);
-        if end == all.len() {
-            return Ok(());
-        }
-        events::event(rt, &all[from..end])?;
-        from = end + 1;
+    let mut rest = all;
+    while let Some(end) = rest.iter().position(|b| *b == MARK) {
+        events::event(rt, &rest[..end])?;
+        rest = &rest[end + 1..];
     }
     Ok(())
 }

@@ -1,37 +1,31 @@
 // Numbers, marks and texts on the output.
-use property::Place;
 use property::strings::word;
+use std::fmt::Display;
 use std::io;
 
 pub(crate) fn say(rt: &impl Print, words: &[u8]) -> io::Result<()> {
     rt.write_all(words)
 }
 
-pub(crate) fn number(rt: &impl Print, n: u64) -> io::Result<()> {
+pub(crate) fn show<T: Copy + Display>(rt: &impl Print, n: T) -> io::Result<()> {
     print!(rt; "{n}")
-}
-
-pub(crate) fn small(rt: &impl Print, n: u32) -> io::Result<()> {
-    number(rt, n as u64)
-}
-
-pub(crate) fn signed(rt: &impl Print, z: i64) -> io::Result<()> {
-    print!(rt; "{z}")
 }
 
 pub(crate) fn mark(rt: &impl Print, name: &[u8], set: bool) -> io::Result<()> {
     say(rt, name)?;
-    if set {
-        return number(rt, 1);
-    }
-    number(rt, 0)
+    show(rt, u32::from(set))
 }
 
-pub(crate) fn passage(rt: &impl Print, name: &[u8], text: &[u8], place: Place) -> io::Result<()> {
+pub(crate) fn passage(
+    rt: &impl Print,
+    name: &[u8],
+    text: &[u8],
+    place: Option<usize>,
+) -> io::Result<()> {
     say(rt, name)?;
     match place {
-        Place::None => say(rt, b"-"),
-        Place::At(at) => {
+        None => say(rt, b"-"),
+        Some(at) => {
             say(rt, b"\"")?;
             say(rt, word(text, at))?;
             say(rt, b"\"")

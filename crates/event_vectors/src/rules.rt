@@ -1,17 +1,16 @@
 // A list of rules on the output, a line each.
 ghost use Rattle.json_ends.specs.Inner.Ends.{Ends};
 
-use crate::print::{number, say, signed, small};
-use property::Place;
+use crate::print::{say, show};
 use rule::{End, Frequency, Rule};
 use std::io;
 
 fn frequency(rt: &impl Print, rate: Frequency) -> io::Result<()> {
     match rate {
-        Frequency::Daily => number(rt, 0),
-        Frequency::Weekly => number(rt, 1),
-        Frequency::Monthly => number(rt, 2),
-        Frequency::Yearly => number(rt, 3),
+        Frequency::Daily => show(rt, 0),
+        Frequency::Weekly => show(rt, 1),
+        Frequency::Monthly => show(rt, 2),
+        Frequency::Yearly => show(rt, 3),
     }
 }
 
@@ -20,11 +19,11 @@ fn end(rt: &impl Print, end: End) -> io::Result<()> {
         End::Never => say(rt, b" never"),
         End::Until(last) => {
             say(rt, b" until ")?;
-            number(rt, last)
+            show(rt, last)
         }
         End::Count(most) => {
             say(rt, b" count ")?;
-            number(rt, most)
+            show(rt, most)
         }
     }
 }
@@ -34,7 +33,7 @@ fn numbers(rt: &impl Print, name: &[u8], list: &[i64], count: usize) -> io::Resu
     say(rt, name)?;
     for z in list.iter().take(count) {
         say(rt, b" ")?;
-        signed(rt, *z)?;
+        show(rt, *z)?;
     }
     Ok(())
 }
@@ -43,7 +42,7 @@ fn months(rt: &impl Print, list: &[u32], count: usize) -> io::Result<()> {
     say(rt, b" months")?;
     for month in list.iter().take(count) {
         say(rt, b" ")?;
-        small(rt, *month)?;
+        show(rt, *month)?;
     }
     Ok(())
 }
@@ -52,9 +51,9 @@ fn days(rt: &impl Print, weekdays: &[u32], nths: &[i64], count: usize) -> io::Re
     say(rt, b" days")?;
     for (weekday, z) in weekdays.iter().zip(nths).take(count) {
         say(rt, b" ")?;
-        small(rt, *weekday)?;
+        show(rt, *weekday)?;
         say(rt, b":")?;
-        signed(rt, *z)?;
+        show(rt, *z)?;
     }
     Ok(())
 }
@@ -70,16 +69,16 @@ fn line(rt: &impl Print, kind: &[u8], text: &[u8], ends: &[u32], at: usize) -> i
     requires { Ends text.now ends.now }
 {
     let read = rule_text::rules::read_rule(text, ends, at);
-    if fault::number_of(read.fault) != 0 {
+    if read.fault.is_some() {
         return Ok(());
     }
     let rule = read.rule;
     say(rt, kind)?;
     frequency(rt, rule.frequency)?;
     say(rt, b" interval ")?;
-    number(rt, rule.interval)?;
+    show(rt, rule.interval)?;
     say(rt, b" first ")?;
-    small(rt, rule.first)?;
+    show(rt, rule.first)?;
     lists(rt, rule)?;
     end(rt, rule.end)?;
     say(rt, b"\n")
@@ -101,12 +100,12 @@ pub(crate) fn rules(
     kind: &[u8],
     text: &[u8],
     ends: &[u32],
-    place: Place,
+    place: Option<usize>,
 ) -> io::Result<()>
     requires { Ends text.now ends.now }
 {
     match place {
-        Place::None => Ok(()),
-        Place::At(at) => all(rt, kind, text, ends, at),
+        None => Ok(()),
+        Some(at) => all(rt, kind, text, ends, at),
     }
 }

@@ -4,7 +4,6 @@ ghost use Rattle.call_definitions.specs.Call.{expand_text};
 ghost use Rattle.call_definitions.specs.Results.{zones_of, Gives};
 
 use crate::visible::put_visible;
-use opening::Opening;
 use opening::calls::{call_fault, is_secret};
 use opening::whole::open_text;
 use record::window::since_1600;
@@ -28,14 +27,16 @@ pub fn expand_in(
     ensures { Gives (expand_text (zones_of name.now initial instants.now offsets.now) text.now from to buffer.old) result.answer result.length buffer.new }
 {
     match open_text(text, ends) {
-        Opening::Refused(answer, _) => Done { answer, length: 0 },
-        Opening::Accepted(head) => {
+        Err(refusal) => Done {
+            answer: refusal.answer,
+            length: 0,
+        },
+        Ok(head) => {
             let answer = call_fault(text, head, name, initial, instants, offsets, from, to);
             if answer != 0 {
                 return Done { answer, length: 0 };
             }
-            let privacy = head.privacy;
-            if is_secret(privacy) {
+            if is_secret(head.privacy) {
                 return put_trailer_alone(buffer);
             }
             let window = Window {

@@ -47,6 +47,7 @@ pub(crate) fn put_table(
     }
     let mut place = 0;
     let mut second = window.from;
+    // No for: where the next turn begins is what the chunk says.
     while second < to {
         let n = chunk.count;
         place = write_records(

@@ -8,9 +8,9 @@ use native.Mathlib.Omega.{arith}
 use lib.Dec.{eqb, ltb, leb}
 use borrow.Author.Tests.{eqb-true, lt-ltb, le-ltb, le-leb, ltb-true, ltb-false, leb-true, leb-false}
 use Rattle.signed.proofs.Parts.{false-true}
-use Rattle.fault.specs.declared.First.{First}
-use Rattle.fault.specs.declared.First.TheVariants.{None, At}
-use Rattle.fault.specs.Fault.{Fault, faults_at, all_of, order, decides, lower, first}
+use Rattle.std.specs.Prelude.{Some, None}
+use Rattle.fault.specs.declared.Fault.{Fault}
+use Rattle.fault.specs.Fault.{First, a_fault, faults_at, all_of, order, decides, lower, first}
 
 -- ---- the order
 
@@ -67,10 +67,10 @@ through n p m q k r (by_number e f h) (by_order j) = by_order (omega arith)
 through n p m q k r (by_number e f h) (by_place g j) = by_place (e ∙ g) (omega arith)
 through n p m q k r (by_number e f h) (by_number g i j) = by_number (e ∙ g) (f ∙ i) (omega arith)
 
-alike : (n p m q : ℕ) → n ≡ m → p ≡ q → At n p ≡ At m q
-alike n p m q e f = λ i. At (e i) (f i)
+alike : (n p m q : ℕ) → n ≡ m → p ≡ q → Some (a_fault n p) ≡ Some (a_fault m q)
+alike n p m q e f = λ i. Some (a_fault (e i) (f i))
 
-same-one : (n p m q : ℕ) → Comes n p m q → Comes m q n p → At n p ≡ At m q
+same-one : (n p m q : ℕ) → Comes n p m q → Comes m q n p → Some (a_fault n p) ≡ Some (a_fault m q)
 same-one n p m q (by_order h) (by_order k) = absurd (omega arith)
 same-one n p m q (by_order h) (by_place e k) = absurd (omega arith)
 same-one n p m q (by_order h) (by_number e f k) = absurd (omega arith)
@@ -86,51 +86,51 @@ same-one n p m q (by_number e f h) (by_number g i j) = alike n p m q (omega arit
 pub lower-none : (a : First) → lower a None ≡ a
 unfolding lower
 lower-none None = refl
-lower-none (At n p) = refl
+lower-none (Some f) = refl
 
 pub none-lower : (b : First) → lower None b ≡ b
 unfolding lower
 none-lower b = refl
 
 module _ (n p m q : ℕ) where
-  lower-left : decides n p m q ≡ true → lower (At n p) (At m q) ≡ At n p
+  lower-left : decides n p m q ≡ true → lower (Some (a_fault n p)) (Some (a_fault m q)) ≡ Some (a_fault n p)
   unfolding lower
   lower-left t = rw t
 
-  lower-right : decides n p m q ≡ false → lower (At n p) (At m q) ≡ At m q
+  lower-right : decides n p m q ≡ false → lower (Some (a_fault n p)) (Some (a_fault m q)) ≡ Some (a_fault m q)
   unfolding lower
   lower-right t = rw t
 
 module _ (n p m q k r : ℕ) where
-  three : (t u : Bool) → decides n p m q ≡ t → decides m q k r ≡ u → lower (At n p) (lower (At m q) (At k r)) ≡ lower (lower (At n p) (At m q)) (At k r)
+  three : (t u : Bool) → decides n p m q ≡ t → decides m q k r ≡ u → lower (Some (a_fault n p)) (lower (Some (a_fault m q)) (Some (a_fault k r))) ≡ lower (lower (Some (a_fault n p)) (Some (a_fault m q))) (Some (a_fault k r))
   three true true e f =
       rw (lower-left m q k r f, lower-left n p m q e) (sym (lower-left n p k r (told n p k r (through n p m q k r (comes n p m q e) (comes m q k r f)))))
   three true false e f = rw (lower-right m q k r f, lower-left n p m q e)
   three false true e f = rw (lower-left m q k r f, lower-right n p m q e) (sym (lower-left m q k r f))
   three false false e f = rw (lower-right m q k r f, lower-right n p m q e) (last (decides n p k r) refl ∙ sym (lower-right m q k r f))
     where
-      last : (v : Bool) → decides n p k r ≡ v → lower (At n p) (At k r) ≡ At k r
+      last : (v : Bool) → decides n p k r ≡ v → lower (Some (a_fault n p)) (Some (a_fault k r)) ≡ Some (a_fault k r)
       last true g = lower-left n p k r g ∙ same-one n p k r (comes n p k r g) (through k r m q n p (later m q k r f) (later n p m q e))
       last false g = lower-right n p k r g
 
 pub lower-assoc : (a b c : First) → lower a (lower b c) ≡ lower (lower a b) c
 lower-assoc None b c = rw (none-lower b, none-lower (lower b c))
-lower-assoc (At n p) None c = rw (none-lower c, lower-none (At n p))
-lower-assoc (At n p) (At m q) None = rw (lower-none (At m q), lower-none (lower (At n p) (At m q)))
-lower-assoc (At n p) (At m q) (At k r) = three n p m q k r _ _ refl refl
+lower-assoc (Some f) None c = rw (none-lower c, lower-none (Some f))
+lower-assoc (Some f) (Some g) None = rw (lower-none (Some g), lower-none (lower (Some f) (Some g)))
+lower-assoc (Some f) (Some g) (Some h) = three f.number f.place g.number g.place h.number h.place _ _ refl refl
 
 -- A join is none only where both are.
 abbrev is_none : First → Bool
 is_none None = true
-is_none (At n p) = false
+is_none (Some f) = false
 
 pub lower-zero : (a b : First) → lower a b ≡ None → (a ≡ None) × (b ≡ None)
 unfolding lower
 lower-zero None b e = (refl, e)
-lower-zero (At n p) None e = false-true (ap is_none e)
-lower-zero (At n p) (At m q) e = go (decides n p m q) e
+lower-zero (Some f) None e = false-true (ap is_none e)
+lower-zero (Some f) (Some g) e = go (decides f.number f.place g.number g.place) e
   where
-    go : (t : Bool) → (if t then At n p else At m q) ≡ None → (At n p ≡ None) × (At m q ≡ None)
+    go : (t : Bool) → (if t then Some f else Some g) ≡ None → (Some f ≡ None) × (Some g ≡ None)
     go true z = false-true (ap is_none z)
     go false z = false-true (ap is_none z)
 
@@ -139,13 +139,13 @@ lower-zero (At n p) (At m q) e = go (decides n p m q) e
 pub first-append : (l m : List Fault) → first (l ++ m) ≡ lower (first l) (first m)
 unfolding first
 first-append [] m = sym (none-lower (first m))
-first-append (f ∷ l) m = rw (first-append l m) (lower-assoc (At f.number f.place) (first l) (first m))
+first-append (f ∷ l) m = rw (first-append l m) (lower-assoc (Some f) (first l) (first m))
 
 -- Nothing decides only of a list without faults; and parts of such a list have none.
 pub first-none : (l : List Fault) → first l ≡ None → l ≡ []
 unfolding first
 first-none [] e = refl
-first-none (f ∷ l) e = false-true (ap is_none (lower-zero (At f.number f.place) (first l) e).0)
+first-none (f ∷ l) e = false-true (ap is_none (lower-zero (Some f) (first l) e).0)
 
 is_empty : List Fault → Bool
 is_empty [] = true
@@ -187,12 +187,12 @@ pub fault-none : (n p : ℕ) → first (faults_at n p) ≡ None → n ≡ 0
 unfolding first faults_at lower
 fault-none n p = go (eqb n 0) refl
   where
-    go : (t : Bool) → eqb n 0 ≡ t → first (if t then [] else record { number = n; place = p } ∷ []) ≡ None → n ≡ 0
+    go : (t : Bool) → eqb n 0 ≡ t → first (if t then [] else a_fault n p ∷ []) ≡ None → n ≡ 0
     go true e z = eqb-true n 0 e
     go false e z = false-true (ap is_none z)
 
 -- A number that is not 0 decides where it is the only one.
-pub fault-here : (n p : ℕ) → eqb n 0 ≡ false → first (faults_at n p) ≡ At n p
+pub fault-here : (n p : ℕ) → eqb n 0 ≡ false → first (faults_at n p) ≡ Some (a_fault n p)
 unfolding first faults_at lower
 fault-here n p e = rw e
 
@@ -219,5 +219,5 @@ first-groups (part ∷ l) m =
     ∙ ap (λ (x : First). lower x (first (all_of m))) (sym (first_part part l))
 
 -- A fault is not none.
-pub at_none : (n p : ℕ) → At n p ≡ None → ⊥
+pub at_none : (n p : ℕ) → Some (a_fault n p) ≡ None → ⊥
 at_none n p e = false-true (ap is_none e)

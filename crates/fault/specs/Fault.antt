@@ -1,17 +1,19 @@
 -- 02, request 4: "Each carries the byte place, from 0, at which the first such value in the text begins .. The earliest place decides, then the
 -- lowest number .. The order against the other numbers is that of 6".
-use Rattle.std.specs.Prelude.{if◌then◌else◌, ℕ, Bool, true, false, List, [], ◌∷◌, ◌++◌, eqb, ltb, leb}
-use Rattle.fault.specs.declared.First.{First}
-use Rattle.fault.specs.declared.First.TheVariants.{None, At}
+use Rattle.std.specs.Prelude.{if◌then◌else◌, ℕ, Bool, true, false, List, [], ◌∷◌, ◌++◌, eqb, ltb, leb, Option, Some, None}
+use Rattle.fault.specs.declared.Fault.{Fault}
 
 -- A fault: its number, 7 to 9 or 20 to 26, and the place of the value that has it.
-pub record Fault : Type 0 where
-  pub number : ℕ
-  pub place : ℕ
+abbrev pub a_fault : ℕ → ℕ → Fault
+a_fault number place = record { number = number; place = place }
+
+-- The fault that decides, or none.
+abbrev pub First : Type 0
+First = Option Fault
 
 -- What the judgement of a value adds to the list of faults: 0 is no fault.
 unfoldable pub faults_at : ℕ → ℕ → List Fault
-faults_at number place = if eqb number 0 then [] else record { number = number; place = place } ∷ []
+faults_at number place = if eqb number 0 then [] else a_fault number place ∷ []
 
 -- The faults of the parts of something that is read, one part after the other.
 unfoldable pub all_of : List (List Fault) → List Fault
@@ -37,18 +39,18 @@ decides n p m q =
 -- The one of two that decides, where both may be none; and that of a list.
 unfoldable pub lower : First → First → First
 lower None b = b
-lower (At n p) None = At n p
-lower (At n p) (At m q) = if decides n p m q then At n p else At m q
+lower (Some f) None = Some f
+lower (Some f) (Some g) = if decides f.number f.place g.number g.place then Some f else Some g
 
 unfoldable pub first : List Fault → First
 first [] = None
-first (f ∷ l) = lower (At f.number f.place) (first l)
+first (f ∷ l) = lower (Some f) (first l)
 
 -- Its number, 0 where there is none. Only 20 to 26 carry a place.
 abbrev pub first_number : First → ℕ
 first_number None = 0
-first_number (At n p) = n
+first_number (Some f) = f.number
 
 abbrev pub first_place : First → ℕ
 first_place None = 0
-first_place (At n p) = if is_wrong n then p else 0
+first_place (Some f) = if is_wrong f.number then f.place else 0

@@ -4,103 +4,76 @@
 ghost use Rattle.std.specs.Prelude.{◌≡◌};
 ghost use Rattle.fault.specs.Fault.{order, decides, lower, first, faults_at, first_number, first_place};
 
-// The fault that decides, its number and its place; or none.
-#[derive(Clone, Copy)]
-pub enum First {
-    None,
-    At(u32, usize),
+// The number of what is wrong with a value, and the place of the value.
+#[derive(Clone, Copy, PartialEq, Eq)]
+pub struct Fault {
+    pub number: u32,
+    pub place: usize,
 }
 
 // The fault of a value at a place, by the number that it was judged with; 0 is none.
-pub fn fault_at(number: u32, place: usize) -> First
+#[tactic(auto, unfolding(crate::specs::Fault::faults_at, crate::specs::Fault::first, crate::specs::Fault::lower))]
+pub fn fault_at(number: u32, place: usize) -> Option<Fault>
     ensures { result ≡ first (faults_at number place) }
 {
     if number == 0 {
-        return First::None;
+        return None;
     }
-    First::At(number, place)
+    Some(Fault { number, place })
 }
 
 // 20 to 26 stand where 6 stood.
+#[tactic(auto, unfolding(crate::specs::Fault::is_wrong, crate::specs::Fault::order))]
 fn order(number: u32) -> u32
     ensures { result ≡ order number }
 {
-    if 20 <= number {
-        return 6;
-    }
-    number
+    if 20 <= number { 6 } else { number }
 }
 
 // Does the first of two faults decide: by the order of the numbers, then by the place, then by the number?
-fn decides(n: u32, p: usize, m: u32, q: usize) -> bool
-    ensures { result ≡ decides n p m q }
+#[tactic(auto, unfolding(crate::specs::Fault::decides))]
+fn decides(a: Fault, b: Fault) -> bool
+    ensures { result ≡ decides a.number a.place b.number b.place }
 {
-    let x = order(n);
-    let y = order(m);
-    if x < y {
-        return true;
-    }
-    if y < x {
-        return false;
-    }
-    if p < q {
-        return true;
-    }
-    if q < p {
-        return false;
-    }
-    n <= m
+    (order(a.number), a.place, a.number) <= (order(b.number), b.place, b.number)
 }
 
 // The one of two that decides.
-pub fn lower(a: First, b: First) -> First
+#[tactic(auto, unfolding(crate::specs::Fault::lower))]
+pub fn lower(a: Option<Fault>, b: Option<Fault>) -> Option<Fault>
     ensures { result ≡ lower a b }
 {
-    match a {
-        First::None => b,
-        First::At(n, p) => match b {
-            First::None => a,
-            First::At(m, q) => {
-                if decides(n, p, m, q) {
-                    return a;
-                }
-                b
-            }
-        },
+    match (a, b) {
+        (None, _) => b,
+        (_, None) => a,
+        (Some(f), Some(g)) => if decides(f, g) { a } else { b },
     }
 }
 
 // A fault joined with that of a value at a place, by the number that it was judged with. Most values have none: then it is handed back as it is.
-pub fn join_at(fault: First, number: u32, place: usize) -> First
+pub fn join_at(fault: Option<Fault>, number: u32, place: usize) -> Option<Fault>
     ensures { result ≡ lower fault (first (faults_at number place)) }
 {
     if number == 0 {
         return fault;
     }
-    lower(fault, First::At(number, place))
+    lower(fault, fault_at(number, place))
 }
 
 // Its number, 0 where there is none.
-pub fn number_of(f: First) -> u32
+pub fn number_of(f: Option<Fault>) -> u32
     ensures { result ≡ first_number f }
 {
-    match f {
-        First::None => 0,
-        First::At(n, _) => n,
-    }
+    f.map_or(0, |f| f.number)
 }
 
 // Its place, where it is one of 20 to 26.
-pub fn place_of(f: First) -> usize
+#[tactic(auto, unfolding(crate::specs::Fault::is_wrong))]
+pub fn place_of(f: Option<Fault>) -> usize
     ensures { result ≡ first_place f }
 {
     match f {
-        First::None => 0,
-        First::At(n, p) => {
-            if 20 <= n {
-                return p;
-            }
-            0
-        }
+        Some(f) if 20 <= f.number => f.place,
+        _ => 0,
     }
 }

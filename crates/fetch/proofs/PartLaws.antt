@@ -3,20 +3,12 @@ use Prim.Native.Nat.{ℕ, zero, suc, ◌+◌, ◌-◌, ◌≤◌}
 use mathlib.Core.List.{List, ◌∷◌, ◌++◌, append_assoc}
 use mathlib.Core.Path.{◌≡◌, sym, ap, ap₂, ◌∙◌}
 use native.Mathlib.Omega.{arith}
-use lib.ListN.{length, take, drop, length-append, length-drop}
-use lib.Seq.{length-take-le, drop-drop, take_at, drop_at}
+use lib.ListN.{take, drop}
+use lib.Seq.{drop-drop, take_at, drop_at}
 use Rattle.sheet.specs.Runs.{tabulate}
 use Rattle.sheet.proofs.RunLaws.{tab-length}
 
 module _ {A : Type 0} (f : ℕ → A) where
-  -- the elements from i to e, as they were lent and came back
-  pub part_filled : (k i e : ℕ) (lent part : List A) → i ≤ e → e ≤ length lent → part ≡ tabulate f k (length (take (e - i) (drop i lent)))
-      → take i lent ++ (part ++ drop (e - i) (drop i lent)) ≡ take i lent ++ (tabulate f k (e - i) ++ drop e lent)
-  part_filled k i e lent part h g p =
-      let long : length (take (e - i) (drop i lent)) ≡ e - i = length-take-le (e - i) (drop i lent) (simp length-drop (omega arith)) in
-      let place : i + (e - i) ≡ e = omega arith in
-      ap₂ (λ (a b : List A). take i lent ++ (a ++ b)) (p ∙ ap (tabulate f k) long) (drop-drop (e - i) i lent ∙ ap (λ (m : ℕ). drop m lent) place)
-
   -- two runs, one after the other
   tab-join : (k m n : ℕ) → tabulate f k m ++ tabulate f (k + m) n ≡ tabulate f k (m + n)
   unfolding tabulate
@@ -41,7 +33,3 @@ module _ {A : Type 0} (f : ℕ → A) where
       ∙ (ap₂ (λ (a b : List A). a ++ (tabulate f (k + i) (e - i) ++ b)) front later
       ∙ (sym (append_assoc (tabulate f k i) (tabulate f (k + i) (e - i)) (drop e lent))
       ∙ ap (λ (a : List A). a ++ drop e lent) (tab-join k i (e - i) ∙ ap (tabulate f k) place)))
-
-  pub filled-length : (k i : ℕ) (lent l : List A) → i ≤ length lent → l ≡ tabulate f k i ++ drop i lent → length l ≡ length lent
-  filled-length k i lent l h is =
-      ap length is ∙ (length-append (tabulate f k i) (drop i lent) ∙ omega (arith, tab-length f k i, length-drop i lent))

@@ -1,6 +1,6 @@
 // A run of records in four lent slices: the sheet is judged once, and then gone through once, in blocks of records. In a block one number after
 // the other is taken from all of its records.
-ghost use Rattle.std.specs.Prelude.{◌≡◌, min, length};
+ghost use Rattle.std.specs.Prelude.{length};
 ghost use Rattle.sheet.specs.Fetching.{run_of, FetchesRun};
 ghost use Rattle.fetch.specs.Inner.Filling.{Room, Filled, Block, BlockFilled};
 
@@ -10,15 +10,6 @@ use sheet_reader::trailer::count;
 
 // The records of a block, and their numbers, lie in the nearest cache.
 const BLOCK: usize = 256;
-
-fn lesser(a: usize, b: usize) -> usize
-    ensures { result ≡ min a b }
-{
-    if b < a {
-        return b;
-    }
-    a
-}
 
 // The numbers of the records from record k on, at the elements from i to e.
 fn fill_block(
@@ -53,15 +44,15 @@ fn fill(
     requires { Room (length sheet.now) k n (length ids.old) (length starts.old) (length ends.old) (length marks.old) }
     ensures { Filled sheet.now k n ids.old starts.old ends.old marks.old ids.new starts.new ends.new marks.new }
 {
-    let mut i = 0;
-    while i < n {
-        let e = i + lesser(n - i, BLOCK);
+    for block in 0..n.div_ceil(BLOCK) {
+        let i = block * BLOCK;
+        let e = i + BLOCK.min(n - i);
         fill_block(sheet, k + i, i, e, ids, starts, ends, marks);
-        i = e;
     }
 }
 
 // The records from number `first` on, as many as each slice has room for, and how many they are.
+// A number and four lent slices, no Result of rows: `smocurant_records` hands them on in C.
 pub fn fetch_run(
     sheet: &[u8],
     first: u64,
@@ -79,8 +70,13 @@ pub fn fetch_run(
         return fault;
     }
     let k = first as usize;
-    let left = lesser(marks.len(), count(sheet) - k);
-    let n = lesser(ids.len(), lesser(starts.len(), lesser(ends.len(), left)));
+    let left = count(sheet) - k;
+    let n = ids
+        .len()
+        .min(starts.len())
+        .min(ends.len())
+        .min(marks.len())
+        .min(left);
     fill(sheet, k, n, ids, starts, ends, marks);
     *handed = n as u64;
     0

@@ -4,6 +4,7 @@ ghost use Rattle.sheet.specs.Fetching.{fetch_of, Fetches};
 use crate::refusals::fetch_fault;
 use sheet_reader::fields::{end_at, id_at, marks_at, start_at};
 
+// A number and lent places, no Result: `smocurant_record` hands them on in C.
 pub fn fetch(
     sheet: &[u8],
     number: u64,

@@ -6,7 +6,7 @@ ghost use Rattle.json_ends.specs.Inner.Ends.{Ends};
 ghost use Rattle.json_ends.specs.Inner.Found.{Found};
 
 use crate::keeping::{name, note};
-use json_text::Read;
+use json_text::SyntaxError;
 use json_text::bytes::byte;
 use json_text::words::scalar;
 use json_value::Item;
@@ -14,7 +14,12 @@ use json_value::items::{after, first};
 
 // The value at a place, where so many levels may still be opened.
 #[cycle(array_object_value)]
-pub(crate) fn value(text: &[u8], ends: &mut [u32], at: usize, left: usize) -> Read
+pub(crate) fn value(
+    text: &[u8],
+    ends: &mut [u32],
+    at: usize,
+    left: usize,
+) -> Result<usize, SyntaxError>
     requires { Ends text.now ends.old }
     ensures { Found (value_at left text.now at) text.now ends.new result }
 {
@@ -33,69 +38,47 @@ pub(crate) fn value(text: &[u8], ends: &mut [u32], at: usize, left: usize) -> Re
 
 // The array whose bracket stands at a place. It has fewer elements than the text has bytes.
 #[cycle(array_object_value)]
-fn array(text: &[u8], ends: &mut [u32], at: usize, left: usize) -> Read
+fn array(text: &[u8], ends: &mut [u32], at: usize, left: usize) -> Result<usize, SyntaxError>
     requires { (at < length text.now) × Ends text.now ends.old }
     ensures { Found (array_at left text.now at) text.now ends.new result }
 {
     if left == 0 {
-        return Read::Deep;
+        return Err(SyntaxError::TooDeep);
     }
-    let mut i = at + 1;
-    match first(text, i, 0x5D) {
-        Item::More(k) => i = k,
-        Item::Done(e) => return Read::To(e),
-        Item::Wrong => return Read::Bad,
-    }
-    let mut n = text.len();
-    while 0 < n {
-        match value(text, ends, i, left - 1) {
-            Read::To(j) => i = j,
-            Read::Bad => return Read::Bad,
-            Read::Deep => return Read::Deep,
-        }
-        match after(text, i, 0x5D) {
+    let mut i = match first(text, at + 1, 0x5D) {
+        Item::More(k) => k,
+        Item::Done(e) => return Ok(e),
+    };
+    for _ in 0..text.len() {
+        let j = value(text, ends, i, left - 1)?;
+        match after(text, j, 0x5D)? {
             Item::More(k) => i = k,
-            Item::Done(e) => return Read::To(e),
-            Item::Wrong => return Read::Bad,
+            Item::Done(e) => return Ok(e),
         }
-        n -= 1;
     }
-    Read::Bad
+    Err(SyntaxError::Malformed)
 }
 
 // The object whose bracket stands at a place.
 #[cycle(array_object_value)]
-fn object(text: &[u8], ends: &mut [u32], at: usize, left: usize) -> Read
+fn object(text: &[u8], ends: &mut [u32], at: usize, left: usize) -> Result<usize, SyntaxError>
     requires { (at < length text.now) × Ends text.now ends.old }
     ensures { Found (object_at left text.now at) text.now ends.new result }
 {
     if left == 0 {
-        return Read::Deep;
+        return Err(SyntaxError::TooDeep);
     }
-    let mut i = at + 1;
-    match first(text, i, 0x7D) {
-        Item::More(k) => i = k,
-        Item::Done(e) => return Read::To(e),
-        Item::Wrong => return Read::Bad,
-    }
-    let mut n = text.len();
-    while 0 < n {
-        match name(text, ends, i) {
-            Read::To(v) => i = v,
-            Read::Bad => return Read::Bad,
-            Read::Deep => return Read::Deep,
-        }
-        match value(text, ends, i, left - 1) {
-            Read::To(j) => i = j,
-            Read::Bad => return Read::Bad,
-            Read::Deep => return Read::Deep,
-        }
-        match after(text, i, 0x7D) {
+    let mut i = match first(text, at + 1, 0x7D) {
+        Item::More(k) => k,
+        Item::Done(e) => return Ok(e),
+    };
+    for _ in 0..text.len() {
+        let v = name(text, ends, i)?;
+        let j = value(text, ends, v, left - 1)?;
+        match after(text, j, 0x7D)? {
             Item::More(k) => i = k,
-            Item::Done(e) => return Read::To(e),
-            Item::Wrong => return Read::Bad,
+            Item::Done(e) => return Ok(e),
         }
-        n -= 1;
     }
-    Read::Bad
+    Err(SyntaxError::Malformed)
 }

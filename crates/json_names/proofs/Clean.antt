@@ -1,5 +1,5 @@
 -- Laws of texts without backslashes: one byte more, and the names, none of which has one.
-use Rattle.std.proofs.Common.{◌≡◌, ℕ, zero, suc, ◌+◌, ◌<◌, ◌≤◌, Bool, true, false, List, length, get_or, sym, refl, ◌∙◌, arith, below_more, ne_eqb}
+use Rattle.std.proofs.Common.{◌≡◌, ℕ, zero, suc, ◌+◌, ◌<◌, ◌≤◌, Bool, true, false, List, length, get_or, sym, refl, arith, below_more, ne_eqb, eqb, eqb-true}
 use native.Mathlib.Decide.{dec_lt}
 use lib.ListN.{get_or-eq_default}
 use Rattle.json_walk.specs.Strings.{bytes_at, raw_at, slashed}
@@ -13,13 +13,10 @@ pub clean-more : (s : List ℕ) (i : ℕ) → NoSlash s i → (get_or s i 0 ≡ 
 unfolding NoSlash
 clean-more s i h b = below_more _ _ h b
 
-pub clean_all : (s : List ℕ) (i : ℕ) → length s ≤ i → NoSlash s i → Clean s true
+-- A count of backslashes that is 0 after the whole text.
+pub clean-known : (s : List ℕ) (i any : ℕ) → length s ≤ i → (any ≡ 0 → NoSlash s i) → Clean s (eqb any 0)
 unfolding NoSlash Clean
-clean_all s i p h e k q = h k (omega arith)
-
-pub not-clean : (s : List ℕ) → Clean s false
-unfolding Clean
-not-clean s e = let z : ◌≡◌ {A = ℕ} 0 1 = cc in absurd (omega arith)
+clean-known s i any p h e k q = h (eqb-true any 0 e) k (omega arith)
 
 -- Past the end of the text each byte is 0.
 nowhere : (s : List ℕ) → NoSlash s (length s) → (k : ℕ) → get_or s k 0 ≡ 0x5C → ⊥

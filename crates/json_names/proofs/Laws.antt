@@ -1,6 +1,6 @@
 -- Laws of the faults of names: one level.
 use Rattle.std.specs.Prelude.{if◌then◌else◌}
-use Rattle.std.proofs.Common.{◌≡◌, ℕ, zero, suc, ◌-◌, Bool, true, false, eqb, List, refl, sub-one}
+use Rattle.std.proofs.Common.{◌≡◌, ℕ, zero, suc, ◌-◌, false, eqb, List, refl, sub-one}
 use Rattle.json_text.specs.Bytes.{byte}
 use Rattle.json_names.specs.Inner.Names.{fault_at, object_fault, any_element}
 use Rattle.json_walk.specs.Walk.{elements_of}

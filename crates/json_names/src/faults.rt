@@ -14,7 +14,6 @@ use crate::slashes::slash_named;
 use json_ends::arrays::{first_element, next_element};
 use json_ends::objects::{first_member, next_member};
 use json_text::bytes::byte;
-use json_walk::{ElementStep, MemberStep};
 
 // Is the value at a place at fault? It opens at most so many levels. The names of the objects around it stand in `order`
 // before `base`.
@@ -62,23 +61,17 @@ fn object(
 {
     let mut step = first_member(text, ends, at);
     let mut k = base;
-    let mut n = text.len();
-    while 0 < n {
-        n -= 1;
-        match step {
-            MemberStep::One(m) => {
-                if slash_named(text, clean, m.name, m.stop) {
-                    return true;
-                }
-                k = append(order, k, pack(text, m.name, m.stop));
-                step = next_member(text, ends, m.after);
-                if opens(text, m.value) {
-                    if fault(text, ends, m.value, left, clean, k, order, spare) {
-                        return true;
-                    }
-                }
-            }
-            MemberStep::End => return repeated_from(text, ends, at, base, k, order, spare),
+    for _ in 0..text.len() {
+        let Some(m) = step else {
+            break;
+        };
+        if slash_named(text, clean, m.name, m.stop) {
+            return true;
+        }
+        k = append(order, k, pack(text, m.name, m.stop));
+        step = next_member(text, ends, m.after);
+        if opens(text, m.value) && fault(text, ends, m.value, left, clean, k, order, spare) {
+            return true;
         }
     }
     repeated_from(text, ends, at, base, k, order, spare)
@@ -100,19 +93,13 @@ fn array(
     ensures { result ≡ any_element (λ v. fault_at left text.now v) (elements_of text.now at) }
 {
     let mut step = first_element(text, ends, at);
-    let mut n = text.len();
-    while 0 < n {
-        n -= 1;
-        match step {
-            ElementStep::Next(e) => {
-                step = next_element(text, ends, e.after);
-                if opens(text, e.value) {
-                    if fault(text, ends, e.value, left, clean, base, order, spare) {
-                        return true;
-                    }
-                }
-            }
-            ElementStep::Stop => return false,
+    for _ in 0..text.len() {
+        let Some(e) = step else {
+            return false;
+        };
+        step = next_element(text, ends, e.after);
+        if opens(text, e.value) && fault(text, ends, e.value, left, clean, base, order, spare) {
+            return true;
         }
     }
     false

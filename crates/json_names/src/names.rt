@@ -6,7 +6,6 @@ ghost use Rattle.json_walk.specs.Strings.{raw_at};
 ghost use Rattle.json_names.specs.Inner.Names.{named, repeats};
 
 use json_ends::objects::{first_member, next_member};
-use json_walk::MemberStep;
 use json_walk::strings::same_raw;
 
 // Has one of the next n members, after a place, the name that stands from `name` to `stop`?
@@ -22,18 +21,14 @@ pub(crate) fn among(
     ensures { result ≡ named text.now (raw_at text.now name stop) (members_from count text.now (next_member_at text.now at)) }
 {
     let mut step = next_member(text, ends, at);
-    let mut n = count;
-    while 0 < n {
-        match step {
-            MemberStep::One(m) => {
-                if same_raw(text, name, stop, m.name, m.stop) {
-                    return true;
-                }
-                step = next_member(text, ends, m.after);
-            }
-            MemberStep::End => return false,
+    for _ in 0..count {
+        let Some(m) = step else {
+            return false;
+        };
+        if same_raw(text, name, stop, m.name, m.stop) {
+            return true;
         }
-        n -= 1;
+        step = next_member(text, ends, m.after);
     }
     false
 }
@@ -44,18 +39,14 @@ pub(crate) fn repeated(text: &[u8], ends: &[u32], at: usize) -> bool
     ensures { result ≡ repeats text.now (members_of text.now at) }
 {
     let mut step = first_member(text, ends, at);
-    let mut n = text.len();
-    while 0 < n {
-        match step {
-            MemberStep::One(m) => {
-                if among(text, ends, m.name, m.stop, m.after, n - 1) {
-                    return true;
-                }
-                step = next_member(text, ends, m.after);
-            }
-            MemberStep::End => return false,
+    for i in 0..text.len() {
+        let Some(m) = step else {
+            return false;
+        };
+        if among(text, ends, m.name, m.stop, m.after, text.len() - (i + 1)) {
+            return true;
         }
-        n -= 1;
+        step = next_member(text, ends, m.after);
     }
     false
 }

@@ -6,14 +6,11 @@ ghost use Rattle.json_names.specs.Inner.Walked.{opener};
 use json_text::bytes::byte;
 
 // Does an object or an array begin at a place?
+#[tactic(auto, unfolding(crate::specs::Inner::Walked::opener))]
 pub(crate) fn opens(text: &[u8], at: usize) -> bool
     ensures { result ≡ opener (byte text.now at) }
 {
-    let b = byte(text, at);
-    if b == 0x7B {
-        return true;
-    }
-    b == 0x5B
+    matches!(byte(text, at), 0x7B | 0x5B)
 }
 
 // Puts an entry after the first k, if there is room, and says how many there are then.

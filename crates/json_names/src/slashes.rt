@@ -21,15 +21,10 @@ pub(crate) fn slash_free(text: &[u8]) -> bool
     ensures { Clean text.now result }
 {
     let mut any: u8 = 0;
-    let mut i = 0;
-    while i < text.len() {
-        any = seen(any, text[i]);
-        i += 1;
+    for b in text {
+        any = seen(any, *b);
     }
-    if any == 0 {
-        return true;
-    }
-    false
+    any == 0
 }
 
 // Has the name from a place to another a backslash? In a clean text none has.

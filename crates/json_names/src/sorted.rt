@@ -10,43 +10,24 @@ use crate::names::{among, repeated};
 use crate::order::{entry_before, name_of, stop_of};
 use crate::radix::put;
 use json_ends::objects::{first_member, next_member};
-use json_walk::MemberStep;
 
 // The entry at an index; 0 past the end.
 pub(crate) fn entry(order: &[u64], i: usize) -> u64
     ensures { result ≡ slice_index order.now i }
 {
-    if i < order.len() {
-        return order[i];
-    }
-    0
-}
-
-// The difference, and 0 where it would be below 0.
-pub(crate) fn minus(a: usize, b: usize) -> usize
-    ensures { result ≡ a - b }
-{
-    if a < b {
-        return 0;
-    }
-    a - b
+    order.get(i).copied().unwrap_or(0)
 }
 
 // How many of the first entries come before the next one.
 pub(crate) fn rising(text: &[u8], order: &[u64], k: usize) -> usize
     ensures { Rising text.now order.now result }
 {
-    let mut i = 0;
-    while i < k {
-        if k - i < 2 {
+    for i in 0..k {
+        if k - i < 2 || !entry_before(text, entry(order, i), entry(order, i + 1)) {
             return i;
         }
-        if !entry_before(text, entry(order, i), entry(order, i + 1)) {
-            return i;
-        }
-        i += 1;
     }
-    i
+    k
 }
 
 // Writes, for each of the first k entries, its index where `locate` looks for it. A member takes five bytes at least, so
@@ -54,10 +35,8 @@ pub(crate) fn rising(text: &[u8], order: &[u64], k: usize) -> usize
 pub(crate) fn index(order: &[u64], places: &mut [u64], k: usize)
     ensures { length places.new ≡ length places.old }
 {
-    let mut i = 0;
-    while i < k {
+    for i in 0..k {
         put(places, name_of(entry(order, i)) / 5, i as u64);
-        i += 1;
     }
 }
 
@@ -73,30 +52,17 @@ fn covered(text: &[u8], ends: &[u32], at: usize, order: &[u64], places: &[u64], 
 {
     let mut step = first_member(text, ends, at);
     let mut last = at;
-    let mut n = text.len();
-    while 0 < n {
-        match step {
-            MemberStep::One(m) => {
-                let t = locate(places, m.name);
-                let e = entry(order, t);
-                if m.name <= last {
-                    return false;
-                }
-                if k <= t {
-                    return false;
-                }
-                if name_of(e) != m.name {
-                    return false;
-                }
-                if stop_of(e) != m.stop {
-                    return false;
-                }
-                last = m.name;
-                step = next_member(text, ends, m.after);
-            }
-            MemberStep::End => return true,
+    for _ in 0..text.len() {
+        let Some(m) = step else {
+            return true;
+        };
+        let t = locate(places, m.name);
+        let e = entry(order, t);
+        if m.name <= last || k <= t || name_of(e) != m.name || stop_of(e) != m.stop {
+            return false;
         }
-        n -= 1;
+        last = m.name;
+        step = next_member(text, ends, m.after);
     }
     true
 }
@@ -107,18 +73,14 @@ fn again(text: &[u8], ends: &[u32], at: usize, name: usize) -> bool
     ensures { result ≡ true → repeats text.now (members_of text.now at) ≡ true }
 {
     let mut step = first_member(text, ends, at);
-    let mut n = text.len();
-    while 0 < n {
-        match step {
-            MemberStep::One(m) => {
-                if m.name == name {
-                    return among(text, ends, m.name, m.stop, m.after, n - 1);
-                }
-                step = next_member(text, ends, m.after);
-            }
-            MemberStep::End => return false,
+    for i in 0..text.len() {
+        let Some(m) = step else {
+            return false;
+        };
+        if m.name == name {
+            return among(text, ends, m.name, m.stop, m.after, text.len() - (i + 1));
         }
-        n -= 1;
+        step = next_member(text, ends, m.after);
     }
     false
 }
@@ -136,17 +98,10 @@ pub(crate) fn judge(
     requires { (at < length text.now) × Rising text.now order.now r × Ends text.now ends.now }
     ensures { result ≡ repeats text.now (members_of text.now at) }
 {
-    if 1 < minus(k, r) {
-        if again(text, ends, at, name_of(entry(order, r))) {
-            return true;
-        }
-        if again(text, ends, at, name_of(entry(order, r + 1))) {
-            return true;
-        }
-        return repeated(text, ends, at);
+    if 1 < k.saturating_sub(r) {
+        return again(text, ends, at, name_of(entry(order, r)))
+            || again(text, ends, at, name_of(entry(order, r + 1)))
+            || repeated(text, ends, at);
     }
-    if covered(text, ends, at, order, places, k) {
-        return false;
-    }
-    repeated(text, ends, at)
+    !covered(text, ends, at, order, places, k) && repeated(text, ends, at)
 }

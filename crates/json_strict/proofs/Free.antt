@@ -1,22 +1,21 @@
 -- Laws of texts without the escape of a surrogate: one place more, and the pass over their escapes, each of which it passes.
-use Rattle.std.specs.Prelude.{if◌then◌else◌}
+use Rattle.std.specs.Prelude.{if◌then◌else◌, Result, Ok, Err, is_ok}
 use Prim.Native.Nat.{ℕ, zero, suc, ◌+◌, ◌-◌, ◌*◌, ◌≤◌, ◌<◌}
 use mathlib.Core.Bool.{Bool, true, false}
 use mathlib.Core.List.{List}
 use mathlib.Core.Path.{◌≡◌, refl, sym}
 use native.Mathlib.Decide.{dec_lt}
 use native.Mathlib.Omega.{arith}
-use borrow.Author.Tests.{ltb-true, ltb-false, leb-true, leb-false, eqb-false, lt-ltb, le-ltb, lt-leb}
+use borrow.Author.Tests.{ltb-false, leb-true, eqb-false}
 use lib.Dec.{eqb, ltb, leb}
 use lib.ListN.{length, get_or, get_or-eq_default}
 use Rattle.json_text.specs.Bytes.{byte, space_at, next}
-use Rattle.json_text.specs.declared.Read.{Read}
-use Rattle.json_text.specs.declared.Read.TheVariants.{To, Bad, Deep}
+use Rattle.json_text.specs.declared.SyntaxError.{SyntaxError}
 use Rattle.json_value.specs.Values.{levels}
 use Rattle.json_names.specs.Inner.Names.{fault_at}
 use Rattle.json_strict.specs.Answer.{paired_answer}
 use Rattle.json_strict.proofs.Faulted.{text-tree}
-use Rattle.json_strict.specs.Inner.Slashes.{differ, lacks_d, is_d, front, NoFront, is_to}
+use Rattle.json_strict.specs.Inner.Slashes.{differ, lacks_d, is_d, front, NoFront}
 use Rattle.json_strict.specs.Surrogates.{hex_value, unit_at, is_first, is_second, pair_at, escaped_at, pairs_at}
 
 pub not-both : {P : Type 0} → false ≡ true → P
@@ -119,7 +118,7 @@ unfolding unit_at
 unit-outside s i h = outside _ _ _ _ (hex-small (byte s i)) (hex-small (byte s (i + 1))) (hex-small (byte s (i + 2))) (hex-small (byte s (i + 3))) (hex-no-d (byte s i) h)
 
 -- The escape of another char is passed.
-pair-plain : (s : List ℕ) (i : ℕ) → is_d (byte s (i + 2)) ≡ false → is_to (pair_at s i) ≡ true
+pair-plain : (s : List ℕ) (i : ℕ) → is_d (byte s (i + 2)) ≡ false → is_ok (pair_at s i) ≡ true
 unfolding pair_at
 pair-plain s i h = rw (no_second (unit_at s (i + 2)) (unit-outside s (i + 2) h), no-first (unit_at s (i + 2)) (unit-outside s (i + 2) h))
 
@@ -142,35 +141,33 @@ behind s h i a b = go (dec_lt (i + 2) (length s))
     go (yes p) = here _ _ _ a b (h i p)
     go (no p) = past (get_or-eq_default s 0 (omega arith))
 
-escaped-to : (s : List ℕ) → NoFront s (length s) → (i : ℕ) → is_to (escaped_at s i) ≡ true
+escaped-to : (s : List ℕ) → NoFront s (length s) → (i : ℕ) → is_ok (escaped_at s i) ≡ true
 unfolding escaped_at
 escaped-to s h i = go (eqb (byte s i) 0x5C) refl (eqb (byte s (i + 1)) 0x75) refl
   where
-    go : (x : Bool) → eqb (byte s i) 0x5C ≡ x → (y : Bool) → eqb (byte s (i + 1)) 0x75 ≡ y → is_to (if x then (if y then pair_at s i else To (i + 2)) else To (i + 1)) ≡ true
+    go : (x : Bool) → eqb (byte s i) 0x5C ≡ x → (y : Bool) → eqb (byte s (i + 1)) 0x75 ≡ y → is_ok (if x then (if y then pair_at s i else Ok (i + 2)) else Ok (i + 1)) ≡ true
     go true d true e = pair-plain s i (behind s h i d e)
     go true d false e = refl
     go false d y e = refl
 
-next-to : (r : Read) (f : ℕ → Read) → is_to r ≡ true → ((j : ℕ) → is_to (f j) ≡ true) → is_to (next r f) ≡ true
-next-to (To j) f p q = q j
-next-to Bad f p q = not-both p
-next-to Deep f p q = not-both p
+next-to : (r : Result ℕ SyntaxError) (f : ℕ → Result ℕ SyntaxError) → is_ok r ≡ true → ((j : ℕ) → is_ok (f j) ≡ true) → is_ok (next r f) ≡ true
+next-to (Ok j) f p q = q j
+next-to (Err e) f p q = not-both p
 
-free-from : (s : List ℕ) → NoFront s (length s) → (n i : ℕ) → is_to (pairs_at n s i) ≡ true
+free-from : (s : List ℕ) → NoFront s (length s) → (n i : ℕ) → is_ok (pairs_at n s i) ≡ true
 unfolding pairs_at
 free-from s h zero i = refl
 free-from s h (suc n) i = go (leb (length s) i) (λ j. free-from s h n j)
   where
-    go : (x : Bool) → ((j : ℕ) → is_to (pairs_at n s j) ≡ true) → is_to (if x then To i else next (escaped_at s i) (λ j. pairs_at n s j)) ≡ true
+    go : (x : Bool) → ((j : ℕ) → is_ok (pairs_at n s j) ≡ true) → is_ok (if x then Ok i else next (escaped_at s i) (λ j. pairs_at n s j)) ≡ true
     go true r = refl
     go false r = next-to (escaped_at s i) (λ j. pairs_at n s j) (escaped-to s h i) r
 
-pub free-pairs : (s : List ℕ) → NoFront s (length s) → true ≡ is_to (pairs_at (length s) s 0)
+pub free-pairs : (s : List ℕ) → NoFront s (length s) → true ≡ is_ok (pairs_at (length s) s 0)
 free-pairs s h = sym (free-from s h (length s) 0)
 
 -- The answer asks no more of a pass over escapes.
-pub paired-answer : (s : List ℕ) (r : Read) → paired_answer s r ≡ (if is_to r then (if fault_at levels s (space_at s 0) then 4 else 0) else 3)
+pub paired-answer : (s : List ℕ) (r : Result ℕ SyntaxError) → paired_answer s r ≡ (if is_ok r then (if fault_at levels s (space_at s 0) then 4 else 0) else 3)
 unfolding paired_answer
-paired-answer s (To i) = rw (text-tree s)
-paired-answer s Bad = refl
-paired-answer s Deep = refl
+paired-answer s (Ok i) = rw (text-tree s)
+paired-answer s (Err e) = refl

@@ -1,7 +1,7 @@
 -- The answer of a text: 0, or the lowest of 1 to 4 that applies.
-use Rattle.std.specs.Prelude.{if◌then◌else◌, ℕ, List, ltb, length}
-use Rattle.json_text.specs.declared.Read.{Read}
-use Rattle.json_text.specs.declared.Read.TheVariants.{To, Bad, Deep}
+use Rattle.std.specs.Prelude.{if◌then◌else◌, ℕ, List, ltb, length, Result, Ok, Err}
+use Rattle.json_text.specs.declared.SyntaxError.{SyntaxError}
+use Rattle.json_text.specs.declared.SyntaxError.TheVariants.{Malformed, TooDeep}
 use Rattle.json_value.specs.Values.{text_at}
 use Rattle.json_tree.specs.Tree.{text_tree}
 use Rattle.json_tree.specs.Faults.{faulty}
@@ -13,17 +13,16 @@ limit = 65536
 
 -- A JSON text whose escaped surrogates have their partners, or not: 4 two equal member names in one object, or a
 -- backslash in any member name; 3 an escaped surrogate without its partner.
-unfoldable pub paired_answer : List ℕ → Read → ℕ
-paired_answer s (To i) = if faulty (text_tree s) then 4 else 0
-paired_answer s Bad = 3
-paired_answer s Deep = 3
+unfoldable pub paired_answer : List ℕ → Result ℕ SyntaxError → ℕ
+paired_answer s (Ok i) = if faulty (text_tree s) then 4 else 0
+paired_answer s (Err e) = 3
 
 -- What reading the grammar gave: 2 a beginning of the text, itself the beginning of a JSON text, opens a 17th level;
 -- 3 no JSON text.
-unfoldable pub read_answer : List ℕ → Read → ℕ
-read_answer s (To i) = paired_answer s (pairs_at (length s) s 0)
-read_answer s Bad = 3
-read_answer s Deep = 2
+unfoldable pub read_answer : List ℕ → Result ℕ SyntaxError → ℕ
+read_answer s (Ok i) = paired_answer s (pairs_at (length s) s 0)
+read_answer s (Err Malformed) = 3
+read_answer s (Err TooDeep) = 2
 
 -- 1 longer than 65,536 bytes
 unfoldable pub answer_of : List ℕ → ℕ

@@ -1,10 +1,10 @@
 -- Escaped surrogates, RFC 8259, section 7: a character outside the Basic Multilingual Plane is escaped as a
 -- 12-character sequence, the UTF-16 surrogate pair. In a JSON text a backslash stands only at the front of an
 -- escape in a string, so the text is gone through from left to right, escape by escape.
-use Rattle.std.specs.Prelude.{if◌then◌else◌, ℕ, zero, suc, ◌+◌, ◌-◌, ◌*◌, Bool, false, List, eqb, ltb, leb, length}
+use Rattle.std.specs.Prelude.{if◌then◌else◌, ℕ, zero, suc, ◌+◌, ◌-◌, ◌*◌, Bool, false, List, eqb, ltb, leb, length, Result, Ok, Err}
 use Rattle.json_text.specs.Bytes.{byte, next}
-use Rattle.json_text.specs.declared.Read.{Read}
-use Rattle.json_text.specs.declared.Read.TheVariants.{To, Bad}
+use Rattle.json_text.specs.declared.SyntaxError.{SyntaxError}
+use Rattle.json_text.specs.declared.SyntaxError.TheVariants.{Malformed}
 
 -- The value of a HEXDIG, and 0 for any other byte.
 unfoldable pub hex_value : ℕ → ℕ
@@ -36,21 +36,21 @@ partner_at s i =
     else false
 
 -- The escape uXXXX whose backslash stands at i: a pair is passed as one; Bad is a surrogate without its partner.
-unfoldable pub pair_at : List ℕ → ℕ → Read
+unfoldable pub pair_at : List ℕ → ℕ → Result ℕ SyntaxError
 pair_at s i =
-    if is_second (unit_at s (i + 2)) then Bad else
-    if is_first (unit_at s (i + 2)) then (if partner_at s (i + 6) then To (i + 12) else Bad) else
-    To (i + 6)
+    if is_second (unit_at s (i + 2)) then Err Malformed else
+    if is_first (unit_at s (i + 2)) then (if partner_at s (i + 6) then Ok (i + 12) else Err Malformed) else
+    Ok (i + 6)
 
 -- One step: an escape, or a byte that is none.
-unfoldable pub escaped_at : List ℕ → ℕ → Read
+unfoldable pub escaped_at : List ℕ → ℕ → Result ℕ SyntaxError
 escaped_at s i =
-    if eqb (byte s i) 0x5C then (if eqb (byte s (i + 1)) 0x75 then pair_at s i else To (i + 2)) else
-    To (i + 1)
+    if eqb (byte s i) 0x5C then (if eqb (byte s (i + 1)) 0x75 then pair_at s i else Ok (i + 2)) else
+    Ok (i + 1)
 
 -- From i to the end of the text, in at most n steps: has each escaped surrogate its partner?
-unfoldable pub pairs_at : ℕ → List ℕ → ℕ → Read
-pairs_at zero s i = To i
+unfoldable pub pairs_at : ℕ → List ℕ → ℕ → Result ℕ SyntaxError
+pairs_at zero s i = Ok i
 pairs_at (suc n) s i =
     let rest = next (escaped_at s i) (λ j. pairs_at n s j) in
-    if leb (length s) i then To i else rest
+    if leb (length s) i then Ok i else rest

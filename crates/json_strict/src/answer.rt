@@ -1,5 +1,5 @@
 // The answer of a text: 0, or the lowest of 1 to 4 that applies.
-ghost use Rattle.std.specs.Prelude.{◌≡◌};
+ghost use Rattle.std.specs.Prelude.{◌≡◌, ◌≤◌};
 ghost use Rattle.json_ends.specs.Inner.Ends.{Ends};
 ghost use Rattle.json_strict.specs.Answer.{answer_of};
 ghost use Rattle.json_strict.specs.Inner.Judged.{Judged};
@@ -7,7 +7,7 @@ ghost use Rattle.json_strict.specs.Inner.Judged.{Judged};
 use crate::slashes::paired;
 use json_ends::whole::whole;
 use json_names::whole::text_fault;
-use json_text::Read;
+use json_text::SyntaxError;
 
 // A text longer than this many bytes answers 1.
 const LIMIT: usize = 65536;
@@ -22,7 +22,7 @@ pub fn judge(text: &[u8], ends: &mut [u32]) -> u32
         return 1;
     }
     match whole(text, ends) {
-        Read::To(_) => {
+        Ok(_) => {
             if !paired(text) {
                 return 3;
             }
@@ -31,24 +31,17 @@ pub fn judge(text: &[u8], ends: &mut [u32]) -> u32
             }
             0
         }
-        Read::Bad => 3,
-        Read::Deep => 2,
+        Err(SyntaxError::Malformed) => 3,
+        Err(SyntaxError::TooDeep) => 2,
     }
 }
 
-// The answer of a text of 2,048 bytes.
-fn short_answer(text: &[u8]) -> u32
+// The answer, with a table of N ends. A longer text has its answer too, in more time.
+fn answer_in<const N: usize>(text: &[u8]) -> u32
+    requires { N ≤ 65536 }
     ensures { result ≡ answer_of text.now }
 {
-    let mut ends = [0u32; 2048];
-    judge(text, &mut ends)
-}
-
-// The answer of a text of any length.
-fn long_answer(text: &[u8]) -> u32
-    ensures { result ≡ answer_of text.now }
-{
-    let mut ends = [0u32; 65536];
+    let mut ends = [0u32; N];
     judge(text, &mut ends)
 }
 
@@ -57,7 +50,7 @@ pub fn answer(text: &[u8]) -> u32
     ensures { result ≡ answer_of text.now }
 {
     if text.len() <= 2048 {
-        return short_answer(text);
+        return answer_in::<2048>(text);
     }
-    long_answer(text)
+    answer_in::<65536>(text)
 }

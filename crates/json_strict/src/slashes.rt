@@ -1,11 +1,10 @@
 // Escaped surrogates, and texts without them. The escape of one begins with a backslash, u and D: most texts have no such
 // three bytes, and are known by one pass that does not stop, so that the machine looks at many bytes at once.
-ghost use Rattle.std.specs.Prelude.{◌≡◌, true, false, ◌≤◌, length};
-ghost use Rattle.json_strict.specs.Inner.Slashes.{Small, differ, lacks_d, front, NoFront, is_to};
+ghost use Rattle.std.specs.Prelude.{◌≡◌, true, false, ◌≤◌, length, is_ok};
+ghost use Rattle.json_strict.specs.Inner.Slashes.{Small, differ, lacks_d, front, NoFront};
 ghost use Rattle.json_strict.specs.Surrogates.{pairs_at};
 
 use crate::surrogates::pairs;
-use json_text::Read;
 
 // 0 where two bytes are the same, else 1.
 fn differs(a: u8, b: u8) -> u8
@@ -43,28 +42,16 @@ fn surrogate_free(text: &[u8]) -> bool
     ensures { result ≡ true → NoFront text.now (length text.now) }
 {
     let mut any: u8 = 0;
-    let mut i = 2;
-    while i < text.len() {
+    for i in 2..text.len() {
         any = seen(any, text[i - 2], text[i - 1], text[i]);
-        i += 1;
     }
-    if any == 0 {
-        return true;
-    }
-    false
+    any == 0
 }
 
 // Has each escaped surrogate its partner, in the whole text?
 pub(crate) fn paired(text: &[u8]) -> bool
     requires { length text.now ≤ 65536 }
-    ensures { result ≡ is_to (pairs_at (length text.now) text.now 0) }
+    ensures { result ≡ is_ok (pairs_at (length text.now) text.now 0) }
 {
-    if surrogate_free(text) {
-        return true;
-    }
-    match pairs(text) {
-        Read::To(_) => true,
-        Read::Bad => false,
-        Read::Deep => false,
-    }
+    surrogate_free(text) || pairs(text).is_ok()
 }

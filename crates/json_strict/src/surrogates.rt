@@ -4,32 +4,20 @@ ghost use Rattle.std.specs.Prelude.{◌≡◌, ◌≤◌, ◌<◌, length};
 ghost use Rattle.json_strict.specs.Surrogates.{unit_at, is_first, is_second, partner_at, pair_at, escaped_at, pairs_at};
 ghost use Rattle.json_strict.specs.Inner.Hex.{HexValue};
 
-use json_text::Read;
+use json_text::SyntaxError;
 use json_text::bytes::byte;
 
 // The value of a hexadecimal digit.
+#[tactic(auto, unfolding(crate::specs::Surrogates::hex_value))]
 fn hex_value(b: u8) -> u32
     ensures { HexValue b result }
 {
-    if b < 0x30 {
-        return 0;
+    match b {
+        0x30..=0x39 => u32::from(b - 0x30),
+        0x41..=0x46 => u32::from(b - 0x37),
+        0x61..=0x66 => u32::from(b - 0x57),
+        _ => 0,
     }
-    if b <= 0x39 {
-        return (b - 0x30) as u32;
-    }
-    if b < 0x41 {
-        return 0;
-    }
-    if b <= 0x46 {
-        return (b - 0x37) as u32;
-    }
-    if b < 0x61 {
-        return 0;
-    }
-    if b <= 0x66 {
-        return (b - 0x57) as u32;
-    }
-    0
 }
 
 // The number of four hexadecimal digits.
@@ -44,87 +32,74 @@ fn unit(text: &[u8], at: usize) -> u32
     ((a * 16 + b) * 16 + c) * 16 + d
 }
 
+#[tactic(auto, unfolding(crate::specs::Surrogates::is_first))]
 fn is_first(u: u32) -> bool
     ensures { result ≡ is_first u }
 {
-    if u < 0xD800 {
-        return false;
-    }
-    u <= 0xDBFF
+    matches!(u, 0xD800..=0xDBFF)
 }
 
+#[tactic(auto, unfolding(crate::specs::Surrogates::is_second))]
 fn is_second(u: u32) -> bool
     ensures { result ≡ is_second u }
 {
-    if u < 0xDC00 {
-        return false;
-    }
-    u <= 0xDFFF
+    matches!(u, 0xDC00..=0xDFFF)
 }
 
 // Is the second of a pair escaped here?
+#[tactic(auto, unfolding(crate::specs::Surrogates::partner_at))]
 fn partner(text: &[u8], at: usize) -> bool
     requires { at < 100000 }
     ensures { result ≡ partner_at text.now at }
 {
-    if byte(text, at) != 0x5C {
-        return false;
-    }
-    if byte(text, at + 1) != 0x75 {
-        return false;
-    }
-    is_second(unit(text, at + 2))
+    byte(text, at) == 0x5C && byte(text, at + 1) == 0x75 && is_second(unit(text, at + 2))
 }
 
 // The escape whose backslash stands here.
-fn pair(text: &[u8], at: usize) -> Read
+#[tactic(auto, unfolding(crate::specs::Surrogates::pair_at))]
+fn pair(text: &[u8], at: usize) -> Result<usize, SyntaxError>
     requires { at < 65536 }
     ensures { result ≡ pair_at text.now at }
 {
     let u = unit(text, at + 2);
     if is_second(u) {
-        return Read::Bad;
+        return Err(SyntaxError::Malformed);
     }
     if is_first(u) {
         if partner(text, at + 6) {
-            return Read::To(at + 12);
+            return Ok(at + 12);
         }
-        return Read::Bad;
+        return Err(SyntaxError::Malformed);
     }
-    Read::To(at + 6)
+    Ok(at + 6)
 }
 
 // An escape, or a byte that is none.
-fn escaped(text: &[u8], at: usize) -> Read
+#[tactic(auto, unfolding(crate::specs::Surrogates::escaped_at))]
+fn escaped(text: &[u8], at: usize) -> Result<usize, SyntaxError>
     requires { at < 65536 }
     ensures { result ≡ escaped_at text.now at }
 {
     if byte(text, at) != 0x5C {
-        return Read::To(at + 1);
+        return Ok(at + 1);
     }
     if byte(text, at + 1) != 0x75 {
-        return Read::To(at + 2);
+        return Ok(at + 2);
     }
     pair(text, at)
 }
 
 // The whole text.
-pub(crate) fn pairs(text: &[u8]) -> Read
+pub(crate) fn pairs(text: &[u8]) -> Result<usize, SyntaxError>
     requires { length text.now ≤ 65536 }
     ensures { result ≡ pairs_at (length text.now) text.now 0 }
 {
     let mut i = 0;
-    let mut n = text.len();
-    while 0 < n {
+    for _ in 0..text.len() {
         if text.len() <= i {
-            return Read::To(i);
+            return Ok(i);
         }
-        match escaped(text, i) {
-            Read::To(j) => i = j,
-            Read::Bad => return Read::Bad,
-            Read::Deep => return Read::Deep,
-        }
-        n -= 1;
+        i = escaped(text, i)?;
     }
-    Read::To(i)
+    Ok(i)
 }

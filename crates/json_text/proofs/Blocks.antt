@@ -1,8 +1,8 @@
 -- Blocks of plain bytes: one byte more, and the run that goes on after them.
 use Prim.Native.Nat.{ℕ, zero, suc, ◌+◌, ◌≤◌, ◌<◌}
-use mathlib.Core.Bool.{Bool, true, false}
+use mathlib.Core.Bool.{true}
 use mathlib.Core.List.{List}
-use mathlib.Core.Path.{◌≡◌, refl, ap, sym, ◌∙◌}
+use mathlib.Core.Path.{◌≡◌, ap, ◌∙◌}
 use native.Mathlib.Omega.{arith}
 use borrow.Author.Count.{below_more}
 use borrow.Author.Tests.{ne_eqb, le-ltb, lt-ltb}
@@ -22,10 +22,6 @@ pub run_more : (s : List ℕ) (i n : ℕ) → PlainRun s i n → is_plain (get_o
 unfolding PlainRun
 run_more s i n h b = below_more _ _ h b
 
-pub run-all : (s : List ℕ) (i n m : ℕ) → m ≤ n → PlainRun s i n → PlainRun s i m
-unfolding PlainRun
-run-all s i n m p h k q = h k (omega arith)
-
 -- After so many plain bytes the run ends where it ends.
 pub run_on : (n : ℕ) (s : List ℕ) (i : ℕ) → PlainRun s i n → i + n ≤ length s → plain_at s (i + n) ≡ plain_at s i
 unfolding PlainRun
@@ -37,6 +33,3 @@ run_on (suc n) s i h p =
 -- A run that begins with a plain byte is the run after it.
 pub plain-front : (s : List ℕ) (i e : ℕ) → e ≡ plain_at s (i + 1) → i < length s → is_plain (get_or s i 0) ≡ true → e ≡ plain_at s i
 plain-front s i e q h t = q ∙ plain_more s i h t
-
-pub not-both : {P : Type 0} → false ≡ true → P
-not-both e = let z : ◌≡◌ {A = ℕ} 0 1 = cc in absurd (omega arith)

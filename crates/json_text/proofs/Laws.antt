@@ -1,19 +1,18 @@
 -- Laws on tests of bytes and runs of bytes, which the readers' proofs cite.
-use Rattle.std.specs.Prelude.{if◌then◌else◌}
+use Rattle.std.specs.Prelude.{if◌then◌else◌, Ok, Err}
 use Prim.Native.Nat.{ℕ, zero, suc, ◌+◌, ◌-◌, ◌≤◌, ◌<◌}
 use mathlib.Core.Bool.{Bool, true, false}
 use mathlib.Core.List.{List, [], ◌∷◌}
-use mathlib.Core.Path.{◌≡◌, refl, ap, sym, ◌∙◌}
+use mathlib.Core.Path.{◌≡◌, refl, sym, ◌∙◌}
 use native.Mathlib.Numerals.{add-one, sub-one}
 use native.Mathlib.Omega.{arith}
-use lib.ListN.{length, get_or, drop, drop_of_length-le, get_or-eq_default}
+use lib.ListN.{length, get_or, drop}
 use lib.Dec.{eqb}
 use lib.Seq.{drop-cons}
 use Rattle.json_text.specs.Bytes.{next, run, past, is_space, is_digit, space_at, digits_at}
 use Rattle.json_text.specs.Utf8.{is_tail, tails_at}
 use Rattle.json_text.specs.Strings.{is_hex, is_escaped, char_at, chars_at}
-use Rattle.json_text.specs.declared.Read.{Read}
-use Rattle.json_text.specs.declared.Read.TheVariants.{To, Bad, Deep}
+use Rattle.json_text.specs.declared.SyntaxError.TheVariants.{Malformed}
 
 -- A test that 0 does not pass is passed by no place past the end.
 pub some : (p : ℕ → Bool) → p 0 ≡ false → (b : ℕ) → p b ≡ true → 0 < b
@@ -71,15 +70,22 @@ unfolding is_tail
 some-tail b r e h = some is_tail refl b (sym e ∙ h)
 
 -- The loop of tail bytes.
-pub tails-step : (n : ℕ) → 0 < n → (s : List ℕ) (i : ℕ) → tails_at n s i ≡ (if is_tail (get_or s i 0) then tails_at (n - 1) s (i + 1) else Bad)
+tails-step : (n : ℕ) → 0 < n → (s : List ℕ) (i : ℕ) → tails_at n s i ≡ (if is_tail (get_or s i 0) then tails_at (n - 1) s (i + 1) else Err Malformed)
 unfolding tails_at
 tails-step zero h s i = absurd (omega arith)
 tails-step (suc n) h s i = rw sub-one
 
-pub tails-none : (n : ℕ) → n ≤ 0 → (s : List ℕ) (i : ℕ) → tails_at n s i ≡ To i
+tails-none : (n : ℕ) → n ≤ 0 → (s : List ℕ) (i : ℕ) → tails_at n s i ≡ Ok i
 unfolding tails_at
 tails-none zero h s i = refl
 tails-none (suc n) h s i = absurd (omega arith)
+
+-- The same where the loop counts up to n: a turn of it after k turns, and its end.
+pub tails-turn : (n k : ℕ) → k < n → (s : List ℕ) (i : ℕ) → tails_at (n - k) s i ≡ (if is_tail (get_or s i 0) then tails_at (n - (k + 1)) s (i + 1) else Err Malformed)
+tails-turn n k h s i = let e : n - k - 1 ≡ n - (k + 1) = omega arith in rw (tails-step (n - k) (omega arith) s i, e)
+
+pub tails-over : (n k : ℕ) → n ≤ k → (s : List ℕ) (i : ℕ) → tails_at (n - k) s i ≡ Ok i
+tails-over n k h = tails-none (n - k) (omega arith)
 
 pub some-hex : (b : ℕ) (r : Bool) → r ≡ is_hex b → r ≡ true → 0 < b
 unfolding is_hex is_digit
@@ -91,12 +97,12 @@ some-escaped b r e h = some is_escaped refl b (sym e ∙ h)
 
 -- The loop of a string's chars.
 pub chars-step : (n : ℕ) → 0 < n → (s : List ℕ) (i : ℕ)
-    → chars_at n s i ≡ (if eqb (get_or s i 0) 0x22 then To (i + 1) else next (char_at s i) (λ j. chars_at (n - 1) s j))
+    → chars_at n s i ≡ (if eqb (get_or s i 0) 0x22 then Ok (i + 1) else next (char_at s i) (λ j. chars_at (n - 1) s j))
 unfolding chars_at
 chars-step zero h s i = absurd (omega arith)
 chars-step (suc n) h s i = rw sub-one
 
-pub chars-none : (n : ℕ) → n ≤ 0 → (s : List ℕ) (i : ℕ) → chars_at n s i ≡ Bad
+pub chars-none : (n : ℕ) → n ≤ 0 → (s : List ℕ) (i : ℕ) → chars_at n s i ≡ Err Malformed
 unfolding chars_at
 chars-none zero h s i = refl
 chars-none (suc n) h s i = absurd (omega arith)

@@ -8,12 +8,10 @@ use native.Mathlib.Numerals.{add-one}
 use native.Mathlib.Omega.{arith}
 use lib.ListN.{length, get_or, drop}
 use lib.Dec.{eqb, ltb}
-use Rattle.json_text.specs.Bytes.{next, run, past}
+use Rattle.json_text.specs.Bytes.{run, past}
 use Rattle.json_text.specs.Inner.Plain.{is_plain, plain_at}
 use Rattle.json_text.specs.Strings.{char_at, chars_at}
-use Rattle.json_text.specs.declared.Read.{Read}
-use Rattle.json_text.specs.declared.Read.TheVariants.{To, Bad}
-use Rattle.json_text.proofs.Laws.{some, past_more, past_stop, chars-step, chars-none}
+use Rattle.json_text.proofs.Laws.{some, past_more, past_stop}
 
 -- The loop of plain bytes: one turn, and no more.
 pub plain_more : (s : List ℕ) (i : ℕ) → i < length s → is_plain (get_or s i 0) ≡ true → plain_at s (i + 1) ≡ plain_at s i
@@ -86,24 +84,8 @@ skip_by (suc k) (suc n) m s i j e a b =
     let t = run_more is_plain s i k e in
     char-plain n s i t.0 ∙ skip_by k n m s (suc i) j t.1 (omega arith) (omega arith)
 
-short-by : (k n : ℕ) (s : List ℕ) (i : ℕ) → run is_plain (drop i s) ≡ k → n ≤ k → chars_at n s i ≡ Bad
-short-by k zero s i e h = chars-none 0 (omega arith) s i
-short-by zero (suc n) s i e h = absurd (omega arith)
-short-by (suc k) (suc n) s i e h =
-    let t = run_more is_plain s i k e in
-    char-plain n s i t.0 ∙ short-by k n s (suc i) t.1 (omega arith)
-
 -- A run of plain bytes is stepped over at once.
 pub chars-skip : (s : List ℕ) (i e n : ℕ) → e ≡ plain_at s i → e - i < n → chars_at n s i ≡ chars_at (n - (e - i)) s e
 unfolding plain_at past
 chars-skip s i e n q h =
     skip_by (run is_plain (drop i s)) n (n - (e - i)) s i e refl (omega arith) (omega arith)
-
--- The quote stands after the run.
-pub chars-quote : (s : List ℕ) (i e n : ℕ) → e ≡ plain_at s i → e - i < n → eqb (get_or s e 0) 0x22 ≡ true → chars_at n s i ≡ To (e + 1)
-chars-quote s i e n q h c = rw (chars-skip s i e n q h, chars-step (n - (e - i)) (omega arith) s e, c)
-
--- A run of more plain bytes than chars are left.
-pub chars-short : (s : List ℕ) (i e n : ℕ) → e ≡ plain_at s i → n ≤ e - i → chars_at n s i ≡ Bad
-unfolding plain_at past
-chars-short s i e n q h = short-by (run is_plain (drop i s)) n s i refl (omega arith)

@@ -1,17 +1,15 @@
 -- Bytes of a text by their place, the answer of a reader, and runs of bytes of one sort.
-use Rattle.std.specs.Prelude.{if◌then◌else◌, ℕ, suc, ◌+◌, Bool, true, false, List, [], ◌∷◌, get_or, drop, eqb, ltb, leb}
-use Rattle.json_text.specs.declared.Read.{Read}
-use Rattle.json_text.specs.declared.Read.TheVariants.{To, Bad, Deep}
+use Rattle.std.specs.Prelude.{if◌then◌else◌, ℕ, suc, ◌+◌, Bool, true, false, List, [], ◌∷◌, get_or, drop, eqb, ltb, leb, Result, Ok, Err}
+use Rattle.json_text.specs.declared.SyntaxError.{SyntaxError}
 
 -- The byte at a place. Past the end it is 0, which no rule of the grammar takes.
 abbrev pub byte : List ℕ → ℕ → ℕ
 byte s i = get_or s i 0
 
 -- One rule after another: the second starts where the first ended.
-abbrev pub next : Read → (ℕ → Read) → Read
-next (To j) k = k j
-next Bad k = Bad
-next Deep k = Deep
+abbrev pub next : Result ℕ SyntaxError → (ℕ → Result ℕ SyntaxError) → Result ℕ SyntaxError
+next (Ok j) k = k j
+next (Err e) k = Err e
 
 -- How many bytes at the front of a list pass a test.
 unfoldable pub run : (ℕ → Bool) → List ℕ → ℕ

@@ -7,37 +7,25 @@ ghost use Rattle.json_text.specs.Inner.Reads.{ByteAt};
 pub fn byte(text: &[u8], i: usize) -> u8
     ensures { ByteAt text.now i result }
 {
-    if i < text.len() {
-        return text[i];
-    }
-    0
+    text.get(i).copied().unwrap_or(0)
 }
 
+#[tactic(auto, unfolding(crate::specs::Bytes::is_space))]
 fn is_space(b: u8) -> bool
     ensures { result ≡ is_space b }
 {
-    if b == 0x20 {
-        return true;
-    }
-    if b == 0x09 {
-        return true;
-    }
-    if b == 0x0A {
-        return true;
-    }
-    b == 0x0D
+    matches!(b, 0x20 | 0x09 | 0x0A | 0x0D)
 }
 
+#[tactic(auto, unfolding(crate::specs::Bytes::is_digit))]
 pub fn is_digit(b: u8) -> bool
     ensures { result ≡ is_digit b }
 {
-    if b < 0x30 {
-        return false;
-    }
-    b <= 0x39
+    matches!(b, 0x30..=0x39)
 }
 
-// The place after white space.
+// The place after white space. A place may lie past the end, where no slice begins: so this and `digits` ask for byte after
+// byte by its place.
 pub fn space(text: &[u8], at: usize) -> usize
     ensures { result ≡ space_at text.now at }
 {

@@ -1,5 +1,5 @@
 // The leaves of a JSON text: bytes, UTF-8, strings, numbers, white space and literal names. Each reader starts at
-// a place of the text and answers where what it read ends. Nothing is copied and no table is kept.
+// a place of the text and answers where what it read ends, or why it does not. Nothing is copied and no table is kept.
 #![tactic(auto)]
 
 pub mod bytes;
@@ -9,11 +9,10 @@ pub mod strings;
 mod utf8;
 pub mod words;
 
-// What a reader answers: the place after what it read; or that the text is not JSON there; or that it opens a level
-// too many, which only values can.
-#[derive(Clone, Copy)]
-pub enum Read {
-    To(usize),
-    Bad,
-    Deep,
+// Why a reader gives no place after what it read: the text is not JSON there; or it opens a level too many, which
+// only values can.
+#[derive(Clone, Copy, PartialEq, Eq)]
+pub enum SyntaxError {
+    Malformed,
+    TooDeep,
 }

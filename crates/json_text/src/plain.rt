@@ -7,39 +7,25 @@ ghost use Rattle.json_text.specs.Inner.Plain.{is_plain, plain_at, PlainRun};
 use crate::bytes::byte;
 
 // No quotation mark, no backslash, no control byte, and no part of a char of several bytes.
+#[tactic(auto, unfolding(crate::specs::Inner::Plain::is_plain))]
 pub(crate) fn is_plain(b: u8) -> bool
     ensures { result ≡ is_plain b }
 {
-    if b == 0x22 {
-        return false;
-    }
-    if b == 0x5C {
-        return false;
-    }
-    if b < 0x20 {
-        return false;
-    }
-    b < 0x80
+    b != 0x22 && b != 0x5C && 0x20 <= b && b < 0x80
 }
 
 // 1 where two bytes are the same, else 0.
 fn same(a: u8, b: u8) -> u8
     ensures { (result ≡ 0 → a ≡ b → ⊥) × (result ≤ 1) }
 {
-    if a == b {
-        return 1;
-    }
-    0
+    u8::from(a == b)
 }
 
 // 1 where a byte is below another, else 0.
 fn below(a: u8, b: u8) -> u8
     ensures { (result ≡ 0 → b ≤ a) × (result ≤ 1) }
 {
-    if a < b {
-        return 1;
-    }
-    0
+    u8::from(a < b)
 }
 
 // 0 as long as each byte was plain. A sum in place of branches lets a block be tested as a whole.
@@ -58,15 +44,10 @@ fn block(text: &[u8], at: usize) -> bool
     ensures { result ≡ true → PlainRun text.now at 64 }
 {
     let mut any: u8 = 0;
-    let mut i: usize = 0;
-    while i < 64 {
-        any = mixed(any, text[at + i]);
-        i += 1;
+    for b in &text[at..at + 64] {
+        any = mixed(any, *b);
     }
-    if any == 0 {
-        return true;
-    }
-    false
+    any == 0
 }
 
 // The place after the plain blocks at a place.
@@ -75,13 +56,8 @@ fn blocks(text: &[u8], at: usize) -> usize
     ensures { plain_at text.now result ≡ plain_at text.now at }
 {
     let mut i = at;
-    let mut n = (text.len() - at) / 64;
-    while 0 < n {
-        if !block(text, i) {
-            return i;
-        }
+    while 64 <= text.len() - i && block(text, i) {
         i += 64;
-        n -= 1;
     }
     i
 }
@@ -102,13 +78,11 @@ pub(crate) fn plain(text: &[u8], at: usize) -> usize
     ensures { result ≡ plain_at text.now at }
 {
     let mut i = at;
-    let mut n: usize = 32;
     while is_plain(byte(text, i)) {
-        if n == 0 {
+        if i - at == 32 {
             return single(text, blocks(text, i));
         }
         i += 1;
-        n -= 1;
     }
     i
 }

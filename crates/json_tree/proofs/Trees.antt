@@ -1,5 +1,5 @@
 -- What the readers answer, about the tree of the text: kind and place, members and elements, strings, and look-up.
-use Rattle.std.specs.Prelude.{if◌then◌else◌}
+use Rattle.std.specs.Prelude.{if◌then◌else◌, Some}
 use Prim.Native.Nat.{ℕ, zero, suc}
 use mathlib.Core.Bool.{Bool, true, false}
 use mathlib.Core.List.{List, [], ◌∷◌}
@@ -59,7 +59,7 @@ unfolding fields_of look_up find_in
 find-tree tree s x [] = refl
 find-tree tree s x (m ∷ ms) = rw (find-tree tree s x ms) (both (same (raw_at s m.name m.stop) x))
   where
-    both : (c : Bool) → (if c then Rattle.json_tree.specs.Finds.some (tree m.value) else value_found tree (find_in s x ms)) ≡ value_found tree (if c then Rattle.json_tree.specs.declared.Found.TheVariants.Here m else find_in s x ms)
+    both : (c : Bool) → (if c then Rattle.json_tree.specs.Finds.some (tree m.value) else value_found tree (find_in s x ms)) ≡ value_found tree (if c then Some m else find_in s x ms)
     both true = refl
     both false = refl
 

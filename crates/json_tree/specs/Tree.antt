@@ -1,10 +1,9 @@
 -- A JSON text as a tree of values. Each value has its kind and its place; a string and a name have the raw bytes
 -- between their quotes, a number its integer where it is one that is read.
-use Rattle.std.specs.Prelude.{if◌then◌else◌, ℕ, zero, suc, List, [], ◌∷◌, eqb}
+use Rattle.std.specs.Prelude.{if◌then◌else◌, ℕ, zero, suc, List, [], ◌∷◌, eqb, Option, Result, Ok, Err}
 use Rattle.json_text.specs.Bytes.{byte, space_at}
 use Rattle.json_text.specs.Strings.{string_at}
-use Rattle.json_text.specs.declared.Read.{Read}
-use Rattle.json_text.specs.declared.Read.TheVariants.{To, Bad, Deep}
+use Rattle.json_text.specs.declared.SyntaxError.{SyntaxError}
 use Rattle.json_value.specs.Values.{levels}
 use Rattle.json_walk.specs.Walk.{members_of, elements_of}
 use Rattle.json_walk.specs.Strings.{raw_at}
@@ -19,7 +18,7 @@ mutual
     null_at : ℕ → Json
     false_at : ℕ → Json
     true_at : ℕ → Json
-    number_of : ℕ → Integer → Json
+    number_of : ℕ → Option Integer → Json
     string_of : ℕ → List ℕ → Json
     array_of : ℕ → Items → Json
     object_of : ℕ → Fields → Json
@@ -43,10 +42,9 @@ place_of (array_of i items) = i
 place_of (object_of i fields) = i
 
 -- The place after what was read.
-abbrev pub end_of : Read → ℕ
-end_of (To j) = j
-end_of Bad = 0
-end_of Deep = 0
+abbrev pub end_of : Result ℕ SyntaxError → ℕ
+end_of (Ok j) = j
+end_of (Err e) = 0
 
 -- A value that holds no other, by its first byte.
 unfoldable pub scalar_tree : List ℕ → ℕ → Json

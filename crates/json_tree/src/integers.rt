@@ -13,10 +13,7 @@ const LARGEST: u64 = 9007199254740991;
 fn digit(b: u8) -> u64
     ensures { DigitValue b result }
 {
-    if b < 0x30 {
-        return 0;
-    }
-    (b - 0x30) as u64
+    u64::from(b.saturating_sub(0x30))
 }
 
 // The number of the digits at a place; some number over 2^53 - 1 where it is larger than that.
@@ -36,53 +33,51 @@ fn size(text: &[u8], at: usize) -> u64
 }
 
 // Does a fraction or an exponent begin with this byte?
+#[tactic(auto, unfolding(crate::specs::Integers::goes_on))]
 fn goes_on(b: u8) -> bool
     ensures { result ≡ goes_on b }
 {
-    if b == 0x2E {
-        return true;
-    }
-    if b == 0x65 {
-        return true;
-    }
-    b == 0x45
+    matches!(b, 0x2E | 0x65 | 0x45)
 }
 
 // -0 is 0.
+#[tactic(auto, unfolding(crate::specs::Integers::signed))]
 fn sign(below: bool, size: u64) -> Integer
     ensures { result ≡ signed below size }
 {
-    if size == 0 {
-        return Integer::Is(false, 0);
+    Integer {
+        negative: below && size != 0,
+        size,
     }
-    Integer::Is(below, size)
 }
 
 // The digits at a place, after a minus or not.
-fn sized(text: &[u8], at: usize, below: bool) -> Integer
+fn sized(text: &[u8], at: usize, below: bool) -> Option<Integer>
     ensures { result ≡ size_at below text.now at }
 {
     if goes_on(byte(text, digits(text, at))) {
-        return Integer::No;
+        return None;
     }
     let v = size(text, at);
     if v <= LARGEST {
-        return sign(below, v);
+        return Some(sign(below, v));
     }
-    Integer::No
+    None
 }
 
-fn unsigned(text: &[u8], at: usize, below: bool) -> Integer
+#[tactic(auto, unfolding(crate::specs::Integers::whole_at))]
+fn unsigned(text: &[u8], at: usize, below: bool) -> Option<Integer>
     ensures { result ≡ whole_at below text.now at }
 {
     if is_digit(byte(text, at)) {
         return sized(text, at, below);
     }
-    Integer::No
+    None
 }
 
 // The integer at a place of a JSON text.
-pub fn integer(text: &[u8], at: usize) -> Integer
+#[tactic(auto, unfolding(crate::specs::Integers::integer_at))]
+pub fn integer(text: &[u8], at: usize) -> Option<Integer>
     ensures { result ≡ integer_at text.now at }
 {
     if byte(text, at) == 0x2D {

@@ -6,27 +6,17 @@ use crate::Kind;
 use json_text::bytes::byte;
 
 // The kind of the value at a place of a JSON text.
+#[tactic(auto, unfolding(crate::specs::Inner::Kinds::kind_at))]
 pub fn kind(text: &[u8], at: usize) -> Kind
     ensures { result ≡ kind_at text.now at }
 {
-    let b = byte(text, at);
-    if b == 0x7B {
-        return Kind::Object;
+    match byte(text, at) {
+        0x7B => Kind::Object,
+        0x5B => Kind::Array,
+        0x22 => Kind::String,
+        0x66 => Kind::False,
+        0x6E => Kind::Null,
+        0x74 => Kind::True,
+        _ => Kind::Number,
     }
-    if b == 0x5B {
-        return Kind::Array;
-    }
-    if b == 0x22 {
-        return Kind::String;
-    }
-    if b == 0x66 {
-        return Kind::False;
-    }
-    if b == 0x6E {
-        return Kind::Null;
-    }
-    if b == 0x74 {
-        return Kind::True;
-    }
-    Kind::Number
 }

@@ -18,16 +18,9 @@ pub enum Kind {
     Object,
 }
 
-// A member that was looked for.
+// An integer: is it below zero, and its size.
 #[derive(Clone, Copy)]
-pub enum Found {
-    Here(json_walk::Member),
-    Missing,
-}
-
-// An integer: is it below zero, and its size; or no integer of those that are read.
-#[derive(Clone, Copy)]
-pub enum Integer {
-    Is(bool, u64),
-    No,
+pub struct Integer {
+    pub negative: bool,
+    pub size: u64,
 }

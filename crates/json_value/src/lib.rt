@@ -6,11 +6,10 @@ pub mod items;
 // How many levels of arrays and objects a text may open.
 pub const LEVELS: usize = 16;
 
-// What stands after an opening bracket, or after an item: another item at a place, the closing bracket with the
-// place after it, or neither.
+// What stands after an opening bracket, or after an item: another item at a place, or the closing bracket with the
+// place after it.
 #[derive(Clone, Copy)]
 pub enum Item {
     More(usize),
     Done(usize),
-    Wrong,
 }

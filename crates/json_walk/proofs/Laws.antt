@@ -10,10 +10,10 @@ use native.Mathlib.Decide.{dec_lt}
 use lib.Dec.{eqb, ltb}
 use lib.ListN.{length, get_or, length-append, get_or-eq_default}
 use lib.Seq.{append_snoc, get_or-append_seam}
-use borrow.Author.Tests.{lt-ltb, le-ltb, ne_eqb, eqb-true}
+use borrow.Author.Tests.{lt-ltb, le-ltb, eqb-true}
 use Rattle.signed.proofs.Parts.{false-true}
-use Rattle.json_walk.specs.Strings.{bytes_at, raw_at, same, slashed}
-use Rattle.json_walk.specs.Inner.Within.{ahead, within}
+use Rattle.json_walk.specs.Strings.{bytes_at, same, slashed}
+use Rattle.json_walk.specs.Inner.Within.{ahead}
 
 -- Past the end all places are alike: 0 and 0 again.
 bytes_past : (n : ℕ) (s : List ℕ) (i j : ℕ) → length s ≤ i → length s ≤ j → bytes_at n s i ≡ bytes_at n s j
@@ -29,27 +29,46 @@ bytes-ahead n s i = go (dec_lt i (length s))
     go (yes p) = rw (lt-ltb i (length s) p)
     go (no q) = let r : length s ≤ i = omega arith in rw (le-ltb i (length s) r) (bytes_past n s (i + 1) i (omega arith) r)
 
-pub same_step : (n : ℕ) → 0 < n → (s : List ℕ) (i : ℕ) (w : List ℕ) (j : ℕ)
+same_step : (n : ℕ) → 0 < n → (s : List ℕ) (i : ℕ) (w : List ℕ) (j : ℕ)
     → same (bytes_at n s i) (bytes_at n w j) ≡ (if eqb (get_or s i 0) (get_or w j 0) then same (bytes_at (n - 1) s (ahead s i)) (bytes_at (n - 1) w (ahead w j)) else false)
 unfolding bytes_at same
 same_step zero h s i w j = absurd (omega arith)
 same_step (suc n) h s i w j = rw (sub-one, bytes-ahead n s i, bytes-ahead n w j)
 
-pub same_none : (n : ℕ) → n ≤ 0 → (s : List ℕ) (i : ℕ) (w : List ℕ) (j : ℕ) → same (bytes_at n s i) (bytes_at n w j) ≡ true
+same_none : (n : ℕ) → n ≤ 0 → (s : List ℕ) (i : ℕ) (w : List ℕ) (j : ℕ) → same (bytes_at n s i) (bytes_at n w j) ≡ true
 unfolding bytes_at same
 same_none zero h s i w j = refl
 same_none (suc n) h s i w j = absurd (omega arith)
 
-pub slashed-step : (n : ℕ) → 0 < n → (s : List ℕ) (i : ℕ)
+slashed-step : (n : ℕ) → 0 < n → (s : List ℕ) (i : ℕ)
     → slashed (bytes_at n s i) ≡ (if eqb (get_or s i 0) 0x5C then true else slashed (bytes_at (n - 1) s (ahead s i)))
 unfolding bytes_at slashed
 slashed-step zero h s i = absurd (omega arith)
 slashed-step (suc n) h s i = rw (sub-one, bytes-ahead n s i)
 
-pub slashed-none : (n : ℕ) → n ≤ 0 → (s : List ℕ) (i : ℕ) → slashed (bytes_at n s i) ≡ false
+slashed-none : (n : ℕ) → n ≤ 0 → (s : List ℕ) (i : ℕ) → slashed (bytes_at n s i) ≡ false
 unfolding bytes_at slashed
 slashed-none zero h s i = refl
 slashed-none (suc n) h s i = absurd (omega arith)
+
+-- A loop over n bytes: a turn of it after k turns, and its end.
+less-one : (n k : ℕ) → n - k - 1 ≡ n - (k + 1)
+less-one n k = omega arith
+
+pub same-turn : (n k : ℕ) → k < n → (s : List ℕ) (i : ℕ) (w : List ℕ) (j : ℕ)
+    → same (bytes_at (n - k) s i) (bytes_at (n - k) w j)
+    ≡ (if eqb (get_or s i 0) (get_or w j 0) then same (bytes_at (n - (k + 1)) s (ahead s i)) (bytes_at (n - (k + 1)) w (ahead w j)) else false)
+same-turn n k h s i w j = rw (same_step (n - k) (omega arith) s i w j, less-one n k)
+
+pub same-over : (n k : ℕ) → n ≤ k → (s : List ℕ) (i : ℕ) (w : List ℕ) (j : ℕ) → same (bytes_at (n - k) s i) (bytes_at (n - k) w j) ≡ true
+same-over n k h = same_none (n - k) (omega arith)
+
+pub slashed-turn : (n k : ℕ) → k < n → (s : List ℕ) (i : ℕ)
+    → slashed (bytes_at (n - k) s i) ≡ (if eqb (get_or s i 0) 0x5C then true else slashed (bytes_at (n - (k + 1)) s (ahead s i)))
+slashed-turn n k h s i = rw (slashed-step (n - k) (omega arith) s i, less-one n k)
+
+pub slashed-over : (n k : ℕ) → n ≤ k → (s : List ℕ) (i : ℕ) → slashed (bytes_at (n - k) s i) ≡ false
+slashed-over n k h = slashed-none (n - k) (omega arith)
 
 -- Lists of different lengths are not the same.
 both : (b : Bool) → (if b then false else false) ≡ false

@@ -14,23 +14,9 @@ pub struct Member {
     pub after: usize,
 }
 
-// A step of a walk over members.
-#[derive(Clone, Copy)]
-pub enum MemberStep {
-    One(Member),
-    End,
-}
-
 // An element of an array: the place of the value, and the place after it.
 #[derive(Clone, Copy)]
 pub struct Element {
     pub value: usize,
     pub after: usize,
-}
-
-// A step of a walk over elements.
-#[derive(Clone, Copy)]
-pub enum ElementStep {
-    Next(Element),
-    Stop,
 }

@@ -6,6 +6,7 @@ ghost use Rattle.json_walk.specs.Inner.Within.{ahead, within};
 use json_text::bytes::byte;
 
 // The place after i; past the end of the text i itself.
+#[tactic(auto, unfolding(crate::specs::Inner::Within::ahead))]
 pub fn step(text: &[u8], i: usize) -> usize
     ensures { result ≡ ahead text.now i }
 {
@@ -19,29 +20,22 @@ pub fn step(text: &[u8], i: usize) -> usize
 pub fn inside(k: usize, j: usize) -> usize
     ensures { result ≡ within k j }
 {
-    if j < k {
-        return 0;
-    }
-    if j - k < 2 {
-        return 0;
-    }
-    j - k - 2
+    j.saturating_sub(k).saturating_sub(2)
 }
 
-// Are the n bytes at a place of one text those at a place of another, or of the same?
+// Are the n bytes at a place of one text those at a place of another, or of the same? They are no slices that `==` would
+// compare: the contracts of `same_raw` and `raw_is` hold for places past the end too, where `bytes_at` has the byte 0.
 fn same_bytes(text: &[u8], a: usize, other: &[u8], b: usize, count: usize) -> bool
     ensures { result ≡ same (bytes_at count text.now a) (bytes_at count other.now b) }
 {
     let mut i = a;
     let mut j = b;
-    let mut n = count;
-    while 0 < n {
+    for _ in 0..count {
         if byte(text, i) != byte(other, j) {
             return false;
         }
         i = step(text, i);
         j = step(other, j);
-        n -= 1;
     }
     true
 }
@@ -52,10 +46,7 @@ pub fn same_raw(text: &[u8], a: usize, d: usize, b: usize, e: usize) -> bool
 {
     let n = inside(a, d);
     let m = inside(b, e);
-    if n != m {
-        return false;
-    }
-    same_bytes(text, step(text, a), text, step(text, b), n)
+    n == m && same_bytes(text, step(text, a), text, step(text, b), n)
 }
 
 // Are the raw bytes of a string these?
@@ -63,10 +54,7 @@ pub fn raw_is(text: &[u8], k: usize, j: usize, word: &[u8]) -> bool
     ensures { result ≡ same (raw_at text.now k j) word.now }
 {
     let n = inside(k, j);
-    if n != word.len() {
-        return false;
-    }
-    same_bytes(text, step(text, k), word, 0, n)
+    n == word.len() && same_bytes(text, step(text, k), word, 0, n)
 }
 
 // Is there a backslash among the n bytes at a?
@@ -74,13 +62,11 @@ fn slash_in(text: &[u8], a: usize, count: usize) -> bool
     ensures { result ≡ slashed (bytes_at count text.now a) }
 {
     let mut i = a;
-    let mut n = count;
-    while 0 < n {
+    for _ in 0..count {
         if byte(text, i) == 0x5C {
             return true;
         }
         i = step(text, i);
-        n -= 1;
     }
     false
 }

@@ -5,8 +5,6 @@
 ghost use Rattle.std.specs.Prelude.{◌≡◌};
 ghost use Rattle.json_walk.specs.Strings.{same};
 
-use json_text::bytes::byte;
-
 pub mod marks;
 pub mod months;
 pub mod rules;
@@ -43,18 +41,9 @@ pub enum Named {
 }
 
 // Are the bytes of a string those of a word?
+#[tactic(auto, using(crate::proofs::Laws::same_slice))]
 pub fn is(raw: &[u8], word: &[u8]) -> bool
     ensures { result ≡ same raw.now word.now }
 {
-    if raw.len() != word.len() {
-        return false;
-    }
-    let mut i = 0;
-    while i < raw.len() {
-        if byte(raw, i) != byte(word, i) {
-            return false;
-        }
-        i += 1;
-    }
-    true
+    raw == word
 }

@@ -1,9 +1,10 @@
-// The words of a rule of recurrence.
+// The words of a rule of recurrence. They are compared one by one: a match has a goal for each byte that differs, and those stayed open.
 ghost use Rattle.std.specs.Prelude.{◌≡◌};
 ghost use Rattle.keywords.specs.Rules.{frequency_of, weekday_of, skip_fault, rscale_fault};
 
 use crate::{Named, Rate, is};
 
+#[tactic(auto, unfolding(crate::specs::Rules::frequency_of))]
 pub fn frequency(raw: &[u8]) -> Rate
     ensures { result ≡ frequency_of raw.now }
 {
@@ -19,18 +20,13 @@ pub fn frequency(raw: &[u8]) -> Rate
     if is(raw, b"yearly") {
         return Rate::Yearly;
     }
-    if is(raw, b"hourly") {
-        return Rate::Fault(8);
-    }
-    if is(raw, b"minutely") {
-        return Rate::Fault(8);
-    }
-    if is(raw, b"secondly") {
+    if is(raw, b"hourly") || is(raw, b"minutely") || is(raw, b"secondly") {
         return Rate::Fault(8);
     }
     Rate::Fault(24)
 }
 
+#[tactic(auto, unfolding(crate::specs::Rules::weekday_of))]
 pub fn weekday(raw: &[u8]) -> Named
     ensures { result ≡ weekday_of raw.now }
 {
@@ -59,27 +55,23 @@ pub fn weekday(raw: &[u8]) -> Named
 }
 
 // The fault of a `skip`, 0 where there is none.
+#[tactic(auto, unfolding(crate::specs::Rules::skip_fault))]
 pub fn skip(raw: &[u8]) -> u32
     ensures { result ≡ skip_fault raw.now }
 {
     if is(raw, b"omit") {
         return 0;
     }
-    if is(raw, b"forward") {
-        return 8;
-    }
-    if is(raw, b"backward") {
+    if is(raw, b"forward") || is(raw, b"backward") {
         return 8;
     }
     24
 }
 
 // The fault of an `rscale`, 0 where there is none.
+#[tactic(auto, unfolding(crate::specs::Rules::rscale_fault))]
 pub fn rscale(raw: &[u8]) -> u32
     ensures { result ≡ rscale_fault raw.now }
 {
-    if is(raw, b"gregorian") {
-        return 0;
-    }
-    8
+    if is(raw, b"gregorian") { 0 } else { 8 }
 }

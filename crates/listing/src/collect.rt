@@ -11,11 +11,9 @@ pub(crate) fn collect(hits: &[bool], first: u32, days: &mut [u32], at: usize) ->
     ensures { Collected hits.now first days.old at days.new result }
 {
     let mut found: u32 = 0;
-    let mut k = 0;
-    while k < hits.len() {
+    for (k, hit) in hits.iter().enumerate() {
         days[at + found as usize] = first + k as u32;
-        found = one_more(found, hits[k]);
-        k += 1;
+        found = one_more(found, *hit);
     }
     at + found as usize
 }
@@ -25,10 +23,8 @@ pub(crate) fn copy_from(list: &[u32], first: u32, days: &mut [u32], at: usize) -
     requires { Offsets first list.now × (at + length list.now ≤ length days.old) }
     ensures { Copied list.now first days.old at days.new result }
 {
-    let mut k = 0;
-    while k < list.len() {
-        days[at + k] = first + list[k];
-        k += 1;
+    for (k, day) in list.iter().enumerate() {
+        days[at + k] = first + *day;
     }
-    at + k
+    at + list.len()
 }

@@ -3,10 +3,10 @@ ghost use Rattle.std.specs.Prelude.{length};
 ghost use Rattle.matcher.specs.Inner.Walk.{picks_on_by};
 ghost use Rattle.listing.specs.Inner.Chunks.{Listable, Stopped};
 
-use crate::DayChunk;
 use crate::parts::list_part;
 use matcher::Terms;
 use months::layout::{ANSWERS, KINDS};
+use window::Chunk;
 
 // The days from `first` on and before `end`, after the first entries of the list, up to the month that might not have room.
 pub(crate) fn list_days(
@@ -16,7 +16,7 @@ pub(crate) fn list_days(
     end: u32,
     days: &mut [u32],
     at: usize,
-) -> DayChunk
+) -> Chunk<u32>
     requires { Listable terms flags.now first end at (length days.old) }
     ensures { Stopped (picks_on_by terms flags.now) first end days.old at days.new result.count result.next }
 {
@@ -30,22 +30,22 @@ pub(crate) fn list_days(
         let out = track::skips::skip(terms, flags, here);
         if 0 < out {
             if end <= day + out {
-                return DayChunk { count, next: end };
+                return Chunk { count, next: end };
             }
             day += out;
             x = track::leaps::days_later(here, out);
         } else {
             if days.len() < count + 31 {
-                return DayChunk { count, next: day };
+                return Chunk { count, next: day };
             }
             let part = track::plain::month_part(here, (end - day) as usize);
             count = list_part(terms, flags, &mut rows, &mut lists, here, part, days, count);
             if end <= day + part as u32 {
-                return DayChunk { count, next: end };
+                return Chunk { count, next: end };
             }
             day += part as u32;
             x = track::leaps::days_later(here, part as u32);
         }
     }
-    DayChunk { count, next: end }
+    Chunk { count, next: end }
 }

@@ -6,10 +6,3 @@ mod days;
 mod kinds;
 mod parts;
 pub mod whole;
-
-// What was listed of some days: how many stand in the lent slice, and the day from which on to ask for more.
-#[derive(Clone, Copy)]
-pub struct DayChunk {
-    pub count: usize,
-    pub next: u32,
-}

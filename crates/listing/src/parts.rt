@@ -68,10 +68,7 @@ pub(crate) fn list_part(
     requires { (ByMonths terms flags.now × (Asked terms (length flags.now) x × InMonth x n)) × (Kinds terms flags.now rows.old lists.old × Room (length days.old) at) }
     ensures { ListedPart terms flags.now x n rows.new lists.new days.old at days.new result }
 {
-    if !matcher::flags::on_month(flags, x) {
-        return at;
-    }
-    if !matcher::walk::in_step(terms, x) {
+    if !matcher::flags::on_month(flags, x) || !matcher::walk::in_step(terms, x) {
         return at;
     }
     if n == x.monthdays as usize {

@@ -7,32 +7,22 @@ ghost use Rattle.listing.specs.Inner.Chunks.{Listable, Stopped};
 ghost use Rattle.listing.specs.Inner.Lists.{start_or};
 ghost use Rattle.listing.specs.Inner.Parts.{is_monthly, ByMonths};
 
-use crate::DayChunk;
 use crate::days::list_days;
 use matcher::Terms;
 use rule::Frequency;
 use track::Track;
+use window::Chunk;
 
 fn is_monthly(frequency: Frequency) -> bool
     ensures { result ≡ is_monthly frequency }
 {
-    match frequency {
-        Frequency::Daily => false,
-        Frequency::Weekly => false,
-        Frequency::Monthly => true,
-        Frequency::Yearly => false,
-    }
+    matches!(frequency, Frequency::Monthly)
 }
 
 fn positions_in_months(terms: Terms) -> bool
     ensures { (result ≡ true → terms.placed ≡ true → terms.frequency ≡ Monthly) × ((terms.placed ≡ true → terms.frequency ≡ Monthly) → result ≡ true) }
 {
-    let placed = terms.placed;
-    if !placed {
-        return true;
-    }
-    let frequency = terms.frequency;
-    is_monthly(frequency)
+    !terms.placed || is_monthly(terms.frequency)
 }
 
 // Months alike have the same days of the rule.
@@ -40,10 +30,7 @@ pub fn is_by_months(terms: Terms, flags: &[bool]) -> bool
     requires { length flags.now ≡ row_size }
     ensures { (result ≡ true → ByMonths terms flags.now) × (ByMonths terms flags.now → result ≡ true) }
 {
-    if !positions_in_months(terms) {
-        return false;
-    }
-    track::alike::is_alike(terms, flags)
+    positions_in_months(terms) && track::alike::is_alike(terms, flags)
 }
 
 // The rule's days from `from` on and before `end`; the event begins not after them.
@@ -55,21 +42,25 @@ fn list_rule(
     end: u32,
     days: &mut [u32],
     at: usize,
-) -> DayChunk
+) -> Chunk<u32>
     requires { Listable track.terms flags.now from end at (length days.old) × (begin ≤ from) }
     ensures { Stopped (has_day track flags.now begin) from end days.old at days.new result.count result.next }
 {
     let to = track::ranges::earlier(end, track.last);
     if to <= from {
-        let count = at;
-        return DayChunk { count, next: end };
+        return Chunk {
+            count: at,
+            next: end,
+        };
     }
     let listed = list_days(track.terms, flags, from, to, days, at);
     if listed.next < to {
         return listed;
     }
-    let count = listed.count;
-    DayChunk { count, next: end }
+    Chunk {
+        count: listed.count,
+        next: end,
+    }
 }
 
 // The days from `first` on and before `end` of an event that begins on the day `begin`, up to the month that might not have room: a list of 31
@@ -81,7 +72,7 @@ pub fn list_chunk(
     first: u32,
     end: u32,
     days: &mut [u32],
-) -> DayChunk
+) -> Chunk<u32>
     requires { Listable track.terms flags.now first end 1 (length days.old) }
     ensures { Stopped (start_or track flags.now begin) first end days.old 0 days.new result.count result.next }
 {
@@ -89,8 +80,10 @@ pub fn list_chunk(
         return list_rule(track, flags, begin, first, end, days, 0);
     }
     if end <= begin {
-        let count = 0;
-        return DayChunk { count, next: end };
+        return Chunk {
+            count: 0,
+            next: end,
+        };
     }
     days[0] = begin;
     list_rule(track, flags, begin, begin + 1, end, days, 1)

@@ -62,7 +62,7 @@ take-bytes (suc n) (x ∷ s) b (suc k) = take-bytes n s (λ j. b (suc j)) k
 part_bytes : (n i : ℕ) (s : List ℕ) → AllBytes s → AllBytes (take n (drop i s))
 part_bytes n i s b = take-bytes n (drop i s) (λ k. rw (get_or-drop i s k 0) (b (i + k)))
 
-part_length : (n i : ℕ) (s : List ℕ) → i + n ≤ length s → length (take n (drop i s)) ≡ n
+pub part_length : (n i : ℕ) (s : List ℕ) → i + n ≤ length s → length (take n (drop i s)) ≡ n
 part_length n i s h = length-take-le n (drop i s) (simp length-drop (omega arith))
 
 -- two parts side by side

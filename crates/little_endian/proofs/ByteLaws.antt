@@ -1,5 +1,5 @@
 -- The bytes of a number, and the number of its bytes.
-use Prim.Native.Nat.{ℕ, zero, suc, ◌+◌, ◌-◌, ◌/◌, ◌%◌, ◌<◌, ◌≤◌, ◌^◌}
+use Prim.Native.Nat.{ℕ, zero, suc, ◌+◌, ◌-◌, ◌/◌, ◌%◌, ◌<◌, ◌^◌}
 use mathlib.Core.List.{List, ◌++◌}
 use mathlib.Core.Path.{◌≡◌, refl, ap}
 use native.Mathlib.Nat.{pow-succ'}
@@ -11,7 +11,6 @@ use lib.ListN.{length, set}
 use lib.Seq.{sets, take_at, drop_at}
 use mir.Syntax.{w64}
 use mir.Val.{SFits}
-use Rattle.signed.specs.Parts.{pos_part, neg_part}
 use Rattle.little_endian.specs.Bytes.{bytes_of, twos, value_of, number_at, signed_of}
 
 -- one byte stored, with those after it still to be
@@ -20,27 +19,10 @@ unfolding bytes_of
 sets_more l i zero v h = absurd (omega arith)
 sets_more l i (suc n) v h = rw (add-one, sub-one)
 
-pub sets-none : (l : List ℕ) (i n v : ℕ) → n ≤ 0 → sets l i (bytes_of n v) ≡ l
-unfolding bytes_of
-sets-none l i zero v h = refl
-sets-none l i (suc n) v h = absurd (omega arith)
-
 pub bytes-length : (n v : ℕ) → length (bytes_of n v) ≡ n
 unfolding bytes_of
 bytes-length zero v = refl
 bytes-length (suc n) v = ap suc (bytes-length n (v / 256))
-
--- ---- the two's complement by the parts
-
-pub twos-below : (z : ℤ) → 0 < neg_part z → 18446744073709551615 - (neg_part z - 1) ≡ twos z
-unfolding twos
-twos-below (pos n) h = absurd (omega arith)
-twos-below (negsuc k) h = omega arith
-
-pub twos-above : (z : ℤ) → neg_part z ≤ 0 → pos_part z ≡ twos z
-unfolding twos
-twos-above (pos n) h = refl
-twos-above (negsuc k) h = absurd (omega arith)
 
 -- ---- no two numbers of n bytes have the same bytes
 

@@ -1,3 +1,4 @@
 pub mod ByteLaws
 pub mod ReadLaws
 pub mod BackLaws
+pub mod LibraryLaws

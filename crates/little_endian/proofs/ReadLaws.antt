@@ -1,25 +1,23 @@
--- Bytes that are read: a number by its lower and its higher bytes, and what the machine makes of a two's complement.
+-- Bytes that are read: a number by its lower and its higher bytes, and the range of a two's complement.
 use Rattle.std.specs.Prelude.{if◌then◌else◌}
 use Prim.Native.Nat.{ℕ, zero, suc, ◌+◌, ◌-◌, ◌*◌, ◌<◌, ◌≤◌, ◌^◌}
 use mathlib.Core.Bool.{Bool, true, false}
 use mathlib.Core.List.{List, [], ◌∷◌, ◌++◌}
-use mathlib.Core.Path.{◌≡◌, refl, ap, ◌∙◌}
+use mathlib.Core.Path.{◌≡◌, refl, ap}
 use native.Mathlib.Nat.{pow-succ', mul_assoc}
 use native.Mathlib.Omega.{arith}
-use borrow.Author.Tests.{lt-ltb, le-ltb, ltb-true, ltb-false}
+use borrow.Author.Tests.{ltb-true, ltb-false}
 use lib.Dec.{ltb}
-use lib.IntN.{pos, negsuc, ◌-ℤ◌}
+use lib.IntN.{pos, negsuc}
 use lib.ListN.{length, get_or, take, drop, length-drop}
 use lib.Seq.{take-add, take-take, drop-drop, drop-cons, length-take-le}
 use mir.Syntax.{w64}
-use mir.Val.{SFits, to_z, of_z}
-use mir.Facts.{to_z-of_z, to_z_pos}
-use Rattle.signed.proofs.Parts.{parts-eq, diff-parts}
+use mir.Val.{SFits}
 use Rattle.little_endian.specs.Bytes.{value_of, number_at, signed_of}
 
 -- ---- a number by its lower and its higher bytes
 
-value-append : (a b : List ℕ) → value_of (a ++ b) ≡ value_of a + 256 ^ length a * value_of b
+pub value-append : (a b : List ℕ) → value_of (a ++ b) ≡ value_of a + 256 ^ length a * value_of b
 unfolding value_of
 value-append [] b = omega arith
 value-append (x ∷ a) b =
@@ -38,24 +36,7 @@ pub number-one : (i : ℕ) (s : List ℕ) → i < length s → number_at 1 i s �
 unfolding number_at value_of
 number-one i s h = rw (drop-cons s i 0 h) (omega arith)
 
--- ---- what the machine makes of a two's complement
-
-pub signed_low : (v : ℕ) → v < 2 ^ 63 → to_z w64 v ≡ signed_of v
-unfolding signed_of
-signed_low v h = rw (lt-ltb v (2 ^ 63) h)
-
-module _ (v : ℕ) (h : 2 ^ 63 ≤ v) (g : v < 2 ^ 64) where
-  high : negsuc 0 -ℤ to_z w64 (18446744073709551615 - v) ≡ negsuc (2 ^ 64 - 1 - v)
-  high =
-      let n : 18446744073709551615 - v < 2 ^ 63 = omega arith in
-      rw (to_z_pos w64 {n = 18446744073709551615 - v} n) (parts-eq _ _ (omega (arith, diff-parts (negsuc 0) (pos (18446744073709551615 - v)))))
-
-  pub high_fits : SFits w64 (negsuc 0 -ℤ to_z w64 (18446744073709551615 - v))
-  high_fits = rw high (record { sfits = omega arith })
-
-  pub signed_high : to_z w64 (of_z w64 (negsuc 0 -ℤ to_z w64 (18446744073709551615 - v))) ≡ signed_of v
-  unfolding signed_of
-  signed_high = to_z-of_z high_fits ∙ rw (le-ltb v (2 ^ 63) h) high
+-- ---- the number of which eight bytes are the two's complement
 
 pub signed-fits : (v : ℕ) → SFits w64 (signed_of v)
 unfolding signed_of

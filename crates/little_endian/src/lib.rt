@@ -13,53 +13,35 @@ pub fn put_u16(buf: &mut [u8], at: usize, v: u16)
     requires { at + 2 ≤ length buf.old }
     ensures { buf.new ≡ sets buf.old at (bytes_of 2 v) }
 {
-    put(buf, at, 2, v as u64);
+    put(buf, at, u16::to_le_bytes(v));
 }
 
 pub fn put_u32(buf: &mut [u8], at: usize, v: u32)
     requires { at + 4 ≤ length buf.old }
     ensures { buf.new ≡ sets buf.old at (bytes_of 4 v) }
 {
-    put(buf, at, 4, v as u64);
+    put(buf, at, u32::to_le_bytes(v));
 }
 
 pub fn put_u64(buf: &mut [u8], at: usize, v: u64)
     requires { at + 8 ≤ length buf.old }
     ensures { buf.new ≡ sets buf.old at (bytes_of 8 v) }
 {
-    put(buf, at, 8, v);
+    put(buf, at, u64::to_le_bytes(v));
 }
 
 pub fn put_i64(buf: &mut [u8], at: usize, v: i64)
     requires { at + 8 ≤ length buf.old }
     ensures { buf.new ≡ sets buf.old at (bytes_of 8 (bytes_twos v)) }
 {
-    put(buf, at, 8, twos(v));
+    put(buf, at, i64::to_le_bytes(v));
 }
 
-// The two's complement of v as a u64.
-fn twos(v: i64) -> u64
-    ensures { result ≡ bytes_twos v }
+// The bytes of a number of N bytes.
+#[tactic(auto, using(crate::proofs::LibraryLaws::overwritten))]
+fn put<const N: usize>(buf: &mut [u8], at: usize, bytes: [u8; N])
+    requires { at + N ≤ length buf.old }
+    ensures { buf.new ≡ sets buf.old at bytes.entry }
 {
-    let below = signed::negative_part(v);
-    if 0 < below {
-        return 18446744073709551615 - (below - 1);
-    }
-    signed::positive_part(v)
-}
-
-// The n lowest bytes of v.
-fn put(buf: &mut [u8], at: usize, n: usize, v: u64)
-    requires { at + n ≤ length buf.old }
-    ensures { buf.new ≡ sets buf.old at (bytes_of n v) }
-{
-    let mut i = at;
-    let mut left = n;
-    let mut rest = v;
-    while 0 < left {
-        buf[i] = (rest % 256) as u8;
-        rest = rest / 256;
-        i += 1;
-        left -= 1;
-    }
+    buf[at..at + N].copy_from_slice(&bytes);
 }

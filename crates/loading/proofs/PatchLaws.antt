@@ -1,5 +1,5 @@
 -- The overrides of an event over their ids, marks and places: the details of an occurrence, and their range.
-use Rattle.std.specs.Prelude.{if◌then◌else◌}
+use Rattle.std.specs.Prelude.{if◌then◌else◌, Some, None}
 use Prim.Native.Nat.{ℕ, suc, ◌<◌, ◌≤◌, ◌^◌}
 use mathlib.Core.Bool.{Bool, true, false}
 use mathlib.Core.List.{List, [], ◌∷◌, map}
@@ -10,8 +10,7 @@ use lib.Dec.{eqb}
 use lib.ListN.{length, get_or, take}
 use lib.Seq.{sets}
 use Rattle.property.specs.Inner.From.{value_in}
-use Rattle.property.specs.declared.Place.{Place}
-use Rattle.property.specs.declared.Place.TheVariants as place
+use Rattle.property.specs.Inner.Place.{Place}
 use Rattle.property.proofs.Ranges.{Short}
 use Rattle.event.specs.Overrides.{read_overrides}
 use Rattle.event.specs.Reading.{present}
@@ -92,23 +91,23 @@ small-each floating own short (o ∷ os) range x h =
 module _ (s : List ℕ) (own : Details) where
   pub patches-many : (p : Place) → length (patches_in s p) ≡ length (present [] (read_overrides own) (value_in inner s p)).value
   unfolding present
-  patches-many place.None = refl
-  patches-many (place.At at) = places-many s at 13 own
+  patches-many None = refl
+  patches-many (Some at) = places-many s at 13 own
 
   pub patches-each : (p : Place) → Patched s own (present [] (read_overrides own) (value_in inner s p)).value (patches_in s p)
   unfolding present
-  patches-each place.None k h d = absurd (omega arith)
-  patches-each (place.At at) k h d = override-at s at 13 own k h d
+  patches-each None k h d = absurd (omega arith)
+  patches-each (Some at) k h d = override-at s at 13 own k h d
 
   module _ (short : Short own.length) where
     pub patches-range : (p : Place) → (present [] (read_overrides own) (value_in inner s p)).faults ≡ []
         → Ranged (present [] (read_overrides own) (value_in inner s p)).value
     unfolding present
-    patches-range place.None e k h d = absurd (omega arith)
-    patches-range (place.At at) e k h d = read-range own short _ e k h d
+    patches-range None e k h d = absurd (omega arith)
+    patches-range (Some at) e k h d = read-range own short _ e k h d
 
   pub patches-most : (p : Place) → (present [] (read_overrides own) (value_in inner s p)).faults ≡ []
       → length (present [] (read_overrides own) (value_in inner s p)).value ≤ 256
   unfolding present
-  patches-most place.None e = omega arith
-  patches-most (place.At at) e = read-most own _ e
+  patches-most None e = omega arith
+  patches-most (Some at) e = read-most own _ e

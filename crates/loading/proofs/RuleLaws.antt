@@ -1,4 +1,5 @@
 -- One rule after the other: what is settled so far are the first of the list.
+use Rattle.std.specs.Prelude.{None}
 use Prim.Native.Nat.{ℕ, ◌+◌, ◌<◌, ◌≤◌}
 use mathlib.Core.Bool.{Bool}
 use mathlib.Core.List.{List, [], ◌∷◌, ◌++◌, map}
@@ -12,9 +13,7 @@ use Rattle.rule.specs.declared.Rule.{Rule}
 use Rattle.rule.specs.Written.{RecurrenceRule}
 use Rattle.rule.specs.Inner.Read.{written, Sized}
 use Rattle.matcher.specs.Inner.Layout.{list_size}
-use Rattle.fault.specs.declared.First.{First}
-use Rattle.fault.specs.declared.First.TheVariants.{None}
-use Rattle.fault.specs.Fault.{first}
+use Rattle.fault.specs.Fault.{first, First}
 use Rattle.event.specs.Rules.{read_rule, read_rules}
 use Rattle.rule_text.specs.Inner.Parts.{RuleRead}
 use Rattle.rule_text.specs.Inner.Places.{Places, places_at}

@@ -16,7 +16,7 @@ use Rattle.rule.specs.Gives.{end_day}
 use Rattle.rule.proofs.Bools.{left, right}
 use Rattle.call_definitions.specs.Window.{epoch, since1600, valid_window}
 use Rattle.window.specs.Inner.Handed.{Span}
-use Rattle.record.proofs.WindowLaws.{since-some}
+use Rattle.record.proofs.WindowLaws.{since-parts}
 use Rattle.loading.specs.Inner.Limit.{limit_of}
 
 module _ (from to : ℤ) (valid : valid_window from to ≡ true) where
@@ -37,8 +37,8 @@ module _ (from to : ℤ) (valid : valid_window from to ≡ true) where
       let a = le_parts (neg_ℤ (pos 11644473600)) from early in
       let b = le_parts from to turned in
       let c = le_parts to (pos 253370764800) late in
-      let f : pos_part from + epoch - neg_part from ≡ since1600 from = since-some from (omega (arith, a)) in
-      let t : pos_part to + epoch - neg_part to ≡ since1600 to = since-some to (omega (arith, a, b)) in
+      let f : pos_part from + epoch - neg_part from ≡ since1600 from = since-parts from in
+      let t : pos_part to + epoch - neg_part to ≡ since1600 to = since-parts to in
       record { low = omega (arith, a, f); order = omega (arith, a, b, f, t); high = omega (arith, c, t) }
 
 -- ---- the days
@@ -46,10 +46,10 @@ module _ (from to : ℤ) (valid : valid_window from to ≡ true) where
 -- "seconds before 1970, with floor division into days": of seconds that are counted from 1600, the quotient and the remainder by 86,400 are
 -- the day and the second of the day that floor division of the signed seconds gives.
 pub floor-day : (t : ℤ) → InCalendar t → since1600 t / 86400 ≡ (moment_of t).day
-floor-day t h = ap (λ (n : ℕ). n / 86400) (sym (since-some t (omega (arith, h.low)))) ∙ day-since t h
+floor-day t h = ap (λ (n : ℕ). n / 86400) (sym (since-parts t)) ∙ day-since t h
 
 pub floor-second : (t : ℤ) → InCalendar t → since1600 t % 86400 ≡ (moment_of t).second
-floor-second t h = ap (λ (n : ℕ). n % 86400) (sym (since-some t (omega (arith, h.low)))) ∙ second-since t h
+floor-second t h = ap (λ (n : ℕ). n % 86400) (sym (since-parts t)) ∙ second-since t h
 
 module _ (to : ℕ) where
   pub limit-within : limit_of to ≤ end_day

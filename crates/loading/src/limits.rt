@@ -2,12 +2,9 @@
 ghost use Rattle.std.specs.Prelude.{◌≡◌};
 ghost use Rattle.loading.specs.Inner.Limit.{limit_of};
 
+#[tactic(auto, unfolding(crate::specs::Inner::Limit::limit_of))]
 pub fn limit_of(to: u64) -> u32
     ensures { result ≡ limit_of to }
 {
-    let day = to / 86400;
-    if day < 3067672 {
-        return (day + 1) as u32;
-    }
-    3067672
+    (to / 86400 + 1).min(3067672) as u32
 }

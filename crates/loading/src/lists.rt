@@ -14,13 +14,12 @@ use crate::rules::load_rules;
 use dates::Tracks;
 use dates::load::no_tracks;
 use override_text::lists::overrides;
-use property::Place;
 
 // The rules of a list that was read without a fault. The flags are room for eight rows.
 pub(crate) fn load_list(
     text: &[u8],
     ends: &[u32],
-    place: Place,
+    place: Option<usize>,
     excluded: bool,
     start: u64,
     limit: u32,
@@ -30,8 +29,8 @@ pub(crate) fn load_list(
     ensures { SettledRules excluded start limit (present [] read_rules (value_in inner text.now place)).value result flags.new }
 {
     match place {
-        Place::None => no_tracks(),
-        Place::At(at) => load_rules(text, ends, at, excluded, start, limit, flags),
+        None => no_tracks(),
+        Some(at) => load_rules(text, ends, at, excluded, start, limit, flags),
     }
 }
 
@@ -39,7 +38,7 @@ pub(crate) fn load_list(
 pub(crate) fn load_overrides(
     text: &[u8],
     ends: &[u32],
-    place: Place,
+    place: Option<usize>,
     ids: &mut [u64],
     gone: &mut [bool],
     places: &mut [usize],
@@ -48,7 +47,7 @@ pub(crate) fn load_overrides(
     ensures { (own : Details) → Filled (present [] (read_overrides own) (value_in inner text.now place)).value (patches_in text.now place) ids.old ids.new gone.old gone.new places.old places.new result }
 {
     match place {
-        Place::None => 0,
-        Place::At(at) => overrides(text, ends, at, ids, gone, places),
+        None => 0,
+        Some(at) => overrides(text, ends, at, ids, gone, places),
     }
 }

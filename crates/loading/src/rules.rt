@@ -23,12 +23,9 @@ fn load_places(
     ensures { SettledRules excluded start limit (rules_at text.now places.now) result flags.new }
 {
     let mut tracks = no_tracks();
-    let mut i = 0;
-    while i < places.len() {
-        let read = read_rule(text, ends, places[i]);
-        let rule = read.rule;
-        tracks = load(excluded, rule, start, limit, tracks, flags);
-        i += 1;
+    for at in places {
+        let read = read_rule(text, ends, *at);
+        tracks = load(excluded, read.rule, start, limit, tracks, flags);
     }
     tracks
 }

@@ -28,15 +28,27 @@ pub fn load(
 {
     let own = own_of(head);
     let start = head.start;
-    let ruled = head.rules;
-    let barred = head.excluded;
-    let overridden = head.overrides;
-    let zone = head.zone;
-    let rules = load_list(text, ends, ruled, false, start, limit, &mut rows[..LIST]);
-    let excluded = load_list(text, ends, barred, true, start, limit, &mut rows[LIST..]);
-    let count = load_overrides(text, ends, overridden, ids, gone, places);
+    let rules = load_list(
+        text,
+        ends,
+        head.rules,
+        false,
+        start,
+        limit,
+        &mut rows[..LIST],
+    );
+    let excluded = load_list(
+        text,
+        ends,
+        head.excluded,
+        true,
+        start,
+        limit,
+        &mut rows[LIST..],
+    );
+    let count = load_overrides(text, ends, head.overrides, ids, gone, places);
     let sorted = rises(&ids[..count]);
-    let floating = is_floating(text, zone);
+    let floating = is_floating(text, head.zone);
     Kept {
         dates: Dates {
             start,

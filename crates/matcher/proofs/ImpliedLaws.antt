@@ -1,10 +1,10 @@
 -- The by-lists of a rule that was read, with the values of the start that it implies, as the code tells them apart.
 use Rattle.std.specs.Prelude.{if◌then◌else◌}
-use Prim.Native.Nat.{ℕ, zero, suc, ◌+◌, ◌<◌, ◌≤◌}
-use mathlib.Core.Bool.{Bool, true, false, false≢true, not, ◌||◌}
+use Prim.Native.Nat.{ℕ, zero, suc, ◌<◌, ◌≤◌}
+use mathlib.Core.Bool.{Bool, true, false, false≢true}
 use mathlib.Core.List.{List, [], ◌∷◌}
 use mathlib.Core.Option.{none}
-use mathlib.Core.Path.{◌≡◌, refl, sym, ap, ◌∙◌, subst}
+use mathlib.Core.Path.{◌≡◌, refl, sym, ◌∙◌}
 use native.Mathlib.Omega.{arith}
 use lib.Dec.{eqb}
 use lib.IntN.{ℤ, pos}
@@ -14,10 +14,9 @@ use Rattle.rule.specs.declared.Frequency.{Frequency}
 use Rattle.rule.specs.declared.Frequency.TheVariants.{Daily, Weekly, Monthly, Yearly}
 use Rattle.rule.specs.declared.Day.{Day}
 use Rattle.rule.specs.declared.Rule.{Rule}
-use Rattle.rule.specs.Written.{NDay, RecurrenceRule}
 use Rattle.rule.specs.Lists.{absent, or_else}
 use Rattle.rule.specs.Implied.{implied_day, implied_month_day, implied_month, days_from, month_days_from, months_from}
-use Rattle.rule.specs.Inner.Read.{ndays, nth_from, written, Sized}
+use Rattle.rule.specs.Inner.Read.{ndays, written, Sized}
 use Rattle.matcher.specs.Inner.Rows.{implies_day, implies_date, implies_month}
 
 absent-take : {A : Type 0} (n : ℕ) (l : List A) → n ≤ length l → absent (take n l) ≡ eqb n 0

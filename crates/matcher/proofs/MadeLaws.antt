@@ -1,15 +1,13 @@
 -- A row that was marked step by step is the row of the rule.
 use Rattle.std.specs.Prelude.{if◌then◌else◌}
-use Prim.Native.Nat.{ℕ, zero, suc, ◌+◌, ◌<◌, ◌≤◌}
+use Prim.Native.Nat.{ℕ, zero, suc, ◌<◌, ◌≤◌}
 use mathlib.Core.Bool.{Bool, true, false}
 use mathlib.Core.List.{List, [], ◌∷◌}
-use mathlib.Core.Option.{none}
 use mathlib.Core.Path.{◌≡◌, refl, sym, ap, ◌∙◌}
 use native.Mathlib.Omega.{arith}
 use lib.Dec.{eqb}
-use lib.IntN.{ℤ, pos}
+use lib.IntN.{ℤ}
 use lib.ListN.{length, take}
-use Rattle.signed.specs.Parts.{pos_part, neg_part}
 use Rattle.rule.specs.declared.Day.{Day}
 use Rattle.rule.specs.declared.Rule.{Rule}
 use Rattle.rule.specs.Implied.{days_from, month_days_from, months_from}

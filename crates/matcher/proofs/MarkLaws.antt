@@ -1,7 +1,7 @@
 -- What is marked is what the lists say.
 use Rattle.std.specs.Prelude.{if◌then◌else◌}
-use Prim.Native.Nat.{ℕ, zero, suc, ◌+◌, ◌-◌, ◌*◌, ◌/◌, ◌<◌, ◌≤◌}
-use mathlib.Core.Bool.{Bool, true, false, false≢true, not, ◌&&◌, ◌||◌}
+use Prim.Native.Nat.{ℕ, zero, suc, ◌+◌, ◌-◌, ◌*◌, ◌<◌, ◌≤◌}
+use mathlib.Core.Bool.{Bool, true, false, ◌&&◌, ◌||◌}
 use mathlib.Core.List.{List, [], ◌∷◌}
 use mathlib.Core.Option.{Option, none, some}
 use mathlib.Core.Path.{◌≡◌, refl, sym, ap, ◌∙◌, subst}
@@ -9,15 +9,18 @@ use native.Mathlib.Omega.{arith}
 use lib.Dec.{eqb, leb, ltb}
 use lib.IntN.{ℤ, pos, negsuc}
 use lib.ListN.{length, get_or, set, drop, length-set, drop_of_length-le}
+use Rattle.std.proofs.lemmas.List.{ext_get_or}
 use lib.Seq.{get_or-set_same, get_or-set_other, drop-cons}
-use native.Mathlib.Numerals.{add-one, sub-one}
-use borrow.Author.Tests.{ltb-true, ltb-false, leb-true, leb-false, eqb-true, eqb-false, eq-eqb, ne_eqb, lt-ltb, le-ltb, le-leb, lt-leb}
+use native.Mathlib.Numerals.{add-one}
+use borrow.Author.Tests.{ltb-true, ltb-false, leb-false, eqb-true, eqb-false, eq-eqb, ne_eqb, lt-ltb}
+use mir.Facts.{to_z-of_z}
+use mir.Syntax.{w64}
+use mir.Val.{SFits, to_z, of_z}
 use Rattle.signed.specs.Parts.{pos_part, neg_part}
 use Rattle.signed.specs.Place.{place_of}
-use Rattle.rule.specs.Written.{NDay}
 use Rattle.rule.specs.Inner.Read.{nth_from, ndays}
-use Rattle.rule.specs.Lists.{any, meets}
-use Rattle.rule.proofs.Bools.{by, or_left, or_right, both, left, right, same_tests}
+use Rattle.rule.specs.Lists.{any}
+use Rattle.rule.proofs.Bools.{by, both, right, same_tests}
 use Rattle.matcher.specs.Inner.Flags.{named}
 use Rattle.matcher.specs.Inner.Layout.{weekdays_at, nths_at, nths_back}
 use Rattle.matcher.specs.Inner.Marks.{mark_one, mark_each, mark_place, mark_places, mark_nth, mark_days, mark_all}
@@ -234,9 +237,6 @@ pub record EachAt (fl₀ : List Bool) (at limit : ℕ) (list : List ℕ) (fl : L
   pub same : mark_each fl at limit (drop i list) ≡ mark_each fl₀ at limit list
 
 module _ (fl₀ : List Bool) (at limit : ℕ) (list : List ℕ) where
-  pub each-starts : EachAt fl₀ at limit list fl₀ 0
-  each-starts = record { size = refl; same = refl }
-
   pub each-goes-on : (fl next : List Bool) (i : ℕ) → EachAt fl₀ at limit list fl i → i < length list
       → next ≡ mark_one fl at limit (get_or list i 0) → EachAt fl₀ at limit list next (i + 1)
   unfolding mark_each
@@ -250,19 +250,11 @@ module _ (fl₀ : List Bool) (at limit : ℕ) (list : List ℕ) where
   unfolding mark_each
   each-ends fl i w h = rw (drop_of_length-le list h) at w.same
 
-pub place-made : (fl a b : List Bool) (on back limit : ℕ) (z : ℤ) (p q : ℕ) → p ≡ pos_part z → q ≡ neg_part z
-    → a ≡ mark_one fl on limit p → b ≡ mark_one a back limit q → b ≡ mark_place fl on back limit z
-unfolding mark_place
-place-made fl a b on back limit z p q ep eq ea eb = eb ∙ rw (ea, ep, eq)
-
 pub record PlacesAt (fl₀ : List Bool) (on back limit : ℕ) (list : List ℤ) (fl : List Bool) (i : ℕ) : Type 0 where
   pub size : length fl ≡ length fl₀
   pub same : mark_places fl on back limit (drop i list) ≡ mark_places fl₀ on back limit list
 
 module _ (fl₀ : List Bool) (on back limit : ℕ) (list : List ℤ) where
-  pub places-starts : PlacesAt fl₀ on back limit list fl₀ 0
-  places-starts = record { size = refl; same = refl }
-
   pub places-goes-on : (fl next : List Bool) (i : ℕ) → PlacesAt fl₀ on back limit list fl i → i < length list
       → next ≡ mark_place fl on back limit (get_or list i (pos 0)) → PlacesAt fl₀ on back limit list next (i + 1)
   unfolding mark_places
@@ -276,46 +268,59 @@ module _ (fl₀ : List Bool) (on back limit : ℕ) (list : List ℤ) where
   unfolding mark_places
   places-ends fl i w h = rw (drop_of_length-le list h) at w.same
 
-pub record AllAt (fl₀ : List Bool) (at n : ℕ) (fl : List Bool) (left : ℕ) : Type 0 where
+-- ---- the loop that marks a whole run: its flags before i are set, and the others are as they were
+
+pub record AllAt (fl₀ : List Bool) (at i : ℕ) (fl : List Bool) : Type 0 where
   pub size : length fl ≡ length fl₀
-  pub low : left ≤ n
-  pub same : mark_all fl at left ≡ mark_all fl₀ at n
+  pub here : (j : ℕ) → at ≤ j → j < i → get_or fl j false ≡ true
+  pub low : (j : ℕ) → j < at → get_or fl j false ≡ get_or fl₀ j false
+  pub high : (j : ℕ) → i ≤ j → get_or fl j false ≡ get_or fl₀ j false
 
-module _ (fl₀ : List Bool) (at n : ℕ) where
-  pub all-starts : AllAt fl₀ at n fl₀ n
-  all-starts = record { size = refl; low = omega arith; same = refl }
+module _ (fl₀ : List Bool) (at : ℕ) where
+  pub all-starts : AllAt fl₀ at at fl₀
+  all-starts = record { size = refl; here = λ j low high. absurd (omega arith); low = λ j h. refl; high = λ j h. refl }
 
-  pub all-goes-on : (fl : List Bool) (left : ℕ) → AllAt fl₀ at n fl left → 0 < left → AllAt fl₀ at n (set fl (at + (left - 1)) true) (left - 1)
-  unfolding mark_all
-  all-goes-on fl left w h =
-      let one : left ≡ suc (left - 1) = omega arith in
+  pub all-goes-on : (fl : List Bool) (i : ℕ) → AllAt fl₀ at i fl → at ≤ i → i < length fl → AllAt fl₀ at (i + 1) (set fl i true)
+  all-goes-on fl i w from more =
       record {
-        size = length-set fl (at + (left - 1)) true ∙ w.size;
-        low = omega (arith, w.low);
-        same = ap (mark_all fl at) (sym one) ∙ w.same;
+        size = length-set fl i true ∙ w.size;
+        here = λ j low high.
+            by (ltb j i)
+            (λ e. get_or-set_other fl i j true false (λ same. omega (arith, ltb-true j i e)) ∙ w.here j low (ltb-true j i e))
+            (λ e.
+            let same : i ≡ j = omega (arith, ltb-false j i e) in
+            subst (λ (k : ℕ). get_or (set fl i true) k false ≡ true) same (get_or-set_same fl i true false more));
+        low = λ j h. get_or-set_other fl i j true false (λ same. omega arith) ∙ w.low j h;
+        high = λ j h. get_or-set_other fl i j true false (λ same. omega arith) ∙ w.high j (omega arith);
       }
 
-  pub all-ends : (fl : List Bool) (left : ℕ) → AllAt fl₀ at n fl left → left ≤ 0 → fl ≡ mark_all fl₀ at n
-  unfolding mark_all
-  all-ends fl left w h =
-      let none : left ≡ 0 = omega arith in
-      rw none at w.same
+  pub all-ends : (fl : List Bool) (i n : ℕ) → AllAt fl₀ at i fl → i ≡ at + n → at + n ≤ length fl₀ → fl ≡ mark_all fl₀ at n
+  all-ends fl i n w last room =
+      ext_get_or false fl (mark_all fl₀ at n) (w.size ∙ sym (all-length fl₀ at n))
+      (λ j h.
+      by (ltb j at) (λ t. w.low j (ltb-true j at t) ∙ sym (all-below fl₀ at n j (ltb-true j at t)))
+      (λ t.
+      let low = ltb-false j at t in
+      by (ltb j (at + n))
+      (λ u.
+      let high = ltb-true j (at + n) u in
+      let whole : at + (j - at) ≡ j = omega arith in
+      w.here j low (omega arith) ∙ sym (subst (λ (k : ℕ). get_or (mark_all fl₀ at n) k false ≡ true) whole (all-flag fl₀ at n (j - at) room (omega arith))))
+      (λ u. w.high j (omega (arith, ltb-false j (at + n) u)) ∙ sym (all-other fl₀ at n j (ltb-false j (at + n) u)))))
 
-pub weekday-made : (fl next : List Bool) (w : ℕ) (z : ℤ) → w < 7 → next ≡ mark_place fl (nths_at + 54 * w) (nths_back + 54 * w) 54 z → next ≡ mark_nth fl w (some z)
-unfolding mark_nth
-weekday-made fl next w z h e = rw (lt-ltb w 7 h) e
-
-pub nth_on : (fl next : List Bool) (w : ℕ) (z : ℤ) → 0 < pos_part z → next ≡ mark_nth fl w (some z) → next ≡ mark_nth fl w (nth_from z)
+pub nth-some : (fl next : List Bool) (w : ℕ) (z : ℤ) → (z ≡ pos 0 → ⊥) → next ≡ mark_nth fl w (some z) → next ≡ mark_nth fl w (nth_from z)
 unfolding nth_from
-nth_on fl next w z h e = rw (lt-ltb 0 (pos_part z) h) e
+nth-some fl next w (pos zero) h e = absurd (h refl)
+nth-some fl next w (pos (suc n)) h e = rw (lt-ltb 0 (suc n) (omega arith)) e
+nth-some fl next w (negsuc n) h e = rw (lt-ltb 0 (suc n) (omega arith)) e
 
-pub nth-back : (fl next : List Bool) (w : ℕ) (z : ℤ) → pos_part z ≤ 0 → 0 < neg_part z → next ≡ mark_nth fl w (some z) → next ≡ mark_nth fl w (nth_from z)
-unfolding nth_from
-nth-back fl next w z h k e = rw (le-ltb 0 (pos_part z) h, lt-ltb 0 (neg_part z) k) e
+-- a number is 0 where its bits are
+pub no-bits : (z : ℤ) → SFits w64 z → of_z w64 z ≡ 0 → z ≡ pos 0
+no-bits z fits e = sym (to_z-of_z fits) ∙ ap (to_z w64) e
 
-pub nth-none : (fl next : List Bool) (w : ℕ) (z : ℤ) → pos_part z ≤ 0 → neg_part z ≤ 0 → next ≡ mark_one fl weekdays_at 7 w → next ≡ mark_nth fl w (nth_from z)
+pub nth-none : (fl next : List Bool) (w : ℕ) (z : ℤ) → z ≡ pos 0 → next ≡ mark_one fl weekdays_at 7 w → next ≡ mark_nth fl w (nth_from z)
 unfolding nth_from mark_nth
-nth-none fl next w z h k e = rw (le-ltb 0 (pos_part z) h, le-ltb 0 (neg_part z) k) e
+nth-none fl next w z h e = rw h e
 
 nth-size : (fl : List Bool) (w : ℕ) (o : Option ℤ) → length (mark_nth fl w o) ≡ length fl
 unfolding mark_nth
@@ -331,9 +336,6 @@ pub record DaysAt (fl₀ : List Bool) (ws : List ℕ) (zs : List ℤ) (fl : List
   pub same : mark_days fl (ndays (drop i ws) (drop i zs)) ≡ mark_days fl₀ (ndays ws zs)
 
 module _ (fl₀ : List Bool) (ws : List ℕ) (zs : List ℤ) where
-  pub days-starts : DaysAt fl₀ ws zs fl₀ 0
-  days-starts = record { size = refl; same = refl }
-
   pub days-goes-on : (fl next : List Bool) (i : ℕ) → DaysAt fl₀ ws zs fl i → i < length ws → length ws ≡ length zs
       → next ≡ mark_nth fl (get_or ws i 0) (nth_from (get_or zs i (pos 0))) → DaysAt fl₀ ws zs next (i + 1)
   unfolding mark_days ndays

@@ -1,12 +1,11 @@
 -- A rule by its terms and its marked row picks the days that the rule picks.
 use Rattle.std.specs.Prelude.{if◌then◌else◌}
-use Prim.Native.Nat.{ℕ, zero, suc, ◌+◌, ◌-◌, ◌*◌, ◌/◌, ◌%◌, ◌<◌, ◌≤◌}
-use mathlib.Core.Bool.{Bool, true, false, false≢true, not, ◌&&◌, ◌||◌}
+use Prim.Native.Nat.{ℕ, ◌+◌, ◌-◌, ◌<◌, ◌≤◌}
+use mathlib.Core.Bool.{Bool, true, false, false≢true, ◌&&◌}
 use mathlib.Core.List.{List, [], ◌∷◌}
-use mathlib.Core.Path.{◌≡◌, refl, sym, ap, ◌∙◌, subst}
+use mathlib.Core.Path.{◌≡◌, refl, sym, ap, ◌∙◌}
 use native.Mathlib.Omega.{arith}
 use lib.Dec.{eqb}
-use lib.IntN.{ℤ}
 use lib.ListN.{length}
 use Rattle.signed.specs.Place.{place_of}
 use Rattle.gregorian.specs.Days.{day_count}
@@ -15,20 +14,19 @@ use Rattle.rule.specs.declared.Day.{Day}
 use Rattle.rule.specs.Day.{day_at}
 use Rattle.rule.specs.Written.{RecurrenceRule}
 use Rattle.rule.specs.Lists.{any, meets, absent, count_in}
-use Rattle.rule.specs.Period.{period_of, since_first, days_of, in_step}
-use Rattle.rule.specs.Stays.{counts_in_year, stays, stays_on, is_place, picked}
+use Rattle.rule.specs.Period.{since_first, days_of, in_step}
+use Rattle.rule.specs.Stays.{stays, stays_on, is_place, picked}
 use Rattle.rule.specs.Gives.{end_day}
-use Rattle.rule.specs.Inner.Bounds.{InCalendar}
 use Rattle.rule.proofs.Bools.{by}
 use Rattle.rule.proofs.Counting.{count_same}
 use Rattle.rule.proofs.DayLaws.{day-facts}
 use Rattle.rule.proofs.PeriodLaws.{day-number}
 use Rattle.matcher.specs.declared.Terms.{Terms}
-use Rattle.matcher.specs.Inner.Flags.{Places, named, stays_by}
+use Rattle.matcher.specs.Inner.Flags.{stays_by}
 use Rattle.matcher.specs.Inner.Rows.{Termed}
 use Rattle.matcher.specs.Inner.Walk.{Asked, stays_on_by, step_by, placed_by, picks_by, picks_on_by}
 use Rattle.matcher.proofs.RowLaws.{Marked, stays_same}
-use Rattle.matcher.proofs.WalkLaws.{before, whole, known, asked-day, asked-before, asked-early, asked-within, asked-places}
+use Rattle.matcher.proofs.WalkLaws.{before, whole, asked-before, asked-within, asked-places}
 
 any-meets : {A : Type 0} (p : A → Bool) (l : List A) → absent l ≡ false → any p l ≡ meets p l
 unfolding meets absent

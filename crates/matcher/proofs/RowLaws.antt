@@ -1,11 +1,11 @@
 -- A marked row says of each day what the rule's by-lists say.
 use Rattle.std.specs.Prelude.{if◌then◌else◌}
-use Prim.Native.Nat.{ℕ, zero, suc, ◌+◌, ◌-◌, ◌*◌, ◌/◌, ◌<◌, ◌≤◌}
-use mathlib.Core.Bool.{Bool, true, false, ◌&&◌, ◌||◌}
+use Prim.Native.Nat.{ℕ, ◌+◌, ◌-◌, ◌*◌, ◌/◌, ◌<◌, ◌≤◌}
+use mathlib.Core.Bool.{Bool, true, false, ◌&&◌}
 use mathlib.Core.List.{List, [], ◌∷◌}
 use mathlib.Core.Logic.{◌⊎◌, inl, inr}
 use mathlib.Core.Option.{Option, none, some}
-use mathlib.Core.Path.{◌≡◌, refl, sym, ap, ◌∙◌, subst}
+use mathlib.Core.Path.{◌≡◌, refl, ◌∙◌, subst}
 use native.Mathlib.Omega.{arith}
 use lib.Dec.{eqb}
 use lib.IntN.{ℤ}
@@ -16,11 +16,11 @@ use Rattle.rule.specs.declared.Day.{Day}
 use Rattle.rule.specs.Written.{NDay, RecurrenceRule}
 use Rattle.rule.specs.Lists.{any, meets}
 use Rattle.rule.specs.Implied.{days_from, month_days_from, months_from}
-use Rattle.rule.specs.Stays.{counts_in_year, is_nth, meets_nth, meets_day, meets_month_day, meets_month, stays, is_place}
+use Rattle.rule.specs.Stays.{counts_in_year, is_nth, meets_nth, meets_day, meets_month_day, meets_month, stays}
 use Rattle.rule.specs.Inner.Bounds.{InCalendar}
 use Rattle.matcher.specs.Inner.Flags.{named, nth_by, month_by, date_by, day_by, stays_by}
 use Rattle.matcher.specs.Inner.Layout.{row_size, dates_at, dates_back, weekdays_at, nths_at, nths_back, positions_at, positions_back}
-use Rattle.matcher.specs.Inner.Marks.{mark_each, mark_places, mark_days, mark_all, mark_months, mark_dates, mark_weekdays, mark_row}
+use Rattle.matcher.specs.Inner.Marks.{mark_each, mark_places, mark_all, mark_months, mark_dates, mark_weekdays, mark_row}
 use Rattle.matcher.proofs.MarkLaws.{any_same, any-never, or-none, hits, hits-in, hits-below, hits-above, hits_place, each-length, each-flag, places-length, places-flag, all-length, all-other, all-flag, all-below, named-places}
 use Rattle.matcher.proofs.WeekdayLaws.{nth_is, days-length, days-outside, weekday-named}
 

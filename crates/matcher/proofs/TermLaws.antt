@@ -1,12 +1,11 @@
 -- The terms that are read off a rule are the rule's.
-use Prim.Native.Nat.{ℕ, ◌<◌, ◌≤◌}
-use mathlib.Core.Bool.{Bool, true, false, not}
-use mathlib.Core.Path.{◌≡◌, refl, sym, ap, ◌∙◌}
+use Prim.Native.Nat.{ℕ}
+use mathlib.Core.Bool.{Bool, not}
+use mathlib.Core.Path.{◌≡◌, refl, ◌∙◌}
 use native.Mathlib.Omega.{arith}
 use lib.Dec.{eqb, ltb}
-use borrow.Author.Tests.{ltb-true, ltb-false, eq-eqb, ne_eqb, lt-ltb, le-ltb}
+use borrow.Author.Tests.{ltb-true, ltb-false, eq-eqb, ne_eqb}
 use Rattle.rule.specs.declared.Frequency.{Frequency}
-use Rattle.rule.specs.declared.Frequency.TheVariants.{Daily, Weekly, Monthly, Yearly}
 use Rattle.rule.specs.declared.Day.{Day}
 use Rattle.rule.specs.declared.Rule.{Rule}
 use Rattle.rule.specs.Lists.{absent}
@@ -14,7 +13,6 @@ use Rattle.rule.specs.Period.{period_of}
 use Rattle.rule.specs.Stays.{counts_in_year}
 use Rattle.rule.specs.Inner.Read.{written, Sized}
 use Rattle.rule.proofs.Bools.{by}
-use Rattle.matcher.specs.declared.Terms.{Terms}
 use Rattle.matcher.specs.Inner.Rows.{yearly, Termed}
 use Rattle.matcher.proofs.ImpliedLaws.{no-months, no-positions}
 

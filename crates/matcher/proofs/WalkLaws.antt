@@ -1,28 +1,26 @@
 -- Laws of the walk from day to day.
-use Rattle.std.specs.Prelude.{if◌then◌else◌}
-use Prim.Native.Nat.{ℕ, zero, suc, ◌+◌, ◌-◌, ◌%◌, ◌<◌, ◌≤◌}
-use mathlib.Core.Bool.{Bool, true, false}
+use Prim.Native.Nat.{ℕ, suc, ◌+◌, ◌-◌, ◌%◌, ◌<◌, ◌≤◌}
+use mathlib.Core.Bool.{Bool, true, false, not}
 use mathlib.Core.List.{List}
-use mathlib.Core.Path.{◌≡◌, refl, sym, ap, ◌∙◌, subst}
+use mathlib.Core.Path.{◌≡◌, sym, ap, ◌∙◌, subst}
 use native.Mathlib.Omega.{arith}
 use native.Mathlib.Nat.{zero-mod, mod-zero}
-use native.Mathlib.Numerals.{add-one, sub-one}
+use native.Mathlib.Numerals.{add-one}
 use lib.Dec.{eqb}
 use borrow.Author.Tests.{eq-eqb, ne_eqb}
 use Rattle.gregorian.specs.Days.{day_count}
 use Rattle.rule.specs.declared.Day.{Day}
-use Rattle.rule.specs.Day.{on_date, day_at}
+use Rattle.rule.specs.Day.{day_at}
 use Rattle.rule.specs.Lists.{count_in}
 use Rattle.rule.specs.Period.{period_of, since_first, days_of}
-use Rattle.rule.specs.Gives.{end_day}
 use Rattle.rule.specs.Inner.Bounds.{InCalendar}
 use Rattle.rule.proofs.Counting.{count-more, count_less, count_none, count_most, count-place}
-use Rattle.rule.proofs.DayLaws.{day-facts, of-day}
+use Rattle.rule.proofs.DayLaws.{day-facts}
 use Rattle.rule.proofs.PeriodLaws.{day-number, since-in, days-most, period-within}
 use Rattle.matcher.specs.declared.Terms.{Terms}
-use Rattle.matcher.specs.Inner.Flags.{Places, named, stays_by}
+use Rattle.matcher.specs.Inner.Flags.{Places, stays_by}
 use Rattle.matcher.specs.Inner.Layout.{positions_at, positions_back}
-use Rattle.matcher.specs.Inner.Walk.{Asked, stays_on_by, step_by, placed_by, picks_by, picks_on_by}
+use Rattle.matcher.specs.Inner.Walk.{Asked, stays_on_by, step_by, picks_by, picks_on_by}
 
 -- ---- the interval
 
@@ -32,18 +30,22 @@ step-each t x e =
     let none : (period_of t.frequency t.first x - t.period) % 1 ≡ 0 = omega arith in
     rw e (sym (eq-eqb _ 0 none))
 
-module _ (t : Terms) (x : Day) (period : ℕ) (is : period ≡ period_of t.frequency t.first x) where
-  pub step-first : period ≤ t.period → true ≡ step_by t x
+module _ (t : Terms) (x : Day) (period later : ℕ) (is : period ≡ period_of t.frequency t.first x) (by : later ≡ period - t.period) where
+  pub step-first : later ≡ 0 → eqb later 0 ≡ step_by t x
   unfolding step_by
   step-first h =
-      let none : period_of t.frequency t.first x - t.period ≡ 0 = omega (arith, is) in
-      rw (none, zero-mod t.interval)
+      let none : period_of t.frequency t.first x - t.period ≡ 0 = omega (arith, is, by) in
+      rw (none, zero-mod t.interval, h)
 
-  pub step-never : t.period < period → t.interval ≡ 0 → false ≡ step_by t x
+  pub step-never : (later ≡ 0 → ⊥) → t.interval ≡ 0 → not (eqb t.interval 0) ≡ step_by t x
   unfolding step_by
   step-never h z =
-      let other = ne_eqb (period_of t.frequency t.first x - t.period) 0 (omega (arith, is)) in
+      let other = ne_eqb (period_of t.frequency t.first x - t.period) 0 (omega (arith, is, by)) in
       rw (z, mod-zero, other)
+
+  pub step-later : (n : ℕ) → n ≡ later → eqb (n % t.interval) 0 ≡ step_by t x
+  unfolding step_by
+  step-later n e = rw (e, by, is)
 
 -- ---- days by their numbers
 
@@ -67,23 +69,15 @@ pub record Counting (p : ℕ → Bool) (first n : ℕ) (x : Day) (left found : �
   pub sum : found + count_in p x.number left ≡ count_in p first n
 
 module _ (p : ℕ → Bool) (first n : ℕ) where
-  pub counting-starts : (x : Day) → x ≡ day_at first → first + n < day_count → Counting p first n x n 0
-  counting-starts x e h =
-      let at = number_is x first e in
-      record { day = day-again x first e; low = omega arith; ends = omega arith; fits = omega arith; few = omega arith; sum = rw at (omega arith) }
-
-  module _ (x y : Day) (left found : ℕ) (i : Counting p first n x left found) (more : 0 < left) (e : y ≡ day_at (x.number + 1)) where
-    one_less : left ≡ suc (left - 1)
-    one_less = omega arith
-
+  module _ (x y : Day) (left rest found : ℕ) (i : Counting p first n x left found) (one_less : left ≡ suc rest) (e : y ≡ day_at (x.number + 1)) where
     next-number : y.number ≡ suc x.number
     next-number = number_is y (x.number + 1) e ∙ add-one x.number
 
-    pub counting-yes : p x.number ≡ true → Counting p first n y (left - 1) (found + 1)
+    pub counting-yes : p x.number ≡ true → Counting p first n y rest (found + 1)
     counting-yes yes-it-is =
         let sum = i.sum in
-        let here = count-more p x.number (left - 1) yes-it-is in
-        let all : count_in p x.number left ≡ suc (count_in p (suc x.number) (left - 1)) = ap (count_in p x.number) one_less ∙ here in
+        let here = count-more p x.number rest yes-it-is in
+        let all : count_in p x.number left ≡ suc (count_in p (suc x.number) rest) = ap (count_in p x.number) one_less ∙ here in
         record {
           day = day-again y (x.number + 1) e;
           low = omega (arith, i.low, next-number);
@@ -93,11 +87,11 @@ module _ (p : ℕ → Bool) (first n : ℕ) where
           sum = rw next-number (omega arith);
         }
 
-    pub counting-no : p x.number ≡ false → Counting p first n y (left - 1) found
+    pub counting-no : p x.number ≡ false → Counting p first n y rest found
     counting-no no-it-is-not =
         let sum = i.sum in
-        let here = count_less p x.number (left - 1) no-it-is-not in
-        let all : count_in p x.number left ≡ count_in p (suc x.number) (left - 1) = ap (count_in p x.number) one_less ∙ here in
+        let here = count_less p x.number rest no-it-is-not in
+        let all : count_in p x.number left ≡ count_in p (suc x.number) rest = ap (count_in p x.number) one_less ∙ here in
         record {
           day = day-again y (x.number + 1) e;
           low = omega (arith, i.low, next-number);

@@ -1,16 +1,16 @@
 -- What is marked of `byDay` is what its entries say.
 use Rattle.std.specs.Prelude.{if◌then◌else◌}
-use Prim.Native.Nat.{ℕ, zero, suc, ◌+◌, ◌-◌, ◌*◌, ◌/◌, ◌<◌, ◌≤◌}
-use mathlib.Core.Bool.{Bool, true, false, false≢true, not, ◌&&◌, ◌||◌}
+use Prim.Native.Nat.{ℕ, ◌+◌, ◌-◌, ◌*◌, ◌<◌, ◌≤◌}
+use mathlib.Core.Bool.{Bool, true, false, ◌&&◌, ◌||◌}
 use mathlib.Core.List.{List, [], ◌∷◌}
 use mathlib.Core.Logic.{◌⊎◌, inl, inr}
 use mathlib.Core.Option.{Option, none, some}
-use mathlib.Core.Path.{◌≡◌, refl, sym, ap, ◌∙◌, subst}
+use mathlib.Core.Path.{◌≡◌, refl, sym, ap, ◌∙◌}
 use native.Mathlib.Omega.{arith}
-use lib.Dec.{eqb, leb, ltb}
-use lib.IntN.{ℤ, pos, negsuc}
-use lib.ListN.{length, get_or, set}
-use borrow.Author.Tests.{ltb-true, ltb-false, eqb-true, eqb-false, eq-eqb, ne_eqb, lt-ltb}
+use lib.Dec.{eqb, ltb}
+use lib.IntN.{ℤ}
+use lib.ListN.{length, get_or}
+use borrow.Author.Tests.{ltb-true, eqb-true, eq-eqb, lt-ltb}
 use Rattle.signed.specs.Parts.{pos_part, neg_part}
 use Rattle.signed.specs.Place.{place_of}
 use Rattle.rule.specs.Written.{NDay}
@@ -18,7 +18,7 @@ use Rattle.rule.specs.Lists.{any}
 use Rattle.rule.proofs.Bools.{by, both, left, right, same_tests}
 use Rattle.matcher.specs.Inner.Flags.{named}
 use Rattle.matcher.specs.Inner.Layout.{weekdays_at, nths_at, nths_back, positions_at}
-use Rattle.matcher.specs.Inner.Marks.{mark_one, mark_place, mark_nth, mark_days}
+use Rattle.matcher.specs.Inner.Marks.{mark_place, mark_nth, mark_days}
 use Rattle.matcher.proofs.MarkLaws.{mark-length, mark-flag, place-length, place-flag, hits, hits-in, hits-below, hits-above, hits_place, any_same, any-never, any-or, or-none, or-regroup, named-or, place-tests}
 
 abbrev hits_nth : ℕ → Option ℤ → ℕ → Bool

@@ -7,18 +7,17 @@ use super::layout::{DATES, DATES_BACK, NTHS, NTHS_BACK, WEEKDAYS};
 use rule::Day;
 
 // A place of `count` places, from 1: by its own number or by its number from the end.
+#[tactic(auto, unfolding(crate::specs::Inner::Flags::named))]
 pub fn is_named(flags: &[bool], on: usize, back: usize, place: u32, count: u32) -> bool
     requires { Places (length flags.now) on back place count }
     ensures { result ≡ named flags.now on back place count }
 {
     let from_end = count + 1 - place;
-    if flags[on + place as usize] {
-        return true;
-    }
-    flags[back + from_end as usize]
+    flags[on + place as usize] || flags[back + from_end as usize]
 }
 
 // The day has `before` days of `count` before it, of a month or a year.
+#[tactic(auto, unfolding(crate::specs::Inner::Flags::nth_by))]
 pub fn is_nth(flags: &[bool], weekday: u32, before: u32, count: u32) -> bool
     requires { Row (length flags.now) × ((weekday < 7) × ((before < count) × (count ≤ 366))) }
     ensures { result ≡ nth_by flags.now weekday before count }
@@ -29,14 +28,15 @@ pub fn is_nth(flags: &[bool], weekday: u32, before: u32, count: u32) -> bool
     is_named(flags, NTHS + at, NTHS_BACK + at, place, places)
 }
 
+#[tactic(auto, unfolding(crate::specs::Inner::Flags::month_by))]
 pub fn on_month(flags: &[bool], x: Day) -> bool
     requires { Row (length flags.now) × InCalendar x }
     ensures { result ≡ month_by flags.now x }
 {
-    let month = x.month;
-    flags[month as usize]
+    flags[x.month as usize]
 }
 
+#[tactic(auto, unfolding(crate::specs::Inner::Flags::date_by))]
 fn on_date(flags: &[bool], x: Day) -> bool
     requires { Row (length flags.now) × InCalendar x }
     ensures { result ≡ date_by flags.now x }
@@ -44,30 +44,24 @@ fn on_date(flags: &[bool], x: Day) -> bool
     is_named(flags, DATES, DATES_BACK, x.monthday, x.monthdays)
 }
 
+#[tactic(auto, unfolding(crate::specs::Inner::Flags::day_by))]
 fn on_day(flags: &[bool], inyear: bool, x: Day) -> bool
     requires { Row (length flags.now) × InCalendar x }
     ensures { result ≡ day_by flags.now inyear x }
 {
-    let weekday = x.weekday;
-    if flags[WEEKDAYS + weekday as usize] {
-        return true;
-    }
-    if inyear {
-        return is_nth(flags, weekday, x.yearday, x.yeardays);
-    }
-    is_nth(flags, weekday, x.monthday - 1, x.monthdays)
+    flags[WEEKDAYS + x.weekday as usize]
+        || if inyear {
+            is_nth(flags, x.weekday, x.yearday, x.yeardays)
+        } else {
+            is_nth(flags, x.weekday, x.monthday - 1, x.monthdays)
+        }
 }
 
 // Whether every by-list but that of positions has an entry that the day meets.
+#[tactic(auto, unfolding(crate::specs::Inner::Flags::stays_by))]
 pub fn stays(flags: &[bool], inyear: bool, x: Day) -> bool
     requires { Row (length flags.now) × InCalendar x }
     ensures { result ≡ stays_by flags.now inyear x }
 {
-    if !on_month(flags, x) {
-        return false;
-    }
-    if !on_date(flags, x) {
-        return false;
-    }
-    on_day(flags, inyear, x)
+    on_month(flags, x) && on_date(flags, x) && on_day(flags, inyear, x)
 }

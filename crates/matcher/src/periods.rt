@@ -6,6 +6,7 @@ ghost use Rattle.rule.specs.Inner.Bounds.{InCalendar};
 
 use rule::{Day, Frequency};
 
+#[tactic(auto, unfolding(rule::specs::Period::period_of))]
 pub fn period_of(frequency: Frequency, first: u32, x: Day) -> u32
     requires { (first < 7) × (InCalendar x × (x.number < day_count)) }
     ensures { result ≡ period_of frequency first x }
@@ -18,6 +19,7 @@ pub fn period_of(frequency: Frequency, first: u32, x: Day) -> u32
     }
 }
 
+#[tactic(auto, unfolding(rule::specs::Period::since_first))]
 pub fn since_first(frequency: Frequency, first: u32, x: Day) -> u32
     requires { (first < 7) × (InCalendar x × (x.number < day_count)) }
     ensures { result ≡ since_first frequency first x }
@@ -30,6 +32,7 @@ pub fn since_first(frequency: Frequency, first: u32, x: Day) -> u32
     }
 }
 
+#[tactic(auto, unfolding(rule::specs::Period::days_of))]
 pub fn days_of(frequency: Frequency, x: Day) -> u32
     ensures { result ≡ days_of frequency x }
 {

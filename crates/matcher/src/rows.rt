@@ -12,142 +12,99 @@ use super::Terms;
 use super::layout::{DATES, DATES_BACK, POSITIONS, POSITIONS_BACK, WEEKDAYS};
 use rule::{Day, Frequency, Rule};
 
+#[tactic(auto, unfolding(crate::specs::Inner::Rows::implies_day))]
 fn implies_day(frequency: Frequency) -> bool
     ensures { result ≡ implies_day frequency }
 {
-    match frequency {
-        Frequency::Daily => false,
-        Frequency::Weekly => true,
-        Frequency::Monthly => false,
-        Frequency::Yearly => false,
-    }
+    frequency == Frequency::Weekly
 }
 
+#[tactic(auto, unfolding(crate::specs::Inner::Rows::implies_date))]
 fn implies_date(frequency: Frequency, days: usize) -> bool
     ensures { result ≡ implies_date frequency (eqb days 0) }
 {
-    match frequency {
-        Frequency::Daily => false,
-        Frequency::Weekly => false,
-        Frequency::Monthly => days == 0,
-        Frequency::Yearly => days == 0,
-    }
+    matches!(frequency, Frequency::Monthly | Frequency::Yearly) && days == 0
 }
 
+#[tactic(auto, unfolding(crate::specs::Inner::Rows::implies_month))]
 fn implies_month(frequency: Frequency, days: usize, dates: usize) -> bool
     ensures { result ≡ implies_month frequency (eqb days 0) (eqb dates 0) }
 {
-    match frequency {
-        Frequency::Daily => false,
-        Frequency::Weekly => false,
-        Frequency::Monthly => false,
-        Frequency::Yearly => {
-            if 0 < dates {
-                return true;
-            }
-            days == 0
-        }
-    }
+    frequency == Frequency::Yearly && (0 < dates || days == 0)
 }
 
-fn mark_months(rule: Rule, start: Day, flags: &mut [bool])
-    requires { Sized rule × Row (length flags.old) }
-    ensures { flags.new ≡ mark_months flags.old (months_from (written rule) start) }
+fn mark_months(rule: &Rule, start: Day, flags: &mut [bool])
+    requires { Sized rule.now × Row (length flags.old) }
+    ensures { flags.new ≡ mark_months flags.old (months_from (written rule.now) start) }
 {
     let n = rule.monthcount;
     if 0 < n {
-        let months = rule.months;
-        super::marks::mark_each(&months[..n], flags, 0, DATES);
-        return;
+        super::marks::mark_each(&rule.months[..n], flags, 0, DATES);
+    } else if implies_month(rule.frequency, rule.days, rule.datecount) {
+        super::marks::mark(flags, 0, DATES, u64::from(start.month));
+    } else {
+        super::marks::mark_all(flags, 0, DATES);
     }
-    let frequency = rule.frequency;
-    if implies_month(frequency, rule.days, rule.datecount) {
-        let month = start.month;
-        super::marks::mark(flags, 0, DATES, month as u64);
-        return;
-    }
-    super::marks::mark_all(flags, 0, DATES);
 }
 
-fn mark_dates(rule: Rule, start: Day, flags: &mut [bool])
-    requires { Sized rule × Row (length flags.old) }
-    ensures { flags.new ≡ mark_dates flags.old (month_days_from (written rule) start) }
+fn mark_dates(rule: &Rule, start: Day, flags: &mut [bool])
+    requires { Sized rule.now × Row (length flags.old) }
+    ensures { flags.new ≡ mark_dates flags.old (month_days_from (written rule.now) start) }
 {
     let n = rule.datecount;
     if 0 < n {
-        let dates = rule.dates;
-        super::marks::mark_places(&dates[..n], flags, DATES, DATES_BACK, 32);
-        return;
-    }
-    let frequency = rule.frequency;
-    if implies_date(frequency, rule.days) {
-        let day = start.monthday;
-        super::marks::mark(flags, DATES, 32, day as u64);
+        super::marks::mark_places(&rule.dates[..n], flags, DATES, DATES_BACK, 32);
+    } else if implies_date(rule.frequency, rule.days) {
+        super::marks::mark(flags, DATES, 32, u64::from(start.monthday));
         super::marks::mark(flags, DATES_BACK, 32, 0);
-        return;
+    } else {
+        super::marks::mark_all(flags, DATES, 32);
     }
-    super::marks::mark_all(flags, DATES, 32);
 }
 
-fn mark_weekdays(rule: Rule, start: Day, flags: &mut [bool])
-    requires { Sized rule × Row (length flags.old) }
-    ensures { flags.new ≡ mark_weekdays flags.old (days_from (written rule) start) }
+fn mark_weekdays(rule: &Rule, start: Day, flags: &mut [bool])
+    requires { Sized rule.now × Row (length flags.old) }
+    ensures { flags.new ≡ mark_weekdays flags.old (days_from (written rule.now) start) }
 {
     let n = rule.days;
     if 0 < n {
-        let weekdays = rule.weekdays;
-        let nths = rule.nths;
-        super::marks::mark_days(&weekdays[..n], &nths[..n], flags);
-        return;
+        super::marks::mark_days(&rule.weekdays[..n], &rule.nths[..n], flags);
+    } else if implies_day(rule.frequency) {
+        super::marks::mark(flags, WEEKDAYS, 7, u64::from(start.weekday));
+    } else {
+        super::marks::mark_all(flags, WEEKDAYS, 7);
     }
-    let frequency = rule.frequency;
-    if implies_day(frequency) {
-        let weekday = start.weekday;
-        super::marks::mark(flags, WEEKDAYS, 7, weekday as u64);
-        return;
-    }
-    super::marks::mark_all(flags, WEEKDAYS, 7);
 }
 
 // The row of a rule whose event starts on a day; before, no flag is set.
-pub fn mark_row(rule: Rule, start: Day, flags: &mut [bool])
-    requires { Sized rule × Row (length flags.old) }
-    ensures { flags.new ≡ mark_row flags.old (written rule) start }
+pub fn mark_row(rule: &Rule, start: Day, flags: &mut [bool])
+    requires { Sized rule.now × Row (length flags.old) }
+    ensures { flags.new ≡ mark_row flags.old (written rule.now) start }
 {
     mark_months(rule, start, flags);
     mark_dates(rule, start, flags);
     mark_weekdays(rule, start, flags);
-    let positions = rule.positions;
     let n = rule.positioncount;
-    super::marks::mark_places(&positions[..n], flags, POSITIONS, POSITIONS_BACK, 367);
+    super::marks::mark_places(&rule.positions[..n], flags, POSITIONS, POSITIONS_BACK, 367);
 }
 
+#[tactic(auto, unfolding(crate::specs::Inner::Rows::yearly))]
 fn counts_in_year(frequency: Frequency, months: usize) -> bool
     ensures { result ≡ yearly frequency (eqb months 0) }
 {
-    match frequency {
-        Frequency::Daily => false,
-        Frequency::Weekly => false,
-        Frequency::Monthly => false,
-        Frequency::Yearly => months == 0,
-    }
+    frequency == Frequency::Yearly && months == 0
 }
 
-pub fn terms_of(rule: Rule, start: Day) -> Terms
-    requires { Sized rule × (InCalendar start × (start.number < day_count)) }
-    ensures { Termed (written rule) start result }
+pub fn terms_of(rule: &Rule, start: Day) -> Terms
+    requires { Sized rule.now × (InCalendar start × (start.number < day_count)) }
+    ensures { Termed (written rule.now) start result }
 {
-    let frequency = rule.frequency;
-    let first = rule.first;
-    let inyear = counts_in_year(frequency, rule.monthcount);
-    let period = super::periods::period_of(frequency, first, start);
-    let n = rule.positioncount;
     Terms {
-        frequency,
+        frequency: rule.frequency,
         interval: rule.interval,
-        first,
-        inyear,
-        placed: 0 < n,
-        period,
+        first: rule.first,
+        inyear: counts_in_year(rule.frequency, rule.monthcount),
+        placed: 0 < rule.positioncount,
+        period: super::periods::period_of(rule.frequency, rule.first, start),
     }
 }

@@ -20,17 +20,9 @@ pub fn in_step(terms: Terms, x: Day) -> bool
     if interval == 1 {
         return true;
     }
-    let frequency = terms.frequency;
-    let period = super::periods::period_of(frequency, terms.first, x);
-    let start = terms.period;
-    if period <= start {
-        return true;
-    }
-    let later = period - start;
-    if interval == 0 {
-        return false;
-    }
-    later as u64 % interval == 0
+    let period = super::periods::period_of(terms.frequency, terms.first, x);
+    let later = period.saturating_sub(terms.period);
+    later == 0 || (interval != 0 && u64::from(later) % interval == 0)
 }
 
 // How many of the n days from a day on stay.
@@ -39,15 +31,12 @@ pub fn count_in(flags: &[bool], inyear: bool, first: Day, n: u32) -> u32
     ensures { result ≡ count_in (stays_on_by flags.now inyear) first.number n }
 {
     let mut x = first;
-    let mut left = n;
-    let mut found: u32 = 0;
-    while 0 < left {
-        left -= 1;
-        let here = x;
-        x = rule::days::next_day(here);
-        if super::flags::stays(flags, inyear, here) {
+    let mut found = 0;
+    for _ in 0..n {
+        if super::flags::stays(flags, inyear, x) {
             found += 1;
         }
+        x = rule::days::next_day(x);
     }
     found
 }

@@ -14,10 +14,9 @@ use Rattle.rule.proofs.Bools.{by}
 use Rattle.rule.proofs.Counting.{count-split, count_most, count-place, count_same}
 use Rattle.matcher.specs.Inner.Flags.{Places, named}
 use Rattle.matcher.specs.Inner.Layout.{positions_at, positions_back, row_size}
-use Rattle.months.specs.Inner.Kinds.{Kind, stays_in, chosen_in, picks_in}
-use Rattle.months.specs.Inner.Layout.{kinds_size, kind_size, last_at, ready_at, plain_at, answers_size}
-use Rattle.months.specs.Inner.Week.{Week, Prepared}
-use Rattle.months.specs.Inner.Rows.{answer_at, Wrote, row_of, Kept, KeptAt}
+use Rattle.months.specs.Inner.Kinds.{stays_in, chosen_in, picks_in}
+use Rattle.months.specs.Inner.Layout.{last_at, ready_at, answers_size}
+use Rattle.months.specs.Inner.Rows.{answer_at, Wrote, row_of, Kept}
 
 -- ---- writing
 
@@ -105,79 +104,6 @@ kept-none placed fl =
       ready = λ e. absurd (false≢true (sym (get_or-replicate answers_size ready_at false false (omega arith)) ∙ e));
       row = λ w days kind e. absurd (false≢true (sym (get_or-replicate answers_size (row_of w days + last_at) false false (omega (arith, kind.week, kind.low, kind.high))) ∙ e));
     }
-
--- the week is written after the rows
-pub kept-prepared : (placed : Bool) (fl rows after : List Bool) → Kept placed fl rows → Prepared fl rows after → Kept placed fl after
-kept-prepared placed fl rows after kept p =
-    record {
-      size = p.size ∙ kept.size;
-      ready = λ e. p.week;
-      row = λ w days kind e k h.
-          p.same (row_of w days + k) (omega (arith, kind.week, kind.low, kind.high))
-          ∙ kept.row w days kind (sym (p.same (row_of w days + last_at) (omega (arith, kind.week, kind.low, kind.high))) ∙ e) k h;
-    }
-
-module _ (placed : Bool) (fl : List Bool) (weekday days : ℕ) (kind : Kind weekday days) (rows after : List Bool) (kept : Kept placed fl rows)
-    (week : Week fl rows) (wrote : Wrote (picks_in placed fl weekday days) rows (row_of weekday days) days after) where
-  own : (k : ℕ) → k < days → get_or (set after (row_of weekday days + last_at) true) (row_of weekday days + k) false ≡ picks_in placed fl weekday days k
-  own k h = get_or-set_other after (row_of weekday days + last_at) (row_of weekday days + k) true false (λ same. omega (arith, kind.high)) ∙ wrote.here k h
-
-  -- the other rows are as they were
-  below : (j : ℕ) → j < row_of weekday days → get_or (set after (row_of weekday days + last_at) true) j false ≡ get_or rows j false
-  below j h = get_or-set_other after (row_of weekday days + last_at) j true false (λ same. omega arith) ∙ wrote.low j h
-
-  above : (j : ℕ) → row_of weekday days + kind_size ≤ j → get_or (set after (row_of weekday days + last_at) true) j false ≡ get_or rows j false
-  above j h = get_or-set_other after (row_of weekday days + last_at) j true false (λ same. omega arith) ∙ wrote.high j (omega (arith, kind.high))
-
-  week-stays : Week fl (set after (row_of weekday days + last_at) true)
-  week-stays =
-      record {
-        days = λ k h. above (kinds_size + k) (omega (arith, kind.week, kind.low, kind.high)) ∙ week.days k h;
-        plain = λ e. week.plain (sym (above plain_at (omega (arith, kind.week, kind.low, kind.high))) ∙ e);
-      }
-
-  each : (w n : ℕ) → Kind w n → get_or (set after (row_of weekday days + last_at) true) (row_of w n + last_at) false ≡ true
-      → (k : ℕ) → k < n → get_or (set after (row_of weekday days + last_at) true) (row_of w n + k) false ≡ picks_in placed fl w n k
-  each w n other e k h =
-      by (ltb (row_of w n) (row_of weekday days))
-      (λ b.
-      let less = ltb-true (row_of w n) (row_of weekday days) b in
-      below (row_of w n + k) (omega (arith, other.high))
-      ∙ kept.row w n other (sym (below (row_of w n + last_at) (omega arith)) ∙ e) k h)
-      (λ b.
-      by (ltb (row_of weekday days) (row_of w n))
-      (λ d.
-      let less = ltb-true (row_of weekday days) (row_of w n) d in
-      above (row_of w n + k) (omega arith)
-      ∙ kept.row w n other (sym (above (row_of w n + last_at) (omega arith)) ∙ e) k h)
-      (λ d.
-      let low = ltb-false (row_of w n) (row_of weekday days) b in
-      let high = ltb-false (row_of weekday days) (row_of w n) d in
-      let same_days : days ≡ n = omega (arith, kind.week, kind.low, other.week, other.low) in
-      let same_weekday : weekday ≡ w = omega (arith, kind.week, kind.low, other.week, other.low) in
-      subst (λ (v : ℕ). get_or (set after (row_of weekday days + last_at) true) (row_of v n + k) false ≡ picks_in placed fl v n k) same_weekday
-      (subst (λ (m : ℕ). get_or (set after (row_of weekday days + last_at) true) (row_of weekday m + k) false ≡ picks_in placed fl weekday m k) same_days
-      (own k (omega arith)))))
-
-  pub keeps : KeptAt placed fl weekday days (set after (row_of weekday days + last_at) true) (row_of weekday days)
-  keeps =
-      record {
-        is = refl;
-        kept =
-            record {
-              size = length-set after (row_of weekday days + last_at) true ∙ (wrote.size ∙ kept.size);
-              ready = λ e. week-stays;
-              row = each;
-            };
-        within = omega (arith, kind.week, kind.low, kind.high);
-        row = own;
-      }
-
--- a row that was kept already
-pub kept-already : (placed : Bool) (fl : List Bool) (weekday days : ℕ) → Kind weekday days → (rows : List Bool) → Kept placed fl rows
-    → get_or rows (row_of weekday days + last_at) false ≡ true → KeptAt placed fl weekday days rows (row_of weekday days)
-kept-already placed fl weekday days kind rows kept e =
-    record { is = refl; kept = kept; within = omega (arith, kind.week, kind.low, kind.high); row = kept.row weekday days kind e }
 
 -- ---- the row of a month
 

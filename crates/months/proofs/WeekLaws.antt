@@ -1,20 +1,19 @@
 -- The week written out: a month of a rule that asks for no weekday by its place has its days from it.
 use Rattle.std.specs.Prelude.{if◌then◌else◌}
 use Prim.Native.Nat.{ℕ, ◌+◌, ◌-◌, ◌*◌, ◌/◌, ◌%◌, ◌<◌, ◌≤◌}
-use mathlib.Core.Bool.{Bool, true, false}
+use mathlib.Core.Bool.{Bool, true, false, ◌&&◌, ◌||◌}
 use mathlib.Core.List.{List}
-use mathlib.Core.Path.{◌≡◌, refl, sym, ap, ◌∙◌, subst}
+use mathlib.Core.Path.{◌≡◌, refl, ap, ◌∙◌, subst}
 use native.Mathlib.Omega.{arith}
-use lib.ListN.{length, get_or, set, length-set}
-use lib.Seq.{get_or-set_same, get_or-set_other}
+use lib.ListN.{get_or}
 use Rattle.rule.specs.Lists.{count_in}
 use Rattle.rule.proofs.Bools.{by}
 use Rattle.rule.proofs.Counting.{count-place}
 use Rattle.matcher.specs.Inner.Flags.{named, nth_by}
 use Rattle.matcher.specs.Inner.Layout.{dates_at, dates_back, weekdays_at, nths_at, nths_back, nths_size, positions_at}
 use Rattle.months.specs.Inner.Kinds.{stays_in}
-use Rattle.months.specs.Inner.Layout.{kinds_size, week_size, ready_at, plain_at, answers_size}
-use Rattle.months.specs.Inner.Week.{week_at, NoPlaces, Week, Prepared}
+use Rattle.months.specs.Inner.Layout.{kinds_size}
+use Rattle.months.specs.Inner.Week.{week_at, NoPlaces}
 use Rattle.months.specs.Inner.Rows.{answer_at, Wrote, Writing}
 
 -- ---- no weekday is asked for by its place
@@ -54,6 +53,14 @@ date-is fl days k h =
     let back : dates_back + days - k ≡ dates_back + (days + 1 - (k + 1)) = omega arith in
     rw (on, back)
 
+or-is : (a b : Bool) → (a || b) ≡ (if a then true else b)
+or-is true b = refl
+or-is false b = refl
+
+and-is : (a b : Bool) → (a && b) ≡ (if a then b else false)
+and-is true b = refl
+and-is false b = refl
+
 module _ (fl : List Bool) (weekday days at k : ℕ) (before rows : List Bool) (p : ℕ → Bool) (no-places : NoPlaces fl) (w : Writing fl weekday days before at)
     (wrote : Wrote p before at k rows) (h : k < days) where
   week-here : get_or rows (kinds_size + weekday + k) false ≡ get_or fl (weekdays_at + (weekday + k) % 7) false
@@ -71,36 +78,9 @@ module _ (fl : List Bool) (weekday days at k : ℕ) (before rows : List Bool) (p
       go true = refl
       go false = refl
 
-  pub plain-is : (date b : Bool) → date ≡ (if get_or fl (dates_at + 1 + k) false then true else get_or fl (dates_back + days - k) false)
-      → b ≡ (if date then get_or rows (kinds_size + weekday + k) false else false) → b ≡ stays_in fl weekday days k
+  pub plain-is : ((get_or fl (dates_at + 1 + k) false || get_or fl (dates_back + days - k) false) && get_or rows (kinds_size + weekday + k) false) ≡ stays_in fl weekday days k
   unfolding stays_in
-  plain-is date b is-date is =
-      is
-      ∙ (ap (λ (d : Bool). if d then get_or rows (kinds_size + weekday + k) false else false) (is-date ∙ date-is fl days k h)
+  plain-is =
+      and-is (get_or fl (dates_at + 1 + k) false || get_or fl (dates_back + days - k) false) (get_or rows (kinds_size + weekday + k) false)
+      ∙ (ap (λ (d : Bool). if d then get_or rows (kinds_size + weekday + k) false else false) (or-is (get_or fl (dates_at + 1 + k) false) (get_or fl (dates_back + days - k) false) ∙ date-is fl days k h)
       ∙ ap (λ (d : Bool). if named fl dates_at dates_back (k + 1) days then d else false) (week-here ∙ day-is))
-
--- ---- the week is written
-
-pub prepared-already : (fl rows : List Bool) → Week fl rows → Prepared fl rows rows
-prepared-already fl rows w = record { size = refl; week = w; same = λ j h. refl }
-
-module _ (fl before rows : List Bool) (size : length before ≡ answers_size) (wrote : Wrote (week_at fl) before kinds_size week_size rows) (b : Bool) (none : b ≡ true → NoPlaces fl) where
-  other : (j : ℕ) → (j ≡ plain_at → ⊥) → (j ≡ ready_at → ⊥) → get_or (set (set rows plain_at b) ready_at true) j false ≡ get_or rows j false
-  other j no_plain no-mark = get_or-set_other (set rows plain_at b) ready_at j true false no-mark ∙ get_or-set_other rows plain_at j b false no_plain
-
-  plain-mark : get_or (set (set rows plain_at b) ready_at true) plain_at false ≡ b
-  plain-mark =
-      get_or-set_other (set rows plain_at b) ready_at plain_at true false (λ same. omega arith)
-      ∙ get_or-set_same rows plain_at b false (omega (arith, wrote.size))
-
-  pub prepared : Prepared fl before (set (set rows plain_at b) ready_at true)
-  prepared =
-      record {
-        size = length-set (set rows plain_at b) ready_at true ∙ (length-set rows plain_at b ∙ wrote.size);
-        week =
-            record {
-              days = λ k h. other (kinds_size + k) (λ same. omega arith) (λ same. omega arith) ∙ wrote.here k h;
-              plain = λ e. none (sym plain-mark ∙ e);
-            };
-        same = λ j h. other j (λ same. omega arith) (λ same. omega arith) ∙ wrote.low j h;
-      }

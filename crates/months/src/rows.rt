@@ -14,18 +14,14 @@ use matcher::layout::{DATES, DATES_BACK, POSITIONS, POSITIONS_BACK, WEEKDAYS};
 const FIRST_DATE: usize = DATES + 1;
 
 // Day k, from 0, of a month with that many days and with its first on that weekday.
+#[tactic(auto, unfolding(crate::specs::Inner::Kinds::stays_in))]
 fn stays_in(flags: &[bool], weekday: u32, days: u32, k: u32) -> bool
     requires { Row (length flags.now) × (Kind weekday days × (k < days)) }
     ensures { result ≡ stays_in flags.now weekday days k }
 {
-    if !matcher::flags::is_named(flags, DATES, DATES_BACK, k + 1, days) {
-        return false;
-    }
     let here = (weekday + k) % 7;
-    if flags[WEEKDAYS + here as usize] {
-        return true;
-    }
-    matcher::flags::is_nth(flags, here, k, days)
+    matcher::flags::is_named(flags, DATES, DATES_BACK, k + 1, days)
+        && (flags[WEEKDAYS + here as usize] || matcher::flags::is_nth(flags, here, k, days))
 }
 
 // One day after the other, with the places of the weekdays.
@@ -33,29 +29,9 @@ fn write_each(flags: &[bool], weekday: u32, days: u32, rows: &mut [bool], at: us
     requires { Row (length flags.now) × (Kind weekday days × (at + days ≤ length rows.old)) }
     ensures { Wrote (stays_in flags.now weekday days) rows.old at days rows.new }
 {
-    let mut k = 0;
-    while k < days {
+    for k in 0..days {
         rows[at + k as usize] = stays_in(flags, weekday, days, k);
-        k += 1;
     }
-}
-
-fn either(a: bool, b: bool) -> bool
-    ensures { result ≡ (if a then true else b) }
-{
-    if a {
-        return true;
-    }
-    b
-}
-
-fn both(a: bool, b: bool) -> bool
-    ensures { result ≡ (if a then b else false) }
-{
-    if a {
-        return b;
-    }
-    false
 }
 
 // No branch and no division, so that many days are written at once.
@@ -63,11 +39,9 @@ fn write_plain(flags: &[bool], weekday: usize, days: usize, rows: &mut [bool], a
     requires { NoPlaces flags.now × Writing flags.now weekday days rows.old at }
     ensures { Wrote (stays_in flags.now weekday days) rows.old at days rows.new }
 {
-    let mut k = 0;
-    while k < days {
-        let date = either(flags[FIRST_DATE + k], flags[DATES_BACK + days - k]);
-        rows[at + k] = both(date, rows[KINDS + weekday + k]);
-        k += 1;
+    for k in 0..days {
+        let date = flags[FIRST_DATE + k] | flags[DATES_BACK + days - k];
+        rows[at + k] = date & rows[KINDS + weekday + k];
     }
 }
 
@@ -77,9 +51,9 @@ fn write_days(flags: &[bool], weekday: u32, days: u32, rows: &mut [bool], at: us
 {
     if rows[PLAIN] {
         write_plain(flags, weekday as usize, days as usize, rows, at);
-        return;
+    } else {
+        write_each(flags, weekday, days, rows, at);
     }
-    write_each(flags, weekday, days, rows, at);
 }
 
 // n, and one more where the answer is yes.
@@ -87,21 +61,16 @@ pub fn one_more(n: u32, yes: bool) -> u32
     requires { n < 4294967295 }
     ensures { result ≡ n + (if yes then 1 else 0) }
 {
-    if yes {
-        return n + 1;
-    }
-    n
+    n + u32::from(yes)
 }
 
 pub(crate) fn count_days(rows: &[bool], at: usize, days: u32) -> u32
     requires { (days ≤ 1000) × (at + days ≤ length rows.now) }
     ensures { result ≡ count_in (answer_at rows.now at) 0 days }
 {
-    let mut k = 0;
-    let mut found: u32 = 0;
-    while k < days {
-        found = one_more(found, rows[at + k as usize]);
-        k += 1;
+    let mut found = 0;
+    for &yes in &rows[at..at + days as usize] {
+        found = one_more(found, yes);
     }
     found
 }
@@ -111,10 +80,7 @@ fn is_chosen(flags: &[bool], stays: bool, seen: u32, total: u32) -> bool
     requires { stays ≡ true → Places (length flags.now) positions_at positions_back (seen + 1) total }
     ensures { result ≡ (if stays then named flags.now positions_at positions_back (seen + 1) total else false) }
 {
-    if !stays {
-        return false;
-    }
-    matcher::flags::is_named(flags, POSITIONS, POSITIONS_BACK, seen + 1, total)
+    stays && matcher::flags::is_named(flags, POSITIONS, POSITIONS_BACK, seen + 1, total)
 }
 
 fn choose_days(flags: &[bool], days: u32, rows: &mut [bool], at: usize)
@@ -122,13 +88,11 @@ fn choose_days(flags: &[bool], days: u32, rows: &mut [bool], at: usize)
     ensures { Wrote (chosen_in flags.now (answer_at rows.old at) days) rows.old at days rows.new }
 {
     let total = count_days(rows, at, days);
-    let mut seen: u32 = 0;
-    let mut k = 0;
-    while k < days {
+    let mut seen = 0;
+    for k in 0..days {
         let stays = rows[at + k as usize];
         rows[at + k as usize] = is_chosen(flags, stays, seen, total);
         seen = one_more(seen, stays);
-        k += 1;
     }
 }
 
@@ -146,6 +110,5 @@ pub(crate) fn write_row(
     write_days(flags, weekday, days, rows, at);
     if placed {
         choose_days(flags, days, rows, at);
-        return;
     }
 }

@@ -12,10 +12,8 @@ fn write_week(flags: &[bool], rows: &mut [bool])
     requires { Row (length flags.now) × (length rows.old ≡ answers_size) }
     ensures { Wrote (week_at flags.now) rows.old kinds_size week_size rows.new }
 {
-    let mut k = 0;
-    while k < WEEK {
+    for k in 0..WEEK {
         rows[KINDS + k] = flags[WEEKDAYS + k % 7];
-        k += 1;
     }
 }
 

@@ -4,29 +4,17 @@ use Prim.Native.Nat.{ℕ}
 use mathlib.Core.Bool.{Bool, true, false, not, ◌&&◌}
 use mathlib.Core.List.{List}
 use mathlib.Core.Option.{Option}
-use mathlib.Core.Path.{◌≡◌, refl, sym, ◌∙◌}
+use mathlib.Core.Path.{◌≡◌, refl}
 use native.Mathlib.Omega.{arith}
 use lib.Dec.{ltb}
 use lib.IntN.{ℤ}
 use lib.ListN.{length}
-use mir.Syntax.{w64}
-use mir.Val.{SFits, to_z, of_z}
-use mir.Facts.{to_z-of_z}
 use Rattle.zone.specs.Table.{valid_table}
 use Rattle.keywords.specs.declared.Privacy.{Privacy}
 use Rattle.call_definitions.specs.Window.{valid_window}
 use Rattle.call_definitions.specs.Utc.{ZoneTable}
 use Rattle.call_definitions.specs.Answer.{is_secret, other_zone, answer_for}
 use Rattle.opening.specs.Inner.Refusal.{refusal_for}
-
--- ---- what the two tests said, their numbers passed by their bits
-
-pub table-was : (b : ℤ) (ts ns : List ℤ) → SFits w64 b → (r q : Bool) → r ≡ valid_table (to_z w64 (of_z w64 b)) ts ns → r ≡ q → valid_table b ts ns ≡ q
-table-was b ts ns f r q e p = sym (rw (to_z-of_z f) at e) ∙ p
-
-pub window-was : (from to : ℤ) → SFits w64 from → SFits w64 to → (r q : Bool) → r ≡ valid_window (to_z w64 (of_z w64 from)) (to_z w64 (of_z w64 to)) → r ≡ q
-    → valid_window from to ≡ q
-window-was from to f g r q e p = sym (rw (to_z-of_z f, to_z-of_z g) at e) ∙ p
 
 module _ (zones : ZoneTable) (from to : ℤ) (privacy : Privacy) (zone : Option (List ℕ)) where
   chosen : (a b c : Bool) (n : ℕ) → ◌≡◌ {A = ℕ} (if a then 10 else if b then 11 else if c then 12 else 0) 0

@@ -1,23 +1,16 @@
 -- The lowest of 1 to 9 that applies to a text, with its place: 1 to 4 as JSON come first, then 5 to 9 as an event; and what an opening says of it.
-use Rattle.std.specs.Prelude.{if◌then◌else◌}
+use Rattle.std.specs.Prelude.{if◌then◌else◌, Some, None}
 use Prim.Native.Nat.{ℕ}
 use mathlib.Core.Bool.{Bool, true, false}
 use mathlib.Core.List.{List}
-use mathlib.Core.Path.{◌≡◌, refl, sym, ap, subst}
+use mathlib.Core.Path.{◌≡◌, refl, sym, ap}
 use lib.Dec.{eqb}
 use borrow.Author.Tests.{ne_eqb}
 use Rattle.json_strict.specs.Answer.{answer_of}
-use Rattle.fault.specs.Fault.{is_wrong, first_number, first_place}
-use Rattle.fault.specs.declared.First.{First}
-use Rattle.fault.specs.declared.First.TheVariants.{None, At}
+use Rattle.fault.specs.Fault.{is_wrong, first_number, first_place, First}
 use Rattle.event.specs.Event.{event_first, event_fault, event_place}
-use Rattle.event_text.specs.declared.Head.{Head}
-use Rattle.event_text.specs.Inner.Taken.{Taken}
 use Rattle.call_definitions.specs.Call.{text_fault, Located, locate_text}
 use Rattle.call_definitions.specs.Results.{Locates}
-use Rattle.opening.specs.Inner.Opens.{Opens}
-use Rattle.opening.specs.declared.Opening.{Opening}
-use Rattle.opening.specs.declared.Opening.TheVariants.{Refused, Accepted}
 
 -- 1 to 4, which have no place
 pub answer-first : (s : List ℕ) (j : ℕ) → j ≡ answer_of s → (j ≡ 0 → ⊥) → record { answer = j; place = 0 } ≡ locate_text s
@@ -34,23 +27,16 @@ module _ (s : List ℕ) (z : answer_of s ≡ 0) (f : First) (e : f ≡ event_fir
   unfolding text_fault event_fault
   event-none n k o = rw (z, ← e, ← k) (o, o)
 
-was-located : (s t : List ℕ) (r : Opening) → Opens s t r → (n p : ℕ) → r ≡ Refused n p → record { answer = n; place = p } ≡ locate_text s
-unfolding Opens
-was-located s t r o n p is = (subst (Opens s t) is o).0
-
-pub was-refused : (s t : List ℕ) (r : Opening) → Opens s t r → (n p : ℕ) → r ≡ Refused n p → (n ≡ text_fault s) × (n ≡ 0 → ⊥)
-unfolding Opens locate_text
-was-refused s t r o n p is = (ap (λ (l : Located). l.answer) (was-located s t r o n p is), (subst (Opens s t) is o).1)
-
-pub was-accepted : (s t : List ℕ) (r : Opening) → Opens s t r → (h : Head) → r ≡ Accepted h → (text_fault s ≡ 0) × Taken s t h
-unfolding Opens
-was-accepted s t r o h is = subst (Opens s t) is o
+-- a refusal is the text's fault
+pub refused-fault : (s : List ℕ) (n p : ℕ) → record { answer = n; place = p } ≡ locate_text s → n ≡ text_fault s
+unfolding locate_text
+refused-fault s n p e = ap (λ (l : Located). l.answer) e
 
 -- ---- the call for the place of a fault
 
 no_place_lem : (f : First) → first_number f ≡ 0 → first_place f ≡ 0
 no_place_lem None e = refl
-no_place_lem (At n p) e = rw e (unfold is_wrong in refl)
+no_place_lem (Some f) e = rw e (unfold is_wrong in refl)
 
 -- an accepted text has none
 accepted-place : (s : List ℕ) → text_fault s ≡ 0 → 0 ≡ (locate_text s).place
@@ -61,10 +47,9 @@ accepted-place s = go (eqb (answer_of s) 0)
     go true e = sym (no_place_lem (event_first s) e)
     go false e = refl
 
-pub refused-locates : (s t : List ℕ) (r : Opening) → Opens s t r → (n p : ℕ) → r ≡ Refused n p → Locates (locate_text s) n p
-refused-locates s t r o n p is =
-    let e = was-located s t r o n p is in record { answer_is = ap (λ (l : Located). l.answer) e; place_is = ap (λ (l : Located). l.place) e }
+pub refused-locates : (s : List ℕ) (n p : ℕ) → record { answer = n; place = p } ≡ locate_text s → Locates (locate_text s) n p
+refused-locates s n p e = record { answer_is = ap (λ (l : Located). l.answer) e; place_is = ap (λ (l : Located). l.place) e }
 
-pub accepted-locates : (s t : List ℕ) (r : Opening) → Opens s t r → (h : Head) → r ≡ Accepted h → Locates (locate_text s) 0 0
+pub accepted-locates : (s : List ℕ) → text_fault s ≡ 0 → Locates (locate_text s) 0 0
 unfolding locate_text
-accepted-locates s t r o h is = let e = (was-accepted s t r o h is).0 in record { answer_is = sym e; place_is = accepted-place s e }
+accepted-locates s e = record { answer_is = sym e; place_is = accepted-place s e }

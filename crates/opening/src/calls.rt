@@ -8,51 +8,38 @@ ghost use Rattle.opening.specs.Inner.Refusal.{refusal_for};
 
 use event_text::Head;
 use keywords::Privacy;
-use property::Place;
 use property::strings::word;
 use record::window::valid_window;
 
 pub fn is_secret(privacy: Privacy) -> bool
     ensures { result ≡ is_secret privacy }
 {
-    match privacy {
-        Privacy::Public => false,
-        Privacy::Private => false,
-        Privacy::Secret => true,
-    }
+    matches!(privacy, Privacy::Secret)
 }
 
 pub fn is_public(privacy: Privacy) -> bool
     ensures { result ≡ is_public privacy }
 {
-    match privacy {
-        Privacy::Public => true,
-        Privacy::Private => false,
-        Privacy::Secret => false,
-    }
+    matches!(privacy, Privacy::Public)
 }
 
 // A zone that is absent or null is floating.
-pub fn is_floating(text: &[u8], zone: Place) -> bool
+pub fn is_floating(text: &[u8], zone: Option<usize>) -> bool
     ensures { result ≡ is_floating (name_in text.now zone) }
 {
-    match zone {
-        Place::None => true,
-        Place::At(_) => false,
-    }
+    zone.is_none()
 }
 
 // Is the event's zone set, and another than the table's name?
-fn other_zone(text: &[u8], zone: Place, name: &[u8]) -> bool
+#[tactic(auto, unfolding(call_definitions::specs::Answer::other_zone))]
+fn other_zone(text: &[u8], zone: Option<usize>, name: &[u8]) -> bool
     ensures { result ≡ other_zone (name_in text.now zone) name.now }
 {
-    match zone {
-        Place::None => false,
-        Place::At(at) => !keywords::is(word(text, at), name),
-    }
+    zone.is_some_and(|at| !keywords::is(word(text, at), name))
 }
 
 // A secret event never answers 12: that would tell its zone.
+#[tactic(auto, unfolding(crate::specs::Inner::Refusal::refusal_for))]
 pub fn call_fault(
     text: &[u8],
     head: Head,
@@ -65,18 +52,13 @@ pub fn call_fault(
 ) -> u32
     ensures { result ≡ refusal_for (zones_of name.now initial instants.now offsets.now) from to head.privacy (name_in text.now head.zone) }
 {
-    let privacy = head.privacy;
-    let zone = head.zone;
     if !zone::valid(initial, instants, offsets) {
         return 10;
     }
     if !valid_window(from, to) {
         return 11;
     }
-    if is_secret(privacy) {
-        return 0;
-    }
-    if other_zone(text, zone, name) {
+    if !is_secret(head.privacy) && other_zone(text, head.zone, name) {
         return 12;
     }
     0

@@ -3,7 +3,6 @@ ghost use Rattle.json_ends.specs.Inner.Ends.{Ends};
 ghost use Rattle.call_definitions.specs.Call.{locate_text};
 ghost use Rattle.call_definitions.specs.Results.{Locates};
 
-use crate::Opening;
 use crate::whole::open_text;
 
 // The answer of a text, with a table of ends that says nothing yet.
@@ -12,11 +11,11 @@ fn locate_in(text: &[u8], ends: &mut [u32], place: &mut u64) -> u32
     ensures { Locates (locate_text text.now) result place.new }
 {
     match open_text(text, ends) {
-        Opening::Refused(answer, at) => {
-            *place = at as u64;
-            answer
+        Err(refusal) => {
+            *place = refusal.place as u64;
+            refusal.answer
         }
-        Opening::Accepted(_) => {
+        Ok(_) => {
             *place = 0;
             0
         }

@@ -1,12 +1,15 @@
 -- The overrides as lists: one turn of the loop that fills the slices, its end, and what stands at a place of the lists.
-use Rattle.std.specs.Prelude.{if◌then◌else◌}
-use Prim.Native.Nat.{ℕ, zero, suc, ◌+◌, ◌-◌, ◌<◌, ◌≤◌}
+use Rattle.std.specs.Prelude as std
+use Rattle.std.specs.Prelude.{if◌then◌else◌, Some, None}
+use Prim.Native.Nat.{ℕ, zero, suc, ◌+◌, ◌-◌, ◌<◌, ◌≤◌, min}
 use mathlib.Core.Bool.{Bool, true, false}
 use mathlib.Core.List.{List, [], ◌∷◌, map}
 use mathlib.Core.Option.{Option, none, some}
 use mathlib.Core.Path.{◌≡◌, refl, sym, ap, ◌∙◌, subst}
 use native.Mathlib.Numerals.{add-one}
 use native.Mathlib.Omega.{arith}
+use native.Mathlib.Decide.{dec_lt}
+use Rattle.std.proofs.Math.Nat.{sub-zero}
 use lib.Dec.{eqb}
 use lib.ListN.{length, get_or, set, take, length-set, length-map}
 use lib.Seq.{sets, take-nil}
@@ -14,9 +17,6 @@ use Rattle.json_text.specs.Bytes.{byte}
 use Rattle.json_walk.specs.Strings.{raw_at}
 use Rattle.json_walk.specs.Walk.{first_member_at, next_member_at, members_from, members_of}
 use Rattle.json_walk.specs.declared.Member.{Member}
-use Rattle.json_walk.specs.declared.MemberStep.{MemberStep}
-use Rattle.json_walk.specs.declared.MemberStep.TheVariants.{One, End}
-use Rattle.json_walk.proofs.Walks.{members-end, members-none}
 use Rattle.json_tree.specs.Tree.{Fields, fields_of, tree_at, place_of}
 use Rattle.event.specs.Types.{Details, Override}
 use Rattle.event.specs.Values.{object}
@@ -28,7 +28,7 @@ use Rattle.override_text.specs.Inner.Entries.{entries_in}
 use Rattle.override_text.specs.Inner.Lists.{Filled, places_of, places_at}
 use Rattle.override_text.specs.Inner.Patched.{patch_at}
 use Rattle.override_text.proofs.EntryLaws.{Named, named-first, named-next, entries-many, overrides-yes, overrides-no}
-use Rattle.override_text.proofs.WalkLaws.{members-next}
+use Rattle.override_text.proofs.WalkLaws.{members-last, members-next, members-over}
 
 -- ---- a list that is written element by element: what is left to be stored makes of the slice what the whole would have made of it at entry
 
@@ -127,26 +127,26 @@ module _ (l : ℕ) (own : Details) (s : List ℕ) where
 -- ---- the loop that fills the slices
 
 module _ (s : List ℕ) (at : ℕ) (ids₀ : List ℕ) (gone₀ : List Bool) (places₀ : List ℕ) where
-  pub record Filling (ids : List ℕ) (gone : List Bool) (places : List ℕ) (step : MemberStep) (n k : ℕ) : Type 0 where
+  pub record Filling (ids : List ℕ) (gone : List Bool) (places : List ℕ) (step : std.Option Member) (k : ℕ) : Type 0 where
     pub low : k ≤ 256
     pub named : Named s step
     pub ids-long : length ids ≡ length ids₀
     pub gone_long : length gone ≡ length gone₀
     pub places-long : length places ≡ length places₀
-    pub count : Counted (members_of s at) (members_from n s step) k
-    pub ids-kept : Kept (id_of s) (members_of s at) (members_from n s step) k ids ids₀
-    pub gone-kept : (l : ℕ) (own : Details) → Kept (gone_of l own s) (members_of s at) (members_from n s step) k gone gone₀
-    pub places-kept : Kept (λ (m : Member). m.value) (members_of s at) (members_from n s step) k places places₀
+    pub count : Counted (members_of s at) (members_from (length s - k) s step) k
+    pub ids-kept : Kept (id_of s) (members_of s at) (members_from (length s - k) s step) k ids ids₀
+    pub gone-kept : (l : ℕ) (own : Details) → Kept (gone_of l own s) (members_of s at) (members_from (length s - k) s step) k gone gone₀
+    pub places-kept : Kept (λ (m : Member). m.value) (members_of s at) (members_from (length s - k) s step) k places places₀
 
-  pub filling-start : (step : MemberStep) → step ≡ first_member_at s at → Filling ids₀ gone₀ places₀ step (length s) 0
+  pub filling-start : (step : std.Option Member) → step ≡ first_member_at s at → Filling ids₀ gone₀ places₀ step 0
   unfolding members_of
   filling-start step e =
-      let all : members_from (length s) s step ≡ members_from (length s) s (first_member_at s at) = ap (members_from (length s) s) e in
-      let c : length (take 256 (members_from (length s) s step)) ≡ length (take 256 (members_from (length s) s (first_member_at s at))) =
+      let all : members_from (length s - 0) s step ≡ members_from (length s) s (first_member_at s at) = rw (sub-zero (length s), e) in
+      let c : length (take 256 (members_from (length s - 0) s step)) ≡ length (take 256 (members_from (length s) s (first_member_at s at))) =
       ap (λ (ms : List Member). length (take 256 ms)) all in
       record {
         low = omega arith;
-        named = subst (λ (x : MemberStep). Named s x) (sym e) (named-first s at);
+        named = subst (λ (x : std.Option Member). Named s x) (sym e) (named-first s at);
         ids-long = refl;
         gone_long = refl;
         places-long = refl;
@@ -156,31 +156,30 @@ module _ (s : List ℕ) (at : ℕ) (ids₀ : List ℕ) (gone₀ : List Bool) (pl
         places-kept = ap (λ (ms : List Member). sets places₀ 0 (take 256 (places_of ms))) all;
       }
 
-  module _ (ids : List ℕ) (gone : List Bool) (places : List ℕ) (step : MemberStep) (n k : ℕ) (w : Filling ids gone places step n k) where
-    pub filling-next : 0 < n → (k ≡ 256 → ⊥) → (m : Member) → step ≡ One m → (id : Reading ℕ) → id ≡ date_time (word_at s m.name)
+  module _ (ids : List ℕ) (gone : List Bool) (places : List ℕ) (step : std.Option Member) (k : ℕ) (w : Filling ids gone places step k) where
+    pub filling-next : k < length s → k < 256 → (m : Member) → step ≡ Some m → (id : Reading ℕ) → id ≡ date_time (word_at s m.name)
         → (g : Bool) → ((l : ℕ) (own : Details) (x : ℕ) → g ≡ (patch_at l own x s m.value).value.excluded)
-        → (next : MemberStep) → next ≡ next_member_at s m.after
-        → Filling (set ids k id.value) (set gone k g) (set places k m.value) next (n - 1) (k + 1)
+        → (next : std.Option Member) → next ≡ next_member_at s m.after
+        → Filling (set ids k id.value) (set gone k g) (set places k m.value) next (k + 1)
     unfolding override_of
-    filling-next h full m e id i g j next p =
-        let below : k < 256 = omega (arith, w.low, full) in
-        let same : raw_at s m.name m.stop ≡ word_at s m.name = subst (λ (x : MemberStep). Named s x) e w.named in
-        let one : members_from n s step ≡ m ∷ members_from (n - 1) s next = members-next s n h step m e next p in
+    filling-next h below m e id i g j next p =
+        let same : raw_at s m.name m.stop ≡ word_at s m.name = subst (λ (x : std.Option Member). Named s x) e w.named in
+        let one : members_from (length s - k) s step ≡ m ∷ members_from (length s - (k + 1)) s next = members-next s k h step m e next p in
         record {
           low = omega (arith, below);
-          named = subst (λ (x : MemberStep). Named s x) (sym p) (named-next s m.after);
+          named = subst (λ (x : std.Option Member). Named s x) (sym p) (named-next s m.after);
           ids-long = length-set ids k id.value ∙ w.ids-long;
           gone_long = length-set gone k g ∙ w.gone_long;
           places-long = length-set places k m.value ∙ w.places-long;
-          count = count_next (members_of s at) k (members_from n s step) w.count below m (members_from (n - 1) s next) one;
+          count = count_next (members_of s at) k (members_from (length s - k) s step) w.count below m (members_from (length s - (k + 1)) s next) one;
           ids-kept =
-              kept_next (id_of s) (members_of s at) k ids ids₀ below (members_from n s step) w.ids-kept m (members_from (n - 1) s next) one id.value
+              kept_next (id_of s) (members_of s at) k ids ids₀ below (members_from (length s - k) s step) w.ids-kept m (members_from (length s - (k + 1)) s next) one id.value
               (ap (λ (r : Reading ℕ). r.value) (i ∙ ap date_time (sym same)));
           gone-kept =
-              λ l own. kept_next (gone_of l own s) (members_of s at) k gone gone₀ below (members_from n s step) (w.gone-kept l own) m (members_from (n - 1) s next) one g
+              λ l own. kept_next (gone_of l own s) (members_of s at) k gone gone₀ below (members_from (length s - k) s step) (w.gone-kept l own) m (members_from (length s - (k + 1)) s next) one g
               (j l own (id_of s m));
           places-kept =
-              kept_next (λ (x : Member). x.value) (members_of s at) k places places₀ below (members_from n s step) w.places-kept m (members_from (n - 1) s next) one m.value refl;
+              kept_next (λ (x : Member). x.value) (members_of s at) k places places₀ below (members_from (length s - k) s step) w.places-kept m (members_from (length s - (k + 1)) s next) one m.value refl;
         }
 
     filled : (l : ℕ) (own : Details) → k ≡ length (take 256 (members_of s at))
@@ -196,29 +195,31 @@ module _ (s : List ℕ) (at : ℕ) (ids₀ : List ℕ) (gone₀ : List Bool) (pl
           places = d;
         }
 
-    ended : members_from n s step ≡ [] → (l : ℕ) (own : Details)
+    ended : members_from (length s - k) s step ≡ [] → (l : ℕ) (own : Details)
         → Filled (entries_in l own s (members_of s at)).value (places_of (members_of s at)) ids₀ ids gone₀ gone places₀ places k
     ended e l own =
-        filled l own (count-end (members_of s at) k (members_from n s step) w.count e)
-        (kept-end (id_of s) (members_of s at) k ids ids₀ (members_from n s step) w.ids-kept e)
-        (kept-end (gone_of l own s) (members_of s at) k gone gone₀ (members_from n s step) (w.gone-kept l own) e)
-        (kept-end (λ (x : Member). x.value) (members_of s at) k places places₀ (members_from n s step) w.places-kept e)
+        filled l own (count-end (members_of s at) k (members_from (length s - k) s step) w.count e)
+        (kept-end (id_of s) (members_of s at) k ids ids₀ (members_from (length s - k) s step) w.ids-kept e)
+        (kept-end (gone_of l own s) (members_of s at) k gone gone₀ (members_from (length s - k) s step) (w.gone-kept l own) e)
+        (kept-end (λ (x : Member). x.value) (members_of s at) k places places₀ (members_from (length s - k) s step) w.places-kept e)
 
-    pub filled-end : step ≡ End → (l : ℕ) (own : Details)
+    pub filled-end : step ≡ None → (l : ℕ) (own : Details)
         → Filled (entries_in l own s (members_of s at)).value (places_of (members_of s at)) ids₀ ids gone₀ gone places₀ places k
-    filled-end e = ended (ap (members_from n s) e ∙ members-end n s)
+    filled-end e = ended (members-last s k step e)
 
-    pub filled-out : n ≤ 0 → (l : ℕ) (own : Details)
-        → Filled (entries_in l own s (members_of s at)).value (places_of (members_of s at)) ids₀ ids gone₀ gone places₀ places k
-    filled-out h = ended (members-none n h s step)
-
-    pub filled-full : k ≡ 256 → (l : ℕ) (own : Details)
-        → Filled (entries_in l own s (members_of s at)).value (places_of (members_of s at)) ids₀ ids gone₀ gone places₀ places k
-    filled-full e l own =
-        filled l own (count-full (members_of s at) k (members_from n s step) w.count e)
-        (kept_full (id_of s) (members_of s at) k ids ids₀ (members_from n s step) w.ids-kept e)
-        (kept_full (gone_of l own s) (members_of s at) k gone gone₀ (members_from n s step) (w.gone-kept l own) e)
-        (kept_full (λ (x : Member). x.value) (members_of s at) k places places₀ (members_from n s step) w.places-kept e)
+    -- All bytes or 256 members were gone through.
+    pub filled-out : (most : ℕ) → most ≡ min (length s) 256 → k ≤ most → most ≤ k → (l : ℕ) (own : Details)
+        → Filled (entries_in l own s (members_of s at)).value (places_of (members_of s at)) ids₀ ids gone₀ gone places₀ places most
+    filled-out most p i h l own = let same : most ≡ k = omega arith in rw same (go (dec_lt k 256))
+      where
+        go : Dec (k < 256) → Filled (entries_in l own s (members_of s at)).value (places_of (members_of s at)) ids₀ ids gone₀ gone places₀ places k
+        go (yes few) = ended (members-over s k (omega arith) step) l own
+        go (no many) =
+            let e : k ≡ 256 = omega (arith, w.low) in
+            filled l own (count-full (members_of s at) k (members_from (length s - k) s step) w.count e)
+            (kept_full (id_of s) (members_of s at) k ids ids₀ (members_from (length s - k) s step) w.ids-kept e)
+            (kept_full (gone_of l own s) (members_of s at) k gone gone₀ (members_from (length s - k) s step) (w.gone-kept l own) e)
+            (kept_full (λ (x : Member). x.value) (members_of s at) k places places₀ (members_from (length s - k) s step) w.places-kept e)
 
 -- ---- the value as a whole
 

@@ -1,21 +1,26 @@
 -- A patched property by its member.
-use Rattle.std.specs.Prelude.{if◌then◌else◌}
+use Rattle.std.specs.Prelude.{if◌then◌else◌, Some, None}
 use Prim.Native.Nat.{ℕ, zero, suc}
 use mathlib.Core.Bool.{Bool, true, false}
 use mathlib.Core.List.{List}
 use mathlib.Core.Option.{Option, none, some}
-use mathlib.Core.Path.{◌≡◌, sym, ap, ◌∙◌}
+use mathlib.Core.Path.{◌≡◌, refl, sym, ap, ◌∙◌}
 use lib.Dec.{eqb}
 use Rattle.json_text.specs.Bytes.{byte}
 use Rattle.json_tree.specs.Tree.{Json, Fields, place_of, tree_at, tree_by, scalar_tree}
 use Rattle.json_tree.proofs.Trees.{choose, always, place-tree, object-tree}
 use Rattle.event.specs.Types.{Details}
-use Rattle.event.specs.Values.{is_null, object}
+use Rattle.event.specs.Values.{is_null, member, object}
 use Rattle.event.specs.Reading.{Reading, right, Judged, faulty, inside}
 use Rattle.event.specs.Properties.{read_start}
 use Rattle.event.specs.Overrides.{patched, patched_start, patch_in}
 use Rattle.property.specs.Inner.From.{fields_in}
-use Rattle.override_text.specs.Inner.Patched.{patch_at}
+use Rattle.json_tree.specs.Inner.Members.{find_in}
+use Rattle.json_walk.specs.Walk.{members_of}
+use Rattle.property.proofs.RowLaws.{here, missing}
+use Rattle.property.specs.Inner.Rows.{placed}
+use Rattle.property.specs.Inner.Place.{Place}
+use Rattle.override_text.specs.Inner.Patched.{Chosen, patch_at}
 
 module _ (id : ℕ) (o : Option Json) where
   pub start-own : o ≡ none → right id ≡ patched_start id o
@@ -39,6 +44,23 @@ module _ {A : Type 0} (own default : A) (f : Json → Reading A) (o : Option Jso
     pub patched-read : b ≡ false → f v ≡ patched own default f o
     unfolding patched
     patched-read t = sym (ap (patched own default f) e ∙ ap (λ (c : Bool). if c then right default else f v) (sym p ∙ t))
+
+-- A property as the code chooses it is the patched one: its readings are those of what it was chosen from.
+module _ {T B : Type 0} (s name : List ℕ) (at l : ℕ) (own default r : T) (Reads : ℕ → T → Type 0)
+    (mean : T → Reading B) (f : Json → Reading B) (a b : B) (p : mean own ≡ right a) (q : mean default ≡ right b)
+    (reads : (i : ℕ) (x : T) → Reads i x → mean x ≡ f (tree_at l s i)) where
+  pub chosen : Chosen l s (placed (find_in s name (members_of s at))) own default Reads r
+      → mean r ≡ patched a b f (member name (fields_in l s at))
+  chosen = go (placed (find_in s name (members_of s at))) refl
+    where
+      go : (x : Place) → x ≡ placed (find_in s name (members_of s at)) → Chosen l s x own default Reads r
+          → mean r ≡ patched a b f (member name (fields_in l s at))
+      go None e w = ap mean w ∙ p ∙ patched-own a b f _ (missing s name at _ e refl l)
+      go (Some i) e w = by-null (is_null (tree_at l s i)) refl
+        where
+          by-null : (c : Bool) → c ≡ is_null (tree_at l s i) → mean r ≡ patched a b f (member name (fields_in l s at))
+          by-null true n = ap mean (w.0 (sym n)) ∙ q ∙ patched-null a b f _ (tree_at l s i) (here s name at _ e i refl l) true n refl
+          by-null false n = reads i r (w.1 (sym n)) ∙ patched-read a b f _ (tree_at l s i) (here s name at _ e i refl l) false n refl
 
 -- ---- is it an object?
 

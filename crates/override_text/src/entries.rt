@@ -15,14 +15,14 @@ use crate::judged::patch_fault;
 use crate::readings::when;
 use crate::{Own, When};
 use date_time::local::local;
-use fault::{First, fault_at, lower};
+use fault::{Fault, fault_at, lower};
 use json_ends::objects::next_member;
 use json_text::bytes::byte;
-use json_walk::MemberStep;
 use property::rows::first;
 use property::strings::word;
 
 // The date-time that an override is named by.
+#[tactic(auto, unfolding(event::specs::Properties::date_time))]
 pub(crate) fn date(text: &[u8], name: usize) -> When
     ensures { when_in result ≡ date_time (word_at text.now name) }
 {
@@ -30,7 +30,7 @@ pub(crate) fn date(text: &[u8], name: usize) -> When
 }
 
 // The fault of one override that decides, by the places of its name and its value.
-fn entry_fault(text: &[u8], ends: &[u32], name: usize, value: usize, own: Own) -> First
+fn entry_fault(text: &[u8], ends: &[u32], name: usize, value: usize, own: Own) -> Option<Fault>
     requires { Ends text.now ends.now }
     ensures { (l : ℕ) → result ≡ fault_first (override_of (details_in text.now own) name (word_at text.now name) (tree_at (suc l) text.now value)).faults }
 {
@@ -40,44 +40,40 @@ fn entry_fault(text: &[u8], ends: &[u32], name: usize, value: usize, own: Own) -
 }
 
 // More than 256 answer 9 at their object, where no other fault decides.
-fn limited(fault: First, at: usize, count: usize) -> First
+#[tactic(auto, unfolding(fault::specs::Fault::first, fault::specs::Fault::lower))]
+fn limited(fault: Option<Fault>, at: usize, count: usize) -> Option<Fault>
     ensures { result ≡ fault_lower fault (fault_first (if ltb 256 count then faults_at 9 at else [])) }
 {
     if 256 < count {
-        return lower(fault, First::At(9, at));
+        return lower(fault, fault_at(9, at));
     }
     fault
 }
 
-// Of the members of the object at a place, the fault that decides. All are read, also more than there may be. n falls with each member, so
-// text.len() - n of them have been read.
-fn faults(text: &[u8], ends: &[u32], at: usize, own: Own) -> First
+// Of the members of the object at a place, the fault that decides. All are read, also more than there may be. A text has fewer members than bytes.
+fn faults(text: &[u8], ends: &[u32], at: usize, own: Own) -> Option<Fault>
     requires { Ends text.now ends.now }
     ensures { (l : ℕ) → result ≡ fault_first (reading_limited 256 at (entries_in l (details_in text.now own) text.now (members_of text.now at))).faults }
 {
-    let mut found = First::None;
+    let mut found = None;
     let mut next = first(text, ends, at);
-    let mut n = text.len();
-    while 0 < n {
-        match next {
-            MemberStep::One(m) => {
-                found = lower(found, entry_fault(text, ends, m.name, m.value, own));
-                next = next_member(text, ends, m.after);
-            }
-            MemberStep::End => return limited(found, at, text.len() - n),
-        }
-        n -= 1;
+    for count in 0..text.len() {
+        let Some(m) = next else {
+            return limited(found, at, count);
+        };
+        found = lower(found, entry_fault(text, ends, m.name, m.value, own));
+        next = next_member(text, ends, m.after);
     }
     limited(found, at, text.len())
 }
 
 // Of the overrides at a place, the fault that decides. A value that is no object answers 20.
-pub fn overrides_fault(text: &[u8], ends: &[u32], at: usize, own: Own) -> First
+pub fn overrides_fault(text: &[u8], ends: &[u32], at: usize, own: Own) -> Option<Fault>
     requires { Ends text.now ends.now }
     ensures { (l : ℕ) → result ≡ fault_first (read_overrides (details_in text.now own) (tree_at (suc (suc l)) text.now at)).faults }
 {
     if byte(text, at) == 0x7B {
         return faults(text, ends, at, own);
     }
-    First::At(20, at)
+    fault_at(20, at)
 }

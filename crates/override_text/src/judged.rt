@@ -13,38 +13,34 @@ ghost use Rattle.override_text.specs.Inner.Patched.{patch_at};
 use crate::Own;
 use crate::names::{alone, names_fault};
 use crate::patched::{busy, flag, length, passage, start};
-use fault::{First, lower};
+use fault::{Fault, fault_at, lower};
 use json_text::bytes::byte;
 use property::rows::{fill, join_in};
 use property::vocabulary::{ALL_DAY, DESCRIPTION, DURATION, EXCLUDED, START, STATUS, TITLE};
 
 // `excluded` true stands beside no other member of the object at a place. Only then the members are looked at.
-fn excluded_fault(text: &[u8], ends: &[u32], at: usize, excluded: bool) -> First
+#[tactic(auto, unfolding(fault::specs::Fault::first))]
+fn excluded_fault(text: &[u8], ends: &[u32], at: usize, excluded: bool) -> Option<Fault>
     requires { Ends text.now ends.now }
     ensures { result ≡ fault_first (if excluded && not (single (members_of text.now at)) then faults_at 7 at else []) }
 {
-    if excluded {
-        if alone(text, ends, at) {
-            return First::None;
-        }
-        return First::At(7, at);
+    if excluded && !alone(text, ends, at) {
+        return fault_at(7, at);
     }
-    First::None
+    None
 }
 
 // Of the patch object at a place, with the row of its members.
-fn fault_by(text: &[u8], ends: &[u32], at: usize, row: &[usize], own: Own, id: u64) -> First
+fn fault_by(text: &[u8], ends: &[u32], at: usize, row: &[usize], own: Own, id: u64) -> Option<Fault>
     requires { Ends text.now ends.now × RowTo 10 text.now at row.now }
     ensures { (l : ℕ) → result ≡ fault_first (patch_in (details_in text.now own) id at (fields_in l text.now at)).faults }
 {
-    let shown = own.title;
-    let told = own.description;
     let when = start(text, at, row, id);
     let lasting = length(text, at, row, own.days, own.seconds);
     let status = busy(text, at, row, own.busy);
     let allday = flag(text, at, row, ALL_DAY, own.allday);
-    let title = passage(text, at, row, TITLE, shown);
-    let description = passage(text, at, row, DESCRIPTION, told);
+    let title = passage(text, at, row, TITLE, own.title);
+    let description = passage(text, at, row, DESCRIPTION, own.description);
     let excluded = flag(text, at, row, EXCLUDED, false);
     let rest = lower(
         excluded_fault(text, ends, at, excluded.value),
@@ -59,7 +55,7 @@ fn fault_by(text: &[u8], ends: &[u32], at: usize, row: &[usize], own: Own, id: u
     join_in(text, at, row, START, when.fault, second)
 }
 
-fn object_fault(text: &[u8], ends: &[u32], at: usize, own: Own, id: u64) -> First
+fn object_fault(text: &[u8], ends: &[u32], at: usize, own: Own, id: u64) -> Option<Fault>
     requires { Ends text.now ends.now }
     ensures { (l : ℕ) → result ≡ fault_first (patch_in (details_in text.now own) id at (fields_in l text.now at)).faults }
 {
@@ -69,12 +65,12 @@ fn object_fault(text: &[u8], ends: &[u32], at: usize, own: Own, id: u64) -> Firs
 }
 
 // A value that is no object answers 20.
-pub(crate) fn patch_fault(text: &[u8], ends: &[u32], at: usize, own: Own, id: u64) -> First
+pub(crate) fn patch_fault(text: &[u8], ends: &[u32], at: usize, own: Own, id: u64) -> Option<Fault>
     requires { Ends text.now ends.now }
     ensures { (l : ℕ) → result ≡ fault_first (patch_at l (details_in text.now own) id text.now at).faults }
 {
     if byte(text, at) == 0x7B {
         return object_fault(text, ends, at, own, id);
     }
-    First::At(20, at)
+    fault_at(20, at)
 }

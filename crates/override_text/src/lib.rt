@@ -8,7 +8,7 @@ pub mod lists;
 mod names;
 mod patched;
 pub mod patches;
-mod readings;
+pub mod readings;
 
 // The event's own details, which a patch changes. Date-times are seconds from 1600-01-01T00:00:00; a text is the place of its opening quote.
 #[derive(Clone, Copy)]
@@ -18,8 +18,8 @@ pub struct Own {
     pub seconds: u64,
     pub busy: bool,
     pub allday: bool,
-    pub title: property::Place,
-    pub description: property::Place,
+    pub title: Option<usize>,
+    pub description: Option<usize>,
 }
 
 // An occurrence after its patch.
@@ -31,8 +31,8 @@ pub struct Patch {
     pub seconds: u64,
     pub busy: bool,
     pub allday: bool,
-    pub title: property::Place,
-    pub description: property::Place,
+    pub title: Option<usize>,
+    pub description: Option<usize>,
 }
 
 // Single properties, each with its fault: a date-time, a length, a mark, a text.
@@ -57,6 +57,6 @@ pub struct Mark {
 
 #[derive(Clone, Copy)]
 pub struct Shown {
-    pub place: property::Place,
+    pub place: Option<usize>,
     pub fault: u32,
 }

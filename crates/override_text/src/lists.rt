@@ -13,7 +13,6 @@ use crate::entries::date;
 use crate::patched::flag;
 use json_ends::objects::next_member;
 use json_text::bytes::byte;
-use json_walk::MemberStep;
 use property::rows::first;
 use property::vocabulary::EXCLUDED;
 
@@ -44,26 +43,17 @@ fn fill(
     ensures { (l : ℕ) (own : Details) → Filled (entries_in l own text.now (members_of text.now at)).value (places_of (members_of text.now at)) ids.old ids.new gone.old gone.new places.old places.new result }
 {
     let mut next = first(text, ends, at);
-    let mut n = text.len();
-    let mut k = 0;
-    while 0 < n {
-        if k == 256 {
+    let most = text.len().min(256);
+    for k in 0..most {
+        let Some(m) = next else {
             return k;
-        }
-        match next {
-            MemberStep::One(m) => {
-                let id = date(text, m.name);
-                ids[k] = id.value;
-                gone[k] = is_excluded(text, ends, m.value);
-                places[k] = m.value;
-                next = next_member(text, ends, m.after);
-            }
-            MemberStep::End => return k,
-        }
-        k += 1;
-        n -= 1;
+        };
+        ids[k] = date(text, m.name).value;
+        gone[k] = is_excluded(text, ends, m.value);
+        places[k] = m.value;
+        next = next_member(text, ends, m.after);
     }
-    k
+    most
 }
 
 // The first 256 overrides at a place: more are not accepted. What is after them in the slices keeps its value. The override at k is

@@ -18,17 +18,13 @@ fn patch_by(text: &[u8], at: usize, row: &[usize], own: Own, id: u64) -> Patch
     requires { RowTo 10 text.now at row.now }
     ensures { (l : ℕ) → override_in text.now id result ≡ (patch_in (details_in text.now own) id at (fields_in l text.now at)).value }
 {
-    let shown = own.title;
-    let told = own.description;
     let when = start(text, at, row, id);
     let lasting = length(text, at, row, own.days, own.seconds);
     let status = busy(text, at, row, own.busy);
     let allday = flag(text, at, row, ALL_DAY, own.allday);
-    let title = passage(text, at, row, TITLE, shown);
-    let description = passage(text, at, row, DESCRIPTION, told);
+    let title = passage(text, at, row, TITLE, own.title);
+    let description = passage(text, at, row, DESCRIPTION, own.description);
     let excluded = flag(text, at, row, EXCLUDED, false);
-    let named = title.place;
-    let described = description.place;
     Patch {
         excluded: excluded.value,
         start: when.value,
@@ -36,8 +32,8 @@ fn patch_by(text: &[u8], at: usize, row: &[usize], own: Own, id: u64) -> Patch
         seconds: lasting.seconds,
         busy: status.value,
         allday: allday.value,
-        title: named,
-        description: described,
+        title: title.place,
+        description: description.place,
     }
 }
 
@@ -59,8 +55,6 @@ pub fn patch(text: &[u8], ends: &[u32], at: usize, own: Own, id: u64) -> Patch
     if byte(text, at) == 0x7B {
         return patch_in(text, ends, at, own, id);
     }
-    let title = own.title;
-    let description = own.description;
     Patch {
         excluded: false,
         start: own.start,
@@ -68,7 +62,7 @@ pub fn patch(text: &[u8], ends: &[u32], at: usize, own: Own, id: u64) -> Patch
         seconds: own.seconds,
         busy: own.busy,
         allday: own.allday,
-        title,
-        description,
+        title: own.title,
+        description: own.description,
     }
 }

@@ -8,9 +8,9 @@ use crate::{Lasting, Mark, Shown, When};
 use date_time::DateTime;
 use duration::Span;
 use keywords::FreeBusy;
-use property::{Flag, Passage, Place};
+use property::{Flag, Passage};
 
-pub(crate) fn when(d: DateTime) -> When
+pub fn when(d: DateTime) -> When
     ensures { when_in result ≡ from_local d }
 {
     match d {
@@ -19,7 +19,7 @@ pub(crate) fn when(d: DateTime) -> When
     }
 }
 
-pub(crate) fn lasting(d: Span) -> Lasting
+pub fn lasting(d: Span) -> Lasting
     ensures { lasting_in result ≡ from_span d }
 {
     match d {
@@ -36,7 +36,7 @@ pub(crate) fn lasting(d: Span) -> Lasting
     }
 }
 
-pub(crate) fn status(b: FreeBusy) -> Mark
+pub fn status(b: FreeBusy) -> Mark
     ensures { mark_in result ≡ from_status b }
 {
     match b {
@@ -55,7 +55,7 @@ pub(crate) fn status(b: FreeBusy) -> Mark
     }
 }
 
-pub(crate) fn mark(f: Flag) -> Mark
+pub fn mark(f: Flag) -> Mark
     ensures { mark_in result ≡ from_flag f }
 {
     match f {
@@ -68,16 +68,16 @@ pub(crate) fn mark(f: Flag) -> Mark
 }
 
 // The text is there for the contract: a place means the text that stands there.
-pub(crate) fn shown(text: &[u8], p: Passage) -> Shown
+pub fn shown(text: &[u8], p: Passage) -> Shown
     ensures { shown_in text.now result ≡ from_passage text.now p }
 {
     match p {
         Passage::At(i) => Shown {
-            place: Place::At(i),
+            place: Some(i),
             fault: 0,
         },
         Passage::Fault(n) => Shown {
-            place: Place::None,
+            place: None,
             fault: n,
         },
     }

@@ -19,10 +19,8 @@ use Rattle.digits.specs.Fraction.{legal_fraction}
 use Rattle.date_time.specs.Local.{is_local, fraction_fault, seconds_at, local_of}
 use Rattle.date_time.specs.Parts.{date_at, hour_at, minute_at, second_at, is_time, second_of_day}
 use Rattle.date_time.specs.Picture.{follows, picture}
-use Rattle.date_time.specs.declared.DateTime.{DateTime}
 use Rattle.date_time.specs.declared.DateTime.TheVariants as local
 use Rattle.duration.specs.Length.{days_of, seconds_of, point_at, limit, whole_of, fraction_of, length_of}
-use Rattle.duration.specs.declared.Span.{Span}
 use Rattle.duration.specs.declared.Span.TheVariants as span
 use Rattle.duration_grammar.specs.Grammar.{is_duration}
 use Rattle.event.specs.Properties.{from_local, from_span, no_length, date_time, read_start, read_until, read_length}

@@ -4,7 +4,7 @@ use Rattle.std.specs.Prelude.{if◌then◌else◌}
 use Prim.Native.Nat.{ℕ, zero, suc, ◌+◌}
 use mathlib.Core.Bool.{Bool, true, false}
 use mathlib.Core.List.{List}
-use mathlib.Core.Option.{Option, none, some}
+use mathlib.Core.Option.{none, some}
 use mathlib.Core.Path.{◌≡◌, refl}
 use Rattle.json_walk.specs.Walk.{members_of, elements_of}
 use Rattle.json_tree.proofs.Trees.{choose}
@@ -13,7 +13,6 @@ use Rattle.json_tree.specs.Tree.{Json, Fields, Items, no_field, no_item, null_at
 use Rattle.json_tree.specs.Inner.Kinds.{kind_at}
 use Rattle.json_tree.specs.declared.Kind.{Kind}
 use Rattle.json_tree.specs.declared.Kind.TheVariants as kind
-use Rattle.event.specs.Types.{Text}
 use Rattle.event.specs.Values.{is_null, string}
 use Rattle.property.specs.Inner.Words.{word_at}
 

@@ -1,4 +1,5 @@
 pub mod From
+pub mod Place
 pub mod Rows
 pub mod Vocabulary
 pub mod Words

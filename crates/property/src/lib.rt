@@ -41,10 +41,3 @@ pub enum Passage {
     At(usize),
     Fault(u32),
 }
-
-// The place of a value that may be absent; of a string it is that of the opening quote.
-#[derive(Clone, Copy)]
-pub enum Place {
-    None,
-    At(usize),
-}

@@ -2,7 +2,6 @@
 ghost use Rattle.std.specs.Prelude.{◌≡◌};
 ghost use Rattle.property.specs.Inner.Words.{word_fault_at, word_at};
 
-use json_text::Read;
 use json_text::bytes::byte;
 use json_text::strings::string;
 use json_tree::raws::raw;
@@ -16,14 +15,8 @@ pub fn word_fault(text: &[u8], at: usize) -> u32
         return 20;
     }
     match string(text, at) {
-        Read::To(stop) => {
-            if has_backslash(text, at, stop) {
-                return 26;
-            }
-            0
-        }
-        Read::Bad => 0,
-        Read::Deep => 0,
+        Ok(stop) if has_backslash(text, at, stop) => 26,
+        _ => 0,
     }
 }
 
@@ -32,8 +25,7 @@ pub fn word(text: &[u8], at: usize) -> &[u8]
     ensures { result.now ≡ word_at text.now at }
 {
     match string(text, at) {
-        Read::To(stop) => raw(text, at, stop),
-        Read::Bad => &text[0..0],
-        Read::Deep => &text[0..0],
+        Ok(stop) => raw(text, at, stop),
+        Err(_) => &text[..0],
     }
 }

@@ -7,20 +7,12 @@ ghost use Rattle.record.specs.Inner.Rows.{marks_for};
 
 use little_endian::{put_i64, put_u16, put_u32};
 
-fn mark(set: bool, value: u8) -> u8
-    ensures { (result ≡ (if set then value else 0)) × (result ≤ value) }
-{
-    if set {
-        return value;
-    }
-    0
-}
-
 // Busy 1, all-day 2, floating 4.
+#[tactic(auto, unfolding(crate::specs::Inner::Rows::marks_for))]
 pub(crate) fn marks(busy: bool, allday: bool, floating: bool) -> u8
     ensures { result ≡ marks_for busy allday floating }
 {
-    mark(busy, 1) + mark(allday, 2) + mark(floating, 4)
+    u8::from(busy) + 2 * u8::from(allday) + 4 * u8::from(floating)
 }
 
 // The marks and the three zeros after them are one number of four bytes.
@@ -31,7 +23,7 @@ pub(crate) fn put_record(buf: &mut [u8], at: usize, id: i64, start: i64, end: i6
     put_i64(buf, at, id);
     put_i64(buf, at + 8, start);
     put_i64(buf, at + 16, end);
-    put_u32(buf, at + 24, marks as u32);
+    put_u32(buf, at + 24, u32::from(marks));
 }
 
 // Both numbers are written by their lowest four bytes: all of them, in a table of less than 2^32 bytes.

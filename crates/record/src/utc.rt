@@ -12,6 +12,7 @@ pub(crate) const START: usize = 0;
 const END: usize = 1;
 
 // The offset at a local time, looked for near the hint at a place of the two. Any hint is right, so which one is left is not promised.
+#[tactic(auto, unfolding(crate::specs::Inner::Utc::offset_by))]
 pub(crate) fn offset_of(
     floating: bool,
     initial: i64,
@@ -27,10 +28,7 @@ pub(crate) fn offset_of(
     if floating {
         return 0;
     }
-    let mut hint = hints[at];
-    let offset = zone::offset(initial, instants, offsets, local, &mut hint);
-    hints[at] = hint;
-    offset
+    zone::offset(initial, instants, offsets, local, &mut hints[at])
 }
 
 // UTC is local less the offset.
@@ -57,6 +55,7 @@ fn local_end(times: Times) -> u64
 }
 
 // The offset at the local end. Without days that is the start, and its offset is known.
+#[tactic(auto, unfolding(crate::specs::Inner::Utc::start_offset, crate::specs::Inner::Utc::end_offset, call_definitions::specs::Utc::days_later))]
 fn end_offset(
     times: Times,
     before: i64,
@@ -84,6 +83,7 @@ fn end_offset(
 }
 
 // The end, given the offset at the start.
+#[tactic(auto, unfolding(crate::specs::Inner::Utc::end_by, crate::specs::Inner::Utc::end_offset, call_definitions::specs::Utc::days_later))]
 pub(crate) fn end_of(
     times: Times,
     before: i64,

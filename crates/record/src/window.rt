@@ -11,12 +11,10 @@ pub fn since_1600(t: i64) -> u64
 {
     let above = signed::positive_part(t) + EPOCH;
     let below = signed::negative_part(t);
-    if above < below {
-        return 0;
-    }
-    above - below
+    above.saturating_sub(below)
 }
 
+#[tactic(auto, unfolding(call_definitions::specs::Window::since1970))]
 pub fn since_1970(x: u64) -> i64
     requires { x < 2 ^ 63 }
     ensures { result ≡ since1970 x }
@@ -25,14 +23,9 @@ pub fn since_1970(x: u64) -> i64
 }
 
 // Any two numbers may arrive.
+#[tactic(auto, unfolding(call_definitions::specs::Window::valid_window))]
 pub fn valid_window(from: i64, to: i64) -> bool
     ensures { result ≡ valid_window from to }
 {
-    if 11644473600 < signed::negative_part(from) {
-        return false;
-    }
-    if to < from {
-        return false;
-    }
-    signed::positive_part(to) <= 253370764800
+    -11644473600 <= from && from <= to && to <= 253370764800
 }

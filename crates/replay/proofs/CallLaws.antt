@@ -2,6 +2,7 @@
 use Prim.Native.Nat.{ℕ, ◌+◌, ◌*◌, ◌≤◌}
 use mathlib.Core.List.{List, ◌++◌}
 use mathlib.Core.Path.{◌≡◌, refl, sym, ap, ◌∙◌}
+use native.Mathlib.Omega.{arith}
 use lib.IntN.{ℤ}
 use lib.ListN.{length, take, drop}
 use lib.Seq.{length-take-le}
@@ -20,30 +21,19 @@ use Rattle.weeks.proofs.PlaceLaws.{places_are, spans-are, rows_fit, reported-tal
 use Rattle.weeks.proofs.Allowed.{refusal-none}
 use Rattle.replay.specs.Inner.Sorted.{filled, Sorted}
 
--- the tallies of places that are filled
-pub sorted-by : (log : List ℤ) (sheet : List ℕ) (n b room : ℕ) (p : List ℤ) (reported shut missing : ℕ) → p ≡ filled log sheet n b room
-    → reported ≡ count (in_class 0) p → shut ≡ count (in_class 1) p → missing ≡ count (in_class 2) p → Sorted log sheet n b room p reported shut missing
-sorted-by log sheet n b room p reported shut missing is r s m =
-    record {
-      places = is;
-      reported_is = r ∙ ap (count (in_class 0)) is;
-      shut_is = s ∙ ap (count (in_class 1)) is;
-      missing_is = m ∙ ap (count (in_class 2)) is;
-    }
-
-module _ (log : List ℤ) (sheet : List ℕ) (from to : ℤ) (places : List ℤ) (answer : ℕ) (is : answer ≡ refusal log sheet from to (length places)) where
-  pub refused-is : (answer ≡ 0 → ⊥) → Replays (replay_of log sheet from to places) answer 0 0 0 places
+module _ (log : List ℤ) (sheet : List ℕ) (from to : ℤ) (places : List ℤ) where
+  pub refused-is : (answer : ℕ) → answer ≡ refusal log sheet from to (length places) → (answer ≡ 0 → ⊥) → Replays (replay_of log sheet from to places) answer 0 0 0 places
   unfolding replay_of refused
-  refused-is h =
+  refused-is answer is h =
       rw (ne_eqb (refusal log sheet from to (length places)) 0 (λ e. h (is ∙ e)))
       (record { answer_is = is; reported_is = refl; shut_is = refl; missing_is = refl; places_are = refl })
 
-  module _ (none : answer ≡ 0) where
-    pub room : weeks_in from to ≤ length places
-    room = (refusal-none log sheet from to (length places) (sym is ∙ none)).fits
+  module _ (none : 0 ≡ refusal log sheet from to (length places)) where
+    pub room : (n : ℕ) → n ≡ weeks_in from to → n ≤ length places
+    room n e = omega (arith, e, (refusal-none log sheet from to (length places) (sym none)).fits)
 
     pub records : 28 * count_of sheet + 12 ≡ length sheet
-    records = rows_before sheet (refusal-none log sheet from to (length places) (sym is ∙ none)).accepted
+    records = rows_before sheet (refusal-none log sheet from to (length places) (sym none)).accepted
 
     -- ---- the places are filled as the definition says
 
@@ -51,7 +41,7 @@ module _ (log : List ℤ) (sheet : List ℕ) (from to : ℤ) (places : List ℤ)
       filled_is : (n : ℕ) → filled log sheet (count_of sheet) (up from) n ≡ tabulate (place_of log (rows_of sheet) from) 0 n
       unfolding filled
       filled_is n =
-          let positive = monday-positive from f (refusal-none log sheet from to (length places) (sym is ∙ none)).range.first in
+          let positive = monday-positive from f (refusal-none log sheet from to (length places) (sym none)).range.first in
           rw (spans-are sheet (up from)) (places_are log (rows_of sheet) from n f positive (rows_fit sheet))
 
       done : (p : List ℤ) (reported shut missing : ℕ) → Sorted log sheet (count_of sheet) (up from) (weeks_in from to) p reported shut missing
@@ -73,6 +63,6 @@ module _ (log : List ℤ) (sheet : List ℕ) (from to : ℤ) (places : List ℤ)
           → Replays (replay_of log sheet from to places) 0 reported shut missing (p ++ drop n places)
       unfolding replay_of
       done-is n b k en eb ek p reported shut missing s =
-          let long : length (take (weeks_in from to) places) ≡ weeks_in from to = length-take-le (weeks_in from to) places room in
-          rw (eq-eqb (refusal log sheet from to (length places)) 0 (sym is ∙ none), en)
+          let long : length (take (weeks_in from to) places) ≡ weeks_in from to = length-take-le (weeks_in from to) places (room _ refl) in
+          rw (eq-eqb (refusal log sheet from to (length places)) 0 (sym none), en)
           (done p reported shut missing (rw (ek, eb, en, long) at s))

@@ -1,34 +1,38 @@
--- One turn of the loop over the log's order.
-use Prim.Native.Nat.{ℕ, suc, ◌+◌, ◌-◌, ◌<◌, ◌≤◌}
+-- What `is_sorted` says of a log.
+use Prim.Native.Nat.{ℕ, zero, suc, ◌<◌}
 use mathlib.Core.List.{List, [], ◌∷◌}
-use mathlib.Core.Bool.{true, false, ◌&&◌}
-use mathlib.Core.Path.{◌≡◌, refl, sym, ◌∙◌}
+use mathlib.Core.Bool.{Bool, true, false, ◌&&◌}
+use mathlib.Core.Path.{◌≡◌, refl, ◌∙◌}
 use native.Mathlib.Omega.{arith}
 use native.Mathlib.Numerals.{add-one}
 use lib.IntN.{ℤ, pos}
 use lib.Signed.{le_z}
-use lib.ListN.{length, get_or, drop, length-drop}
-use lib.Seq.{drop-cons}
+use lib.ListN.{length, get_or}
+use Rattle.std.specs.List.{IsAllAdjacentAnswer}
+use Rattle.std.specs.Ordering.{is_le, int_cmp}
+use Rattle.std.proofs.lemmas.Int.{ints}
 use Rattle.weeks.specs.Replay.{ordered}
 
-order-more : (log : List ℤ) (j : ℕ) → j + 1 < length log
-    → ordered (drop j log) ≡ (le_z (get_or log j (pos 0)) (get_or log (j + 1) (pos 0)) && ordered (drop (j + 1) log))
+le-cmp : (t u : ℤ) → le_z t u ≡ is_le (int_cmp t u)
+le-cmp t u = grind (arith, ints)
+
+rises : (log : List ℤ) → ((k : ℕ) → suc k < length log → le_z (get_or log k (pos 0)) (get_or log (suc k) (pos 0)) ≡ true) → true ≡ ordered log
 unfolding ordered
-order-more log j h = rw (add-one j, drop-cons log j (pos 0) (omega arith), drop-cons log (suc j) (pos 0) (omega arith))
+rises [] h = refl
+rises (t ∷ []) h = refl
+rises (t ∷ u ∷ log) h =
+    let first : le_z t u ≡ true = h 0 (omega arith) in
+    rw first (rises (u ∷ log) (λ k g. h (suc k) (omega arith)))
 
-pub order-turn : (log : List ℤ) (j : ℕ) → j + 1 < length log → le_z (get_or log j (pos 0)) (get_or log (j + 1) (pos 0)) ≡ true
-    → ordered (drop (j + 1) log) ≡ ordered (drop j log)
-order-turn log j h e = sym (order-more log j h ∙ rw e)
-
-pub order-fails : (log : List ℤ) (j : ℕ) → j + 1 < length log → le_z (get_or log j (pos 0)) (get_or log (j + 1) (pos 0)) ≡ false
-    → false ≡ ordered (drop j log)
-order-fails log j h e = sym (order-more log j h ∙ rw e)
-
-short : (l : List ℤ) → length l ≤ 1 → true ≡ ordered l
+falls : (log : List ℤ) (k : ℕ) → suc k < length log → le_z (get_or log k (pos 0)) (get_or log (suc k) (pos 0)) ≡ false → false ≡ ordered log
 unfolding ordered
-short [] h = refl
-short (x ∷ []) h = refl
-short (x ∷ y ∷ l) h = absurd (omega arith)
+falls [] k h e = absurd (omega arith)
+falls (t ∷ []) k h e = absurd (omega arith)
+falls (t ∷ u ∷ log) zero h e = rw e
+falls (t ∷ u ∷ log) (suc k) h e = rw (← falls (u ∷ log) k (omega arith) e) (elim (le_z t u) as (λ b. false ≡ b && false) [ true ↦ refl | false ↦ refl ])
 
-pub order-done : (log : List ℤ) (j : ℕ) → length log ≤ j + 1 → true ≡ ordered (drop j log)
-order-done log j h = short (drop j log) (simp length-drop (omega arith))
+pub ordered-is : (log : List ℤ) (r : Bool) → IsAllAdjacentAnswer (λ t u b. is_le (int_cmp t u) ≡ b) log r → r ≡ ordered log
+ordered-is log true h =
+    rises log (λ k g. le-cmp (get_or log k (pos 0)) (get_or log (suc k) (pos 0)) ∙ (let e = h k (pos 0) (omega (arith, g)) in rw (add-one k) at e))
+ordered-is log false (k, g, h) =
+    falls log k (omega (arith, g)) (le-cmp (get_or log k (pos 0)) (get_or log (suc k) (pos 0)) ∙ (let e = h (pos 0) in rw (add-one k) at e))

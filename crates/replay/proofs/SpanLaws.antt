@@ -3,27 +3,34 @@ use Rattle.std.specs.Prelude.{if◌then◌else◌}
 use Prim.Native.Nat.{ℕ, zero, suc, ◌+◌, ◌-◌, ◌<◌, ◌≤◌}
 use mathlib.Core.List.{List, [], ◌∷◌, ◌++◌, append-nil}
 use mathlib.Core.Bool.{Bool, true, false}
-use mathlib.Core.Path.{◌≡◌, refl}
+use mathlib.Core.Path.{◌≡◌}
 use native.Mathlib.Omega.{arith}
-use native.Mathlib.Numerals.{add-one, sub-one}
+use native.Mathlib.Numerals.{add-one}
 use lib.Dec.{ltb}
 use lib.IntN.{ℤ, pos, negsuc}
 use lib.ListN.{length, get_or, set, take, drop, drop_of_length-le}
+use Rattle.std.specs.Int.{int_max}
+use Rattle.std.proofs.lemmas.Int.{ints, clamps}
+use Rattle.weeks.proofs.SweepLaws.{larger-max}
 use lib.Seq.{take-suc-set, drop-set-lt, drop-cons, append_snoc, take_all}
 use Rattle.signed.specs.Parts.{pos_part}
 use Rattle.sheet.specs.Runs.{tabulate}
 use Rattle.weeks.specs.Inner.Marks.{Span, raise, raise_all, larger, sweep}
 use Rattle.weeks.specs.Inner.Places.{Below}
 
-pub raise-more : (f : ℕ → Span) (k n : ℕ) (p : List ℤ) → 0 < n → raise_all (tabulate f (k + 1) (n - 1)) (raise p (f k)) ≡ raise_all (tabulate f k n) p
-unfolding raise_all tabulate
-raise-more f k zero p h = absurd (omega arith)
-raise-more f k (suc n) p h = rw (add-one, sub-one)
+-- what a place holds after a span
+pub raised : (z m : ℤ) (after : ℕ) → m ≡ int_max z (pos after) → m ≡ pos (larger (pos_part z) after)
+raised (pos n) m after e = rw (larger-max n after) (omega (arith, ints, clamps))
+raised (negsuc n) m after e = rw (larger-max 0 after) (omega (arith, ints, clamps))
 
-pub raise-none : (f : ℕ → Span) (k n : ℕ) (p : List ℤ) → n ≤ 0 → raise_all (tabulate f k n) p ≡ p
+-- a turn of the loop over the records
+pub raise-turn : (f : ℕ → Span) (k n : ℕ) (p : List ℤ) → k < n → raise_all (tabulate f (k + 1) (n - (k + 1))) (raise p (f k)) ≡ raise_all (tabulate f k (n - k)) p
 unfolding raise_all tabulate
-raise-none f k zero p h = refl
-raise-none f k (suc n) p h = absurd (omega arith)
+raise-turn f k n p h = let m : n - k ≡ suc (n - suc k) = omega arith in rw (add-one k, m)
+
+pub raise-done : (f : ℕ → Span) (k n : ℕ) (p : List ℤ) → n ≤ k → raise_all (tabulate f k (n - k)) p ≡ p
+unfolding raise_all tabulate
+raise-done f k n p h = let m : n - k ≡ 0 = omega arith in rw m
 
 -- a turn of the sweep: what stands before i is done
 pub sweep-turn : (p : List ℤ) (r i : ℕ) → i < length p

@@ -1,21 +1,22 @@
 -- One turn of the loop over the log, the sum in `bump`, and the ways of `upload`.
 use Prim.Native.Nat.{◌/◌, ◌^◌, ℕ, zero, suc, ◌+◌, ◌-◌, ◌<◌, ◌≤◌}
 use mathlib.Core.List.{List, [], ◌∷◌}
-use mathlib.Core.Bool.{true, false}
-use mathlib.Core.Path.{◌≡◌, refl, sym, ap, ◌∙◌}
+use mathlib.Core.Path.{◌≡◌, sym, ap, ◌∙◌}
 use native.Mathlib.Omega.{arith}
 use native.Mathlib.Numerals.{add-one}
 use lib.Dec.{ltb}
 use lib.IntN.{ℤ, pos, negsuc, ◌+ℤ◌}
-use lib.Signed.{lt_z}
+use lib.Signed.{mag}
+use Rattle.std.specs.Int.{int_max}
+use Rattle.std.proofs.lemmas.Int.{ints, clamps}
 use mir.Syntax.{w64}
 use mir.Val.{SFits, to_z, of_z}
 use mir.Facts.{to_z-of_z}
-use borrow.Author.Tests.{ltb-true, lt-ltb, le-ltb}
-use Rattle.signed.proofs.Parts.{parts-fit, subℕ-pos, subℕ-neg, fit-neg, true-false}
+use borrow.Author.Tests.{lt-ltb, le-ltb}
+use Rattle.signed.proofs.Parts.{back, parts-fit}
 use lib.ListN.{length, get_or, set, drop, drop_of_length-le}
 use lib.Seq.{set_out, drop-cons}
-use Rattle.signed.specs.Parts.{pos_part, neg_part}
+use Rattle.signed.specs.Parts.{pos_part}
 use Rattle.weeks.specs.Inner.Marks.{up, first_of}
 use Rattle.weeks.specs.Inner.Places.{bump, upload, upload_all, Below}
 use Rattle.rule.proofs.Bools.{by}
@@ -50,39 +51,22 @@ upload-below m b p t h =
     (λ e. rw e (λ i. le_trans (h i) (omega arith)))
     (λ e. rw e (set_below m p (first_of b (up t)) _ h (bump-below _ m (h (first_of b (up t))))))
 
--- ---- the machine's sum in `bump`
+-- ---- the sum in `bump`
 
-none : (z : ℤ) → lt_z z (pos 0) ≡ true → pos 1 ≡ bump z
+next : (z m : ℤ) → m ≡ int_max z (pos 0) → m +ℤ pos 1 ≡ bump z
 unfolding bump
-none (pos n) e = absurd (omega (arith, ltb-true n 0 e))
-none (negsuc n) e = refl
+next (pos n) m e = omega (arith, ints, clamps)
+next (negsuc n) m e = omega (arith, ints, clamps)
 
-one-pos : (z : ℤ) → pos_part z < 2 ^ 62 → pos_part (z +ℤ pos 1) < 2 ^ 63
-one-pos (pos n) h = omega arith
-one-pos (negsuc n) h = omega (arith, subℕ-pos 1 (suc n))
+next-fits : (z m : ℤ) → m ≡ int_max z (pos 0) → pos_part z < 2 ^ 62 → SFits w64 (m +ℤ pos 1)
+next-fits (pos n) m e h = let is : m ≡ pos n = omega (arith, ints, clamps) in rw is (parts-fit (pos (n + 1)) (omega arith) (omega arith))
+next-fits (negsuc n) m e h = let is : m ≡ pos 0 = omega (arith, ints, clamps) in rw is (parts-fit (pos 1) (omega arith) (omega arith))
 
-one-neg : (z : ℤ) → SFits w64 z → neg_part (z +ℤ pos 1) ≤ 2 ^ 63
-one-neg (pos n) f = omega arith
-one-neg (negsuc n) f = omega (arith, subℕ-neg 1 (suc n), fit-neg (negsuc n) f)
-
-fits : (z : ℤ) → SFits w64 z → pos_part z < 2 ^ 62 → SFits w64 (z +ℤ pos 1)
-fits z f h =
-    parts-fit (z +ℤ pos 1) (one-pos z h) (one-neg z f)
-
-more : (z : ℤ) → lt_z z (pos 0) ≡ false → z +ℤ pos 1 ≡ bump z
-unfolding bump
-more (pos n) e = refl
-more (negsuc n) e = true-false e
-
-module _ (z : ℤ) (f : SFits w64 z) where
-  pub bump-none : lt_z (to_z w64 (of_z w64 z)) (pos 0) ≡ true → pos 1 ≡ bump z
-  bump-none e = none z (rw (to_z-of_z f) at e)
-
-  pub bump-fits : pos_part z < 2 ^ 62 → SFits w64 (to_z w64 (of_z w64 z) +ℤ pos 1)
-  bump-fits h = rw (to_z-of_z f) (fits z f h)
-
-  pub bump-more : pos_part z < 2 ^ 62 → lt_z (to_z w64 (of_z w64 z)) (pos 0) ≡ false → to_z w64 (of_z w64 (to_z w64 (of_z w64 z) +ℤ pos 1)) ≡ bump z
-  bump-more h e = to_z-of_z (bump-fits h) ∙ rw (to_z-of_z f) (more z (rw (to_z-of_z f) at e))
+pub bump-is : (z : ℤ) → SFits w64 z → pos_part z < 2 ^ 62 → (m : ℤ) → mag m < 2 ^ 63 → m ≡ int_max (to_z w64 (of_z w64 z)) (pos 0)
+    → to_z w64 (of_z w64 (to_z w64 (of_z w64 m) +ℤ pos 1)) ≡ bump z
+bump-is z f h m g e =
+    let most : m ≡ int_max z (pos 0) = rw (to_z-of_z f) at e in
+    rw (back m g) (to_z-of_z (next-fits z m most h) ∙ next z m most)
 
 -- ---- the ways of `upload`
 

@@ -6,7 +6,7 @@ ghost use Rattle.replay.specs.Inner.Sorted.{Sorted};
 use crate::instants::up;
 use crate::places::fill;
 use crate::refusals::{refusal, weeks_in};
-use crate::tallies::tally;
+use crate::tallies::{Class, tally};
 use sheet_reader::trailer::count;
 
 // All places that are lent, and their tallies.
@@ -24,12 +24,13 @@ fn sort(
     ensures { Sorted log.now sheet.now n b (length p.old) p.new reported.new shut.new missing.new }
 {
     fill(log, sheet, n, b, p);
-    *reported = tally(p, 0);
-    *shut = tally(p, 1);
-    *missing = tally(p, 2);
+    *reported = tally(p, Class::Reported);
+    *shut = tally(p, Class::Shut);
+    *missing = tally(p, Class::Missing);
 }
 
 // Each week's place gets its uploads, -1 where it is shut, -2 where it is missing. After a refusal no place has changed, and the tallies are 0.
+// A number and lent places, no Result: `smocurant_weeks` hands them on in C.
 pub fn weeks(
     log: &[i64],
     sheet: &[u8],
@@ -42,12 +43,11 @@ pub fn weeks(
 ) -> u32
     ensures { Replays (replay_of log.now sheet.now range_start range_end places.old) result reported.new shut.new missing.new places.new }
 {
-    let answer = refusal(log, sheet, range_start, range_end, places.len() as u64);
-    if answer != 0 {
+    if let Some(reason) = refusal(log, sheet, range_start, range_end, places.len() as u64) {
         *reported = 0;
         *shut = 0;
         *missing = 0;
-        return answer;
+        return u32::from(reason);
     }
     let n = weeks_in(range_start, range_end) as usize;
     let records = count(sheet);

@@ -1,35 +1,22 @@
 // The spans of a sheet's records: each span's end at the place of its first week, the farthest of them.
 ghost use Rattle.std.specs.Prelude.{◌≡◌, ◌+◌, ◌*◌, ◌≤◌, ◌<◌, ◌^◌, length};
 ghost use Rattle.sheet.specs.Runs.{tabulate};
-ghost use Rattle.weeks.specs.Inner.Marks.{Span, after_of, span_at, raise_all, raise as marks_raise, larger as marks_larger};
+ghost use Rattle.weeks.specs.Inner.Marks.{Span, after_of, span_at, raise_all, raise as marks_raise};
 
 use crate::instants::{first_of, up};
 use sheet_reader::fields::{end_at, start_at};
-use signed::positive_part;
-
-pub(crate) fn larger(a: u64, b: u64) -> u64
-    ensures { result ≡ marks_larger a b }
-{
-    if a < b {
-        return b;
-    }
-    a
-}
 
 // The week after the last one that the span from x to y touches.
 fn after_of(b: u64, x: u64, y: u64) -> u64
     ensures { (result ≡ after_of b x y) × (result < 2 ^ 63) }
 {
     if x < y {
-        if y <= b {
-            return 0;
-        }
-        return (y - b - 1) / 604800 + 1;
+        y.saturating_sub(b).div_ceil(604800)
+    } else if x < b {
+        0
+    } else {
+        (x - b) / 604800 + 1
     }
-    if x < b {
-        return 0;
-    }
-    (x - b) / 604800 + 1
 }
 
 // The larger of what place `first` holds and `after`, stored there.
@@ -37,10 +24,9 @@ fn raise(p: &mut [i64], first: u64, after: u64)
     requires { after < 2 ^ 63 }
     ensures { p.new ≡ marks_raise p.old (record { first = first; after = after }) }
 {
-    if first < p.len() as u64 {
-        let at = first as usize;
-        let old = positive_part(p[at]);
-        p[at] = larger(old, after) as i64;
+    let at = first as usize;
+    if at < p.len() {
+        p[at] = p[at].max(after as i64);
     }
 }
 
@@ -59,11 +45,7 @@ pub(crate) fn mark_all(s: &[u8], n: usize, b: u64, p: &mut [i64])
     requires { 28 * n ≤ length s.now }
     ensures { p.new ≡ raise_all (tabulate (span_at s.now b) 0 n) p.old }
 {
-    let mut k = 0;
-    let mut left = n;
-    while 0 < left {
+    for k in 0..n {
         mark(s, k, b, p);
-        k += 1;
-        left -= 1;
     }
 }

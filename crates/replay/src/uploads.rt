@@ -10,10 +10,7 @@ fn bump(z: i64) -> i64
     requires { pos_part z < 2 ^ 62 }
     ensures { result ≡ places_bump z }
 {
-    if z < 0 {
-        return 1;
-    }
-    z + 1
+    z.max(0) + 1
 }
 
 // One upload, where it lies in the range.
@@ -25,10 +22,9 @@ fn upload(b: u64, p: &mut [i64], t: i64)
     if x < b {
         return;
     }
-    let w = first_of(b, x);
-    if w < p.len() as u64 {
-        let at = w as usize;
-        p[at] = bump(p[at]);
+    let w = first_of(b, x) as usize;
+    if w < p.len() {
+        p[w] = bump(p[w]);
     }
 }
 
@@ -36,9 +32,7 @@ pub(crate) fn upload_all(log: &[i64], b: u64, p: &mut [i64])
     requires { Below 0 p.old }
     ensures { p.new ≡ upload_all b log.now p.old }
 {
-    let mut j = 0;
-    while j < log.len() {
-        upload(b, p, log[j]);
-        j += 1;
+    for t in log {
+        upload(b, p, *t);
     }
 }

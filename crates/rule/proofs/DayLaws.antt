@@ -1,5 +1,5 @@
 -- What holds of a day of the calendar, and which day comes after it.
-use Prim.Native.Nat.{ℕ, zero, suc, ◌+◌, ◌-◌, ◌*◌, ◌/◌, ◌%◌, ◌^◌, ◌<◌, ◌≤◌}
+use Prim.Native.Nat.{ℕ, zero, suc, ◌+◌, ◌-◌, ◌%◌, ◌^◌, ◌<◌, ◌≤◌}
 use mathlib.Core.Bool.{Bool, true, false}
 use mathlib.Core.Path.{◌≡◌, refl, sym, ap, ◌∙◌, subst}
 use native.Mathlib.Omega.{arith}
@@ -12,8 +12,8 @@ use Rattle.gregorian.specs.Month.{month_length, month_start, length_in, start_in
 use Rattle.gregorian.specs.Days.{day_of, day_count, date_of, weekday_of}
 use Rattle.gregorian.proofs.Computed.{all_below, all-below}
 use Rattle.gregorian.proofs.YearLaws.{first-zero, first-suc, first-cycle, first-mono, year-most}
-use Rattle.gregorian.proofs.MonthLaws.{month-most, month-next, month-none, year-is-months}
-use Rattle.gregorian.proofs.DayLaws.{Parts, is-date, month-within, within-year, year-ends, day-below}
+use Rattle.gregorian.proofs.MonthLaws.{month-most, month-next, year-is-months}
+use Rattle.gregorian.proofs.DayLaws.{Parts, is-date, month-within, within-year, year-ends}
 use Rattle.gregorian.proofs.RoundTrips.{date-parts, day-date-day, date-day-date}
 use Rattle.rule.specs.declared.Day.{Day}
 use Rattle.rule.specs.Day.{on_date, day_at}

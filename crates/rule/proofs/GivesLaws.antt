@@ -1,14 +1,13 @@
 -- What it says that a rule gives a date-time, part by part: once for rules and excluded rules.
-use Prim.Native.Nat.{ℕ, ◌+◌, ◌-◌, ◌*◌, ◌/◌, ◌%◌, ◌<◌, ◌≤◌}
-use mathlib.Core.Bool.{Bool, true, false, not, ◌&&◌, ◌||◌}
-use mathlib.Core.Path.{◌≡◌, refl}
-use native.Mathlib.Omega.{arith}
+use Prim.Native.Nat.{ℕ, ◌-◌, ◌/◌, ◌%◌, ◌<◌, ◌≤◌}
+use mathlib.Core.Bool.{Bool, true, ◌&&◌}
+use mathlib.Core.Path.{◌≡◌}
 use lib.Dec.{eqb, leb, ltb}
 use borrow.Author.Tests.{eqb-true, ltb-true, leb-true, eq-eqb, lt-ltb}
 use Rattle.rule.specs.Written.{RecurrenceRule}
 use Rattle.rule.specs.Lists.{count_in, within}
-use Rattle.rule.specs.Gives.{end_day, on_day, picks, falls, gives}
-use Rattle.rule.proofs.Bools.{both, left, right}
+use Rattle.rule.specs.Gives.{end_day, picks, falls, gives}
+use Rattle.rule.proofs.Bools.{left, right}
 
 -- a day that is picked is not before the start's
 pub picks-low : (r : RecurrenceRule) (start d : ℕ) → picks r start d ≡ true → start / 86400 ≤ d

@@ -1,15 +1,13 @@
 -- A period and its days.
-use Prim.Native.Nat.{ℕ, zero, suc, ◌+◌, ◌-◌, ◌*◌, ◌/◌, ◌%◌, ◌<◌, ◌≤◌}
-use mathlib.Core.Path.{◌≡◌, refl, sym, ap, ◌∙◌, subst}
+use Prim.Native.Nat.{ℕ, ◌+◌, ◌-◌, ◌<◌, ◌≤◌}
+use mathlib.Core.Path.{◌≡◌, refl}
 use native.Mathlib.Omega.{arith}
 use Rattle.gregorian.specs.Days.{day_count}
 use Rattle.rule.specs.declared.Frequency.{Frequency}
 use Rattle.rule.specs.declared.Frequency.TheVariants.{Daily, Weekly, Monthly, Yearly}
-use Rattle.rule.specs.declared.Day.{Day}
 use Rattle.rule.specs.Day.{on_date, day_at}
 use Rattle.rule.specs.Gives.{end_day}
-use Rattle.rule.specs.Period.{period_of, since_first, days_of}
-use Rattle.rule.specs.Inner.Bounds.{InCalendar}
+use Rattle.rule.specs.Period.{since_first, days_of}
 use Rattle.rule.proofs.DayLaws.{day-facts, year-within}
 
 pub day-number : (n : ℕ) → (day_at n).number ≡ n

@@ -1,5 +1,5 @@
 -- 01, 3: values of the start that are added before a rule is read, as by-lists.
-use Rattle.std.specs.Prelude.{if◌then◌else◌, ℕ, Bool, not, ◌&&◌, ◌||◌, List, [], ◌∷◌, ℤ, pos}
+use Rattle.std.specs.Prelude.{if◌then◌else◌, ℕ, Bool, not, ◌||◌, List, [], ◌∷◌, ℤ, pos}
 use Rattle.std.proofs.Math.Option.{none}
 use Rattle.rule.specs.declared.Frequency.{Frequency}
 use Rattle.rule.specs.declared.Frequency.TheVariants.{Daily, Weekly, Monthly, Yearly}

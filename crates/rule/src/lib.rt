@@ -20,7 +20,7 @@ pub struct Day {
     pub monthdays: u32,
 }
 
-#[derive(Clone, Copy)]
+#[derive(Clone, Copy, PartialEq, Eq)]
 pub enum Frequency {
     Daily,
     Weekly,

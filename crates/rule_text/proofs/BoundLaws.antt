@@ -1,4 +1,6 @@
 -- A rule that was read without a fault lies within 01's ranges.
+use Rattle.std.specs.Prelude.{None}
+use Rattle.fault.specs.Fault.{First}
 use Prim.Native.Nat.{ℕ, zero, suc, ◌≤◌, ◌<◌}
 use mathlib.Core.List.{List, [], ◌∷◌}
 use mathlib.Core.Option.{Option, none, some}
@@ -6,6 +8,7 @@ use mathlib.Core.Path.{◌≡◌, refl, sym, ◌∙◌}
 use native.Mathlib.Omega.{arith}
 use lib.IntN.{ℤ, pos, negsuc}
 use Rattle.json_tree.specs.Tree.{Json, Fields, place_of}
+use Rattle.std.specs.Prelude as std
 use Rattle.json_tree.specs.declared.Integer.{Integer}
 use Rattle.rule.specs.declared.Rule.{Rule}
 use Rattle.rule.specs.Inner.Read.{written}
@@ -15,8 +18,6 @@ use Rattle.event.specs.Rules.{at_least_one, read_count, read_signed, read_weekda
 use Rattle.rule_text.specs.Inner.Parts.{RuleRead}
 use Rattle.rule_text.specs.Inner.Bounds.{All, nil, more, Given, SizeIn, MonthIn, AtLeastOne, DayIn, Bounded}
 use Rattle.rule_text.proofs.IntegerLaws.{signed-within}
-use Rattle.fault.specs.declared.First.{First}
-use Rattle.fault.specs.declared.First.TheVariants.{None}
 use Rattle.fault.proofs.Laws.{append-none, all_none, none-fault, first-none, fault-some}
 use Rattle.rule_text.proofs.RuleLaws.{weekday-below, first_below}
 use Rattle.rule_text.proofs.MonthBounds.{month-in}
@@ -63,7 +64,7 @@ count-least : (v : Json) → 1 ≤ (read_count v).value
 unfolding read_count of_integer or_wrong
 count-least v = go (number v)
   where
-    go : (n : Option Integer) → 1 ≤ (or_wrong 1 20 (λ (n : Integer). or_wrong 1 23 at_least_one (as_integer n)) n).value
+    go : (n : Option (std.Option Integer)) → 1 ≤ (or_wrong 1 20 (λ (n : std.Option Integer). or_wrong 1 23 at_least_one (as_integer n)) n).value
     go none = omega arith
     go (some n) = least-one (as_integer n)
 

@@ -11,8 +11,7 @@ use lib.IntN.{ℤ}
 use lib.ListN.{length, take, drop, length-map}
 use lib.Seq.{sets, sets-eq, take-append_seam}
 use borrow.Author.Tests.{ltb-false}
-use Rattle.fault.specs.Fault.{faults_at}
-use Rattle.fault.specs.declared.First.{First}
+use Rattle.fault.specs.Fault.{faults_at, First}
 use Rattle.fault.proofs.Laws.{append-none, first-none, fault-some}
 use Rattle.json_tree.specs.Tree.{Json, place_of}
 use Rattle.rule.specs.Written.{NDay}

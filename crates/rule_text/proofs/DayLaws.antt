@@ -1,27 +1,25 @@
 -- Entries of `byDay`: a weekday, and a number for `nthOfPeriod`.
-use Rattle.std.specs.Prelude.{if◌then◌else◌}
-use Prim.Native.Nat.{ℕ, zero, suc, ◌-◌, ◌<◌}
+use Rattle.std.specs.Prelude.{if◌then◌else◌, Some, None}
+use Prim.Native.Nat.{ℕ, zero, suc, ◌+◌, ◌<◌}
 use mathlib.Core.Bool.{Bool, true, false, ◌||◌}
 use mathlib.Core.List.{List, [], ◌∷◌, map}
 use mathlib.Core.Option.{Option, none, some}
 use mathlib.Core.Path.{◌≡◌, refl, sym, ◌∙◌}
 use native.Mathlib.Omega.{arith}
+use Rattle.std.proofs.Math.Nat.{sub-zero}
 use lib.Dec.{eqb}
 use lib.IntN.{ℤ, pos, negsuc}
 use lib.ListN.{length}
 use lib.Seq.{length-sets}
 use borrow.Author.Tests.{lt-ltb}
-use Rattle.fault.specs.Fault.{first}
-use Rattle.fault.specs.declared.First.{First}
-use Rattle.fault.specs.declared.First.TheVariants.{None, At}
+use Rattle.fault.specs.Fault.{first, First, a_fault}
 use Rattle.fault.proofs.Laws.{fault-here}
 use Rattle.json_text.specs.Bytes.{byte}
 use Rattle.rule.specs.Written.{NDay}
 use Rattle.rule.specs.Inner.Read.{nth_from, ndays}
 use Rattle.json_walk.specs.Walk.{next_element_at}
 use Rattle.json_walk.specs.declared.Element.{Element}
-use Rattle.json_walk.specs.declared.ElementStep.{ElementStep}
-use Rattle.json_walk.specs.declared.ElementStep.TheVariants.{Next}
+use Rattle.std.specs.Prelude as std
 use Rattle.json_tree.specs.Tree.{Json, Fields, tree_at, place_of}
 use Rattle.json_tree.proofs.Trees.{place-tree}
 use Rattle.event.specs.Values.{object}
@@ -29,7 +27,7 @@ use Rattle.event.specs.Reading.{Judged, fine, faulty, maybe, placed, inside, rea
 use Rattle.event.specs.Rules.{any_nth, read_nth, nday_in, read_nday, entries_of}
 use Rattle.property.specs.Inner.From.{fields_in}
 use Rattle.rule_text.specs.Inner.Lists.{nth_number, is_some, day_of, nth_of, list_fault, DayReads, DayEntries}
-use Rattle.rule_text.proofs.EntryLaws.{rest_of, Counting, Storing, rest-next, counting-ends, storing-ends}
+use Rattle.rule_text.proofs.EntryLaws.{rest_of, all_of, Counting, Storing, rest-next, counting-ends, storing-ends}
 use Rattle.rule_text.proofs.IntegerLaws.{nth_read}
 use Rattle.rule_text.proofs.ListLaws.{object-is, object-not, entries-value, entries-fault}
 
@@ -94,47 +92,47 @@ module _ (s : List ℕ) (i : ℕ) where
   pub nday-read : {w : ℕ} {z : ℤ} {n : First} → eqb (byte s i) 0x7B ≡ true → DayReads (λ l. nday_in i (fields_in l s i)) w z n → DayReads (λ l. read_nday (tree_at (suc l) s i)) w z n
   nday-read e h = record { day = λ l. rw (nday-is e l) (h.day l); nth = λ l. rw (nday-is e l) (h.nth l); fault = λ l. rw (nday-is e l) (h.fault l) }
 
-  pub nday-wrong : eqb (byte s i) 0x7B ≡ false → DayReads (λ l. read_nday (tree_at (suc l) s i)) 0 (pos 0) (At 20 i)
+  pub nday-wrong : eqb (byte s i) 0x7B ≡ false → DayReads (λ l. read_nday (tree_at (suc l) s i)) 0 (pos 0) (Some (a_fault 20 i))
   nday-wrong e = record { day = λ l. rw (nday-not e l); nth = λ l. rw (nday-not e l); fault = λ l. rw (nday-not e l) (sym (fault-here 20 i refl)) }
 
 -- ---- whether some entry has one
 
 -- The flag so far, and that of the rest, are that of all.
-pub record Flagging (tree : ℕ → ℕ → Json) (s : List ℕ) (all : ℕ → Judged (List NDay)) (step : ElementStep) (n : ℕ) (b : Bool) : Type 0 where
-  pub any : (l : ℕ) → (b || any_nth (rest_of read_nday tree s n step l).value) ≡ any_nth (all l).value
+pub record Flagging (tree : ℕ → ℕ → Json) (s : List ℕ) (all : ℕ → Judged (List NDay)) (step : std.Option Element) (m : ℕ) (b : Bool) : Type 0 where
+  pub any : (l : ℕ) → (b || any_nth (rest_of read_nday tree s step m l).value) ≡ any_nth (all l).value
 
-pub flagging-starts : (tree : ℕ → ℕ → Json) (s : List ℕ) (step : ElementStep) → Flagging tree s (λ l. rest_of read_nday tree s (length s) step l) step (length s) false
-flagging-starts tree s step = record { any = λ l. refl }
+pub flagging-starts : (tree : ℕ → ℕ → Json) (s : List ℕ) (step : std.Option Element) → Flagging tree s (λ l. all_of read_nday tree s step l) step 0 false
+flagging-starts tree s step = record { any = λ l. rw sub-zero }
 
-pub flagging-goes-on : (tree : ℕ → ℕ → Json) (s : List ℕ) (all : ℕ → Judged (List NDay)) {step next : ElementStep} {e : Element} {n : ℕ} {a b : Bool} (z : ℤ) → step ≡ Next e → 0 < n
-    → Flagging tree s all step n a → next ≡ next_element_at s e.after → b ≡ (a || is_some (nth_from z)) → ((l : ℕ) → nth_from z ≡ (read_nday (tree l e.value)).value.nth_of_period)
-    → Flagging tree s all next (n - 1) b
-flagging-goes-on tree s all {step} {next} {e} {n} {a} {b} z p h c q w r = rw (q, w) (record { any = λ l. more l })
+pub flagging-goes-on : (tree : ℕ → ℕ → Json) (s : List ℕ) (all : ℕ → Judged (List NDay)) {step next : std.Option Element} {e : Element} {m : ℕ} {a b : Bool} (z : ℤ) → step ≡ Some e → m < length s
+    → Flagging tree s all step m a → next ≡ next_element_at s e.after → b ≡ (a || is_some (nth_from z)) → ((l : ℕ) → nth_from z ≡ (read_nday (tree l e.value)).value.nth_of_period)
+    → Flagging tree s all next (m + 1) b
+flagging-goes-on tree s all {step} {next} {e} {m} {a} {b} z p h c q w r = rw (q, w) (record { any = λ l. more l })
   where
-    more : (l : ℕ) → ((a || is_some (nth_from z)) || any_nth (rest_of read_nday tree s (n - 1) (next_element_at s e.after) l).value) ≡ any_nth (all l).value
+    more : (l : ℕ) → ((a || is_some (nth_from z)) || any_nth (rest_of read_nday tree s (next_element_at s e.after) (m + 1) l).value) ≡ any_nth (all l).value
     more l =
         let v = (read_nday (tree l e.value)).value in
-        let rest = (rest_of read_nday tree s (n - 1) (next_element_at s e.after) l).value in
-        let k : (a || any_nth (rest_of read_nday tree s n (Next e) l).value) ≡ any_nth (all l).value = rw p at (c.any l) in
-        let j : (a || any_nth (v ∷ rest)) ≡ any_nth (all l).value = rw (rest-next read_nday tree s n h e l) at k in
+        let rest = (rest_of read_nday tree s (next_element_at s e.after) (m + 1) l).value in
+        let k : (a || any_nth (rest_of read_nday tree s (Some e) m l).value) ≡ any_nth (all l).value = rw p at (c.any l) in
+        let j : (a || any_nth (v ∷ rest)) ≡ any_nth (all l).value = rw (rest-next read_nday tree s m h e l) at k in
         rw (r l, ← or_assoc, ← any-more) j
 
-pub flagging-ends : (tree : ℕ → ℕ → Json) (s : List ℕ) (all : ℕ → Judged (List NDay)) {step : ElementStep} {n : ℕ} {b : Bool} → Flagging tree s all step n b
-    → ((l : ℕ) → rest_of read_nday tree s n step l ≡ fine []) → (l : ℕ) → b ≡ any_nth (all l).value
+pub flagging-ends : (tree : ℕ → ℕ → Json) (s : List ℕ) (all : ℕ → Judged (List NDay)) {step : std.Option Element} {m : ℕ} {b : Bool} → Flagging tree s all step m b
+    → ((l : ℕ) → rest_of read_nday tree s step m l ≡ fine []) → (l : ℕ) → b ≡ any_nth (all l).value
 unfolding any_nth
-flagging-ends tree s all {step} {n} {b} c e l = sym (or-none b) ∙ (rw (e l) at (c.any l))
+flagging-ends tree s all {step} {m} {b} c e l = sym (or-none b) ∙ (rw (e l) at (c.any l))
 
 -- ---- the whole list
 
 module _ (tree : ℕ → ℕ → Json) (s : List ℕ) (all : ℕ → Judged (List NDay)) where
-  pub days-end : (ws ws2 : List ℕ) (zs zs2 : List ℤ) {step : ElementStep} {n m : ℕ} {k : First} {b : Bool} → Counting read_nday tree s all step n m k → Storing day_of read_nday tree s all ws ws2 step n m
-      → Storing nth_of read_nday tree s all zs zs2 step n m → Flagging tree s all step n b → ((l : ℕ) → rest_of read_nday tree s n step l ≡ fine [])
+  pub days-end : (ws ws2 : List ℕ) (zs zs2 : List ℤ) {step : std.Option Element} {m : ℕ} {k : First} {b : Bool} → Counting read_nday tree s all step m k → Storing day_of read_nday tree s all ws ws2 step m
+      → Storing nth_of read_nday tree s all zs zs2 step m → Flagging tree s all step m b → ((l : ℕ) → rest_of read_nday tree s step m l ≡ fine [])
       → DayEntries all ws ws2 zs zs2 m b k
-  days-end ws ws2 zs zs2 {step} {n} {m} {k} {b} c d e g h =
-      let p = counting-ends read_nday tree s all step n m k c h in
+  days-end ws ws2 zs zs2 {step} {m} {k} {b} c d e g h =
+      let p = counting-ends read_nday tree s all step m k c h in
       record {
-        weekdays = storing-ends read_nday tree s all day_of ws ws2 step n m d h;
-        nths = storing-ends read_nday tree s all nth_of zs zs2 step n m e h;
+        weekdays = storing-ends read_nday tree s all day_of ws ws2 step m d h;
+        nths = storing-ends read_nday tree s all nth_of zs zs2 step m e h;
         count = p.0;
         any = flagging-ends tree s all g h;
         fault = p.1;
@@ -166,7 +164,7 @@ pub days-absent : {ws : List ℕ} {zs : List ℤ} → DayEntries (λ l. fine [])
 unfolding any_nth first
 days-absent = record { weekdays = λ l. refl; nths = λ l. refl; count = λ l. refl; any = λ l. refl; fault = λ l. refl }
 
-pub days-wrong : {ws : List ℕ} {zs : List ℤ} {i : ℕ} → DayEntries (λ l. faulty [] 20 i) ws ws zs zs 0 false (At 20 i)
+pub days-wrong : {ws : List ℕ} {zs : List ℤ} {i : ℕ} → DayEntries (λ l. faulty [] 20 i) ws ws zs zs 0 false (Some (a_fault 20 i))
 unfolding any_nth
 days-wrong {ws} {zs} {i} = record { weekdays = λ l. refl; nths = λ l. refl; count = λ l. refl; any = λ l. refl; fault = λ l. sym (fault-here 20 i refl) }
 

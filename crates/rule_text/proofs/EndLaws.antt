@@ -1,11 +1,10 @@
 -- What ends a rule, by which of `until` and `count` are there.
+use Rattle.std.specs.Prelude.{Some, None}
 use Prim.Native.Nat.{ℕ}
 use mathlib.Core.List.{List}
 use mathlib.Core.Option.{Option, none, some}
 use mathlib.Core.Path.{◌≡◌, refl, sym, ap, ◌∙◌}
-use Rattle.fault.specs.Fault.{faults_at, lower, first}
-use Rattle.fault.specs.declared.First.{First}
-use Rattle.fault.specs.declared.First.TheVariants.{None, At}
+use Rattle.fault.specs.Fault.{faults_at, lower, first, First, a_fault}
 use Rattle.fault.proofs.Laws.{none-lower, lower-none, lower-zero, first-all, fault-here, at_none}
 use Rattle.json_tree.specs.Tree.{Json, tree_at}
 use Rattle.json_tree.proofs.Trees.{place-tree}
@@ -30,7 +29,7 @@ module _ {A : Type 0} (f : Json → Reading A) (s : List ℕ) (i : ℕ) {o : Opt
 
 -- 7 at the rule, where both are there.
 module _ (i : ℕ) {c : Option Json} (u : Option Json) where
-  both : {v w : Json} → c ≡ some v → u ≡ some w → At 7 i ≡ first (both_ends i c u)
+  both : {v w : Json} → c ≡ some v → u ≡ some w → Some (a_fault 7 i) ≡ first (both_ends i c u)
   unfolding both_ends
   both p q = rw (p, q) (sym (fault-here 7 i refl))
 
@@ -42,7 +41,7 @@ module _ (i : ℕ) {c : Option Json} (u : Option Json) where
   unfolding both_ends first
   no-until p q = rw (p, q)
 
-never : {P : Type 0} (x y : First) (i : ℕ) → lower x (lower y (At 7 i)) ≡ None → P
+never : {P : Type 0} (x y : First) (i : ℕ) → lower x (lower y (Some (a_fault 7 i))) ≡ None → P
 never x y i e = absurd (at_none 7 i (lower-zero y _ (lower-zero x _ e).1).1)
 
 module _ (s : List ℕ) (i : ℕ) where
@@ -52,9 +51,9 @@ module _ (s : List ℕ) (i : ℕ) where
 
   pub ends-both : (u c : ℕ) {a b : ℕ} {x y k n : First} → ((l : ℕ) → member_at l s i (ascii "until") ≡ some (tree_at l s u)) → ((l : ℕ) → member_at l s i (ascii "count") ≡ some (tree_at l s c))
       → ((l : ℕ) → a ≡ (read_until (tree_at l s u)).fault) → ((l : ℕ) → b ≡ (read_count (tree_at l s c)).fault) → x ≡ first (faults_at a u) → y ≡ first (faults_at b c)
-      → k ≡ lower y (At 7 i) → n ≡ lower x k → EndsRead s i Never n
+      → k ≡ lower y (Some (a_fault 7 i)) → n ≡ lower x k → EndsRead s i Never n
   ends-both u c {a} {b} {x} {y} {k} {n} hu hc ha hb px py p q =
-      let all : n ≡ lower x (lower y (At 7 i)) = q ∙ ap (lower x) p in
+      let all : n ≡ lower x (lower y (Some (a_fault 7 i))) = q ∙ ap (lower x) p in
       record {
         fault = λ l. joins l all (there read_until s i l u (hu l) (ha l) px) (there read_count s i l c (hc l) (hb l) py) (both i _ (hc l) (hu l));
         until = λ z l. never x y i (sym all ∙ z);

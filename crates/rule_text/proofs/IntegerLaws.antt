@@ -6,9 +6,9 @@ use mathlib.Core.List.{List}
 use mathlib.Core.Option.{Option, none, some}
 use mathlib.Core.Path.{◌≡◌, refl, ◌∙◌}
 use native.Mathlib.Omega.{arith}
-use lib.Dec.{eqb, ltb, leb}
+use lib.Dec.{eqb, leb}
 use lib.IntN.{ℤ, pos, negsuc, nat_abs, sub_ℕ}
-use borrow.Author.Tests.{eqb-true, ne_eqb, le-leb, lt-leb, leb-true, lt-ltb, ltb-true, ltb-false}
+use borrow.Author.Tests.{eqb-true, ne_eqb, leb-true, lt-ltb}
 use Rattle.signed.proofs.Parts.{parts-eq, subℕ-parts, subℕ-pos, subℕ-neg}
 use Rattle.rule.specs.Inner.Read.{nth_from}
 use Rattle.json_text.specs.Bytes.{byte, is_digit}
@@ -17,15 +17,15 @@ use Rattle.json_tree.specs.Integers.{integer_at, whole_at}
 use Rattle.json_tree.specs.Inner.Kinds.{kind_at}
 use Rattle.json_tree.specs.declared.Kind.{Kind}
 use Rattle.json_tree.specs.declared.Integer.{Integer}
-use Rattle.json_tree.specs.declared.Integer.TheVariants.{Is, No}
-use Rattle.event.specs.Values.{of_integer, number, as_integer}
+use Rattle.std.specs.Prelude as std
+use Rattle.event.specs.Values.{of_integer, number, as_integer, sized}
 use Rattle.event.specs.Reading.{Reading, right, wrong, or_wrong}
 use Rattle.event.specs.Rules.{at_least_one, read_count, signed_up_to, read_signed}
 use Rattle.rule_text.specs.Inner.Bounds.{SizeIn}
 use Rattle.rule_text.specs.Inner.Reads.{no_integer, no_integer_at}
 
 -- No integer begins with this byte.
-other : (s : List ℕ) (i k : ℕ) → eqb k 0x2D ≡ false → is_digit k ≡ false → eqb (byte s i) k ≡ true → integer_at s i ≡ No
+other : (s : List ℕ) (i k : ℕ) → eqb k 0x2D ≡ false → is_digit k ≡ false → eqb (byte s i) k ≡ true → integer_at s i ≡ std.None
 unfolding integer_at whole_at
 other s i k p q e = rw (eqb-true (byte s i) k e, p, q)
 
@@ -58,35 +58,31 @@ module _ {B : Type 0} (b : B) (f : ℤ → Reading B) (s : List ℕ) (i : ℕ) w
   integer-at (suc l) = integer-by _ _
 
 -- The same readings by sign and size, in the order in which the code asks. k is the fault of what is no integer.
-abbrev pub count_of : ℕ → Integer → Reading ℕ
-count_of k (Is true n) = wrong 1 23
-count_of k (Is false n) = if eqb n 0 then wrong 1 23 else right n
-count_of k No = wrong 1 k
+abbrev pub count_by : Bool → ℕ → Reading ℕ
+count_by true n = wrong 1 23
+count_by false n = if eqb n 0 then wrong 1 23 else right n
 
-abbrev pub signed_of : ℕ → ℕ → Integer → Reading ℤ
-signed_of k most (Is below n) =
-    if eqb n 0 then wrong (pos 1) 23 else
-    if ltb most n then wrong (pos 1) 23 else
-    right (if below then sub_ℕ 0 n else sub_ℕ n 0)
-signed_of k most No = wrong (pos 1) k
+abbrev pub count_of : ℕ → std.Option Integer → Reading ℕ
+count_of k std.None = wrong 1 k
+count_of k (std.Some x) = count_by x.negative x.size
 
-count-of : (k : ℕ) (x : Integer) → or_wrong 1 k at_least_one (as_integer x) ≡ count_of k x
+abbrev pub signed_by : ℕ → Bool → ℕ → Reading ℤ
+signed_by most below n = if leb 1 n && leb n most then right (if below then sub_ℕ 0 n else sub_ℕ n 0) else wrong (pos 1) 23
+
+abbrev pub signed_of : ℕ → ℕ → std.Option Integer → Reading ℤ
+signed_of k most std.None = wrong (pos 1) k
+signed_of k most (std.Some x) = signed_by most x.negative x.size
+
+count-of : (k : ℕ) (x : std.Option Integer) → or_wrong 1 k at_least_one (as_integer x) ≡ count_of k x
 unfolding or_wrong at_least_one
-count-of k (Is true zero) = refl
-count-of k (Is true (suc n)) = refl
-count-of k (Is false zero) = refl
-count-of k (Is false (suc n)) = rw (ne_eqb (suc n) 0 (λ e. omega arith))
-count-of k No = refl
-
-signed-size : (most n : ℕ) (z : ℤ) → nat_abs z ≡ suc n → (t : Bool) → ltb most (suc n) ≡ t
-    → signed_up_to most z ≡ (if t then wrong (pos 1) 23 else right z)
-unfolding signed_up_to
-signed-size most n z e true t = rw (e, le-leb 1 (suc n) (omega arith), lt-leb (suc n) most (ltb-true most (suc n) t))
-signed-size most n z e false t = rw (e, le-leb 1 (suc n) (omega arith), le-leb (suc n) most (ltb-false most (suc n) t))
-
-zero-not : (most : ℕ) → signed_up_to most (pos 0) ≡ wrong (pos 1) 23
-unfolding signed_up_to
-zero-not most = refl
+count-of k std.None = refl
+count-of k (std.Some x) = go x.negative x.size
+  where
+    go : (below : Bool) (n : ℕ) → at_least_one (sized below n) ≡ count_by below n
+    go true zero = refl
+    go true (suc n) = refl
+    go false zero = refl
+    go false (suc n) = rw (ne_eqb (suc n) 0 (λ e. omega arith))
 
 below : (n : ℕ) → sub_ℕ 0 (suc n) ≡ negsuc n
 below n = parts-eq _ _ (omega (arith, subℕ-parts 0 (suc n), subℕ-pos 0 (suc n)))
@@ -94,15 +90,16 @@ below n = parts-eq _ _ (omega (arith, subℕ-parts 0 (suc n), subℕ-pos 0 (suc 
 above : (n : ℕ) → sub_ℕ (suc n) 0 ≡ pos (suc n)
 above n = parts-eq _ _ (omega (arith, subℕ-parts (suc n) 0, subℕ-neg (suc n) 0))
 
-signed-of : (k most : ℕ) (x : Integer) → or_wrong (pos 1) k (signed_up_to most) (as_integer x) ≡ signed_of k most x
-unfolding or_wrong
-signed-of k most (Is true zero) = zero-not most
-signed-of k most (Is true (suc n)) =
-    rw (ne_eqb (suc n) 0 (λ e. omega arith), below n) (signed-size most n (negsuc n) refl _ refl)
-signed-of k most (Is false zero) = zero-not most
-signed-of k most (Is false (suc n)) =
-    rw (ne_eqb (suc n) 0 (λ e. omega arith), above n) (signed-size most n (pos (suc n)) refl _ refl)
-signed-of k most No = refl
+signed-of : (k most : ℕ) (x : std.Option Integer) → or_wrong (pos 1) k (signed_up_to most) (as_integer x) ≡ signed_of k most x
+unfolding or_wrong signed_up_to
+signed-of k most std.None = refl
+signed-of k most (std.Some x) = go x.negative x.size
+  where
+    go : (b : Bool) (n : ℕ) → signed_up_to most (sized b n) ≡ signed_by most b n
+    go true zero = refl
+    go true (suc n) = rw below
+    go false zero = refl
+    go false (suc n) = rw above
 
 pub count_at : (l : ℕ) (s : List ℕ) (i : ℕ) → read_count (tree_at l s i) ≡ count_of (no_integer_at s i) (integer_at s i)
 unfolding read_count
@@ -127,7 +124,7 @@ pub signed-within : (most : ℕ) → 1 ≤ most → (v : Json) → SizeIn most (
 unfolding read_signed of_integer or_wrong
 signed-within most h v = go (number v)
   where
-    go : (n : Option Integer) → SizeIn most (or_wrong (pos 1) 20 (λ (n : Integer). or_wrong (pos 1) 23 (signed_up_to most) (as_integer n)) n).value
+    go : (n : Option (std.Option Integer)) → SizeIn most (or_wrong (pos 1) 20 (λ (n : std.Option Integer). or_wrong (pos 1) 23 (signed_up_to most) (as_integer n)) n).value
     go none = judged most h 20 none
     go (some n) = judged most h 23 (as_integer n)
 

@@ -1,17 +1,16 @@
 -- Faults joined, and parted again: no fault of the whole is none of a part.
-use Rattle.std.specs.Prelude.{if◌then◌else◌}
+use Rattle.std.specs.Prelude.{if◌then◌else◌, Some, None}
 use Prim.Native.Nat.{ℕ}
 use mathlib.Core.Bool.{Bool, true, false}
 use mathlib.Core.List.{List, [], ◌∷◌, ◌++◌}
 use mathlib.Core.Path.{◌≡◌, refl, ap, ◌∙◌}
-use Rattle.fault.specs.Fault.{Fault, faults_at, all_of, lower, first}
-use Rattle.fault.specs.declared.First.{First}
-use Rattle.fault.specs.declared.First.TheVariants.{None, At}
+use Rattle.fault.specs.declared.Fault.{Fault}
+use Rattle.fault.specs.Fault.{faults_at, all_of, lower, first, First, a_fault}
 use Rattle.fault.proofs.Laws.{lower-none, lower-zero, first-append, first_part, first-groups, fault-here}
 use Rattle.rule_text.specs.Inner.Parts.{joined}
 
 -- 9 joins where a limit is passed.
-pub first-limit : (c : Bool) (at : ℕ) (l : List Fault) → first (l ++ (if c then faults_at 9 at else [])) ≡ (if c then lower (first l) (At 9 at) else first l)
+pub first-limit : (c : Bool) (at : ℕ) (l : List Fault) → first (l ++ (if c then faults_at 9 at else [])) ≡ (if c then lower (first l) (Some (a_fault 9 at)) else first l)
 first-limit true at l = first-append l (faults_at 9 at) ∙ ap (lower (first l)) (fault-here 9 at refl)
 first-limit false at l = first-append l [] ∙ (unfold first in lower-none (first l))
 

@@ -1,5 +1,5 @@
 -- A by-list at a place is the tree's.
-use Rattle.std.specs.Prelude.{if◌then◌else◌}
+use Rattle.std.specs.Prelude.{if◌then◌else◌, Some, None}
 use Prim.Native.Nat.{ℕ, suc, ◌<◌}
 use mathlib.Core.Bool.{Bool, true, false}
 use mathlib.Core.List.{List, [], ◌∷◌}
@@ -10,9 +10,7 @@ use lib.Dec.{eqb, ltb}
 use lib.ListN.{length}
 use lib.Seq.{length-sets}
 use borrow.Author.Tests.{eqb-true, ne_eqb}
-use Rattle.fault.specs.Fault.{first}
-use Rattle.fault.specs.declared.First.{First}
-use Rattle.fault.specs.declared.First.TheVariants as fault
+use Rattle.fault.specs.Fault.{first, First, a_fault}
 use Rattle.fault.proofs.Laws.{fault-here}
 use Rattle.json_text.specs.Bytes.{byte}
 use Rattle.json_walk.specs.Walk.{members_of, elements_of}
@@ -22,8 +20,7 @@ use Rattle.json_tree.specs.Inner.Members.{find_in}
 use Rattle.property.proofs.RowLaws.{member-place}
 use Rattle.property.specs.Inner.From.{value_in}
 use Rattle.property.specs.Inner.Rows.{placed}
-use Rattle.property.specs.declared.Place as property
-use Rattle.property.specs.declared.Place.TheVariants as place
+use Rattle.property.specs.Inner.Place as property
 use Rattle.event.specs.Values.{array, object, list_of}
 use Rattle.event.specs.Reading.{Judged, fine, faulty, inside, present, read_all, limited}
 use Rattle.event.specs.Rules.{entries_of, by_list}
@@ -71,8 +68,8 @@ module _ {A : Type 0} (f : Json → Judged A) (l : ℕ) (s : List ℕ) where
 
   found-place : (found : property.Place) → by_list f (value_in (suc l) s found) ≡ list_at f l s (list_place s found)
   unfolding by_list present list_place
-  found-place (place.At i) = rw (place-tree (suc l) s i) (array-place i _ refl)
-  found-place place.None = refl
+  found-place (Some i) = rw (place-tree (suc l) s i) (array-place i _ refl)
+  found-place None = refl
 
   pub by_place : (i : ℕ) (name : List ℕ) → by_list f (member_at (suc l) s i name) ≡ list_at f l s (list_place s (placed (find_in s name (members_of s i))))
   by_place i name = rw (member-place (suc l) s name (members_of s i)) (found-place (placed (find_in s name (members_of s i))))
@@ -108,11 +105,11 @@ entries-limited f at vs h e =
     }
 
 -- A list that is absent stores nothing, and so does a value that is no list.
-pub entries-absent : {A : Type 0} {before : List A} → Entries (λ l. fine []) before before 0 fault.None
+pub entries-absent : {A : Type 0} {before : List A} → Entries (λ l. fine []) before before 0 None
 unfolding first
 entries-absent = record { list = λ l. refl; count = λ l. refl; fault = λ l. refl }
 
-pub entries-wrong : {A : Type 0} {before : List A} {i : ℕ} → Entries (λ l. faulty [] 20 i) before before 0 (fault.At 20 i)
+pub entries-wrong : {A : Type 0} {before : List A} {i : ℕ} → Entries (λ l. faulty [] 20 i) before before 0 (Some (a_fault 20 i))
 entries-wrong {A} {before} {i} = record { list = λ l. refl; count = λ l. refl; fault = λ l. sym (fault-here 20 i refl) }
 
 pub entries-length : {A : Type 0} {tree : ℕ → Judged (List A)} {before after : List A} {m : ℕ} {n : First} → Entries tree before after m n → length after ≡ length before

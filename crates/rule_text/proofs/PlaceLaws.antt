@@ -1,14 +1,12 @@
 -- Lists of rules: their faults, and their rules by the places where they stand.
-use Rattle.std.specs.Prelude.{if◌then◌else◌}
+use Rattle.std.specs.Prelude.{if◌then◌else◌, None}
 use Prim.Native.Nat.{ℕ, zero, suc, ◌≤◌, ◌<◌}
 use mathlib.Core.Bool.{Bool, true, false}
 use mathlib.Core.List.{List, [], ◌∷◌, ◌++◌, map}
 use mathlib.Core.Path.{◌≡◌, refl, sym, ap, ◌∙◌}
 use lib.Dec.{eqb, ltb}
 use lib.ListN.{length, get_or, take, length-map}
-use Rattle.fault.specs.Fault.{faults_at, first}
-use Rattle.fault.specs.declared.First.{First}
-use Rattle.fault.specs.declared.First.TheVariants.{None}
+use Rattle.fault.specs.Fault.{faults_at, first, First}
 use Rattle.fault.proofs.Laws.{append-none}
 use Rattle.rule_text.proofs.JoinLaws.{first-limit}
 use Rattle.rule_text.specs.Inner.Bounds.{All, nil, more}

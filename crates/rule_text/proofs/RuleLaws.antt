@@ -1,5 +1,5 @@
 -- A rule from its parts.
-use Rattle.std.specs.Prelude.{if◌then◌else◌}
+use Rattle.std.specs.Prelude.{if◌then◌else◌, Some, None}
 use Prim.Native.Nat.{ℕ, suc, ◌<◌}
 use mathlib.Core.Bool.{Bool, true, false}
 use mathlib.Core.List.{List, []}
@@ -8,9 +8,7 @@ use mathlib.Core.Path.{◌≡◌, refl, sym, ap₂, ◌∙◌}
 use native.Mathlib.Omega.{arith}
 use lib.Dec.{eqb}
 use lib.IntN.{ℤ}
-use Rattle.fault.specs.Fault.{faults_at, first}
-use Rattle.fault.specs.declared.First.{First}
-use Rattle.fault.specs.declared.First.TheVariants.{None, At}
+use Rattle.fault.specs.Fault.{faults_at, first, First, a_fault}
 use Rattle.fault.proofs.Laws.{fault-here, at_none}
 use Rattle.json_text.specs.Bytes.{byte}
 use Rattle.json_walk.specs.Strings.{same}
@@ -56,7 +54,7 @@ first_below (some v) = weekday-below v
 
 -- ---- joined
 
-nth-where : (at : ℕ) (c : Bool) → first (if c then faults_at 7 at else []) ≡ (if c then At 7 at else None)
+nth-where : (at : ℕ) (c : Bool) → first (if c then faults_at 7 at else []) ≡ (if c then Some (a_fault 7 at) else None)
 unfolding first
 nth-where at true = fault-here 7 at refl
 nth-where at false = refl
@@ -161,7 +159,7 @@ module _ (s : List ℕ) (i : ℕ) where
         sized = h.sized;
       }
 
-  pub rule-absent : {r : Rule} → eqb (byte s i) 0x7B ≡ false → written r ≡ stand_in → RuleRead s i r (At 20 i)
+  pub rule-absent : {r : Rule} → eqb (byte s i) 0x7B ≡ false → written r ≡ stand_in → RuleRead s i r (Some (a_fault 20 i))
   rule-absent e h =
       record {
         fault = λ l. rw (rule-not e l) (sym (fault-here 20 i refl));

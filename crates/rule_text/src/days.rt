@@ -7,14 +7,13 @@ ghost use Rattle.event.specs.Rules.{read_nday};
 ghost use Rattle.rule_text.specs.Inner.Reads.{entries_at};
 ghost use Rattle.rule_text.specs.Inner.Lists.{is_some, DayReads, DayEntries};
 
-use crate::entries::{put, put_name};
+use crate::entries::put;
 use crate::members::{day_in, nth_in, type_in};
 use crate::spelled::{fault_of, number_of};
 use crate::{DayRead, DaysListed, Object};
-use fault::{First, lower};
+use fault::{fault_at, lower};
 use json_ends::arrays::{first_element, next_element};
 use json_text::bytes::byte;
-use json_walk::ElementStep;
 use property::rows::{fault_in, fill, join_in};
 use property::vocabulary::{DAY, NTH, TYPE};
 use signed::{negative_part, positive_part};
@@ -28,7 +27,7 @@ fn read_nday(text: &[u8], ends: &[u32], at: usize) -> DayRead
         return DayRead {
             weekday: 0,
             nth: 0,
-            fault: First::At(20, at),
+            fault: fault_at(20, at),
         };
     }
     let mut row = [0usize; 3];
@@ -49,13 +48,7 @@ fn read_nday(text: &[u8], ends: &[u32], at: usize) -> DayRead
 fn or_nth(any: bool, nth: i64) -> bool
     ensures { result ≡ (any || is_some (nth_from nth)) }
 {
-    if any {
-        return true;
-    }
-    if 0 < positive_part(nth) {
-        return true;
-    }
-    0 < negative_part(nth)
+    any || (0 < positive_part(nth) || 0 < negative_part(nth))
 }
 
 pub(crate) fn day_entries(
@@ -69,25 +62,22 @@ pub(crate) fn day_entries(
     ensures { DayEntries (λ l. entries_at read_nday (suc l) text.now at) weekdays.old weekdays.new nths.old nths.new result.count result.nth result.fault }
 {
     let mut step = first_element(text, ends, at);
-    let mut n = text.len();
-    let mut count = 0;
     let mut nth = false;
-    let mut fault = First::None;
-    while 0 < n {
-        match step {
-            ElementStep::Next(e) => {
-                let one = read_nday(text, ends, e.value);
-                put_name(weekdays, count, one.weekday);
-                put(nths, count, one.nth);
-                nth = or_nth(nth, one.nth);
-                let f = one.fault;
-                fault = lower(fault, f);
-                step = next_element(text, ends, e.after);
-            }
-            ElementStep::Stop => return DaysListed { count, nth, fault },
-        }
-        count += 1;
-        n -= 1;
+    let mut fault = None;
+    for count in 0..text.len() {
+        let Some(e) = step else {
+            return DaysListed { count, nth, fault };
+        };
+        let one = read_nday(text, ends, e.value);
+        put(weekdays, count, one.weekday);
+        put(nths, count, one.nth);
+        nth = or_nth(nth, one.nth);
+        fault = lower(fault, one.fault);
+        step = next_element(text, ends, e.after);
     }
-    DaysListed { count, nth, fault }
+    DaysListed {
+        count: text.len(),
+        nth,
+        fault,
+    }
 }

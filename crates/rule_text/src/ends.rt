@@ -7,8 +7,7 @@ ghost use Rattle.rule_text.specs.Inner.Parts.{EndsRead};
 use crate::Ending;
 use crate::numbers::count;
 use date_time::DateTime;
-use fault::{First, fault_at, lower};
-use property::Place;
+use fault::{fault_at, join_at, lower};
 use property::dates::read_until;
 use property::rows::place;
 use property::vocabulary::{COUNT, UNTIL};
@@ -37,37 +36,32 @@ pub(crate) fn read_ends(text: &[u8], at: usize, row: &[usize]) -> Ending
     requires { RowTo 34 text.now at row.now }
     ensures { EndsRead text.now at result.end result.fault }
 {
-    let until = place(text, at, row, UNTIL);
-    match place(text, at, row, COUNT) {
-        Place::At(c) => {
-            let n = count(text, c);
-            match until {
-                Place::At(u) => {
-                    let x = fault_at(until_fault(read_until(text, u)), u);
-                    let y = fault_at(n.fault, c);
-                    Ending {
-                        end: End::Never,
-                        fault: lower(x, lower(y, First::At(7, at))),
-                    }
-                }
-                Place::None => Ending {
-                    end: End::Count(n.value),
-                    fault: fault_at(n.fault, c),
-                },
+    match (place(text, at, row, UNTIL), place(text, at, row, COUNT)) {
+        (Some(u), Some(c)) => {
+            let x = fault_at(until_fault(read_until(text, u)), u);
+            let y = fault_at(count(text, c).fault, c);
+            Ending {
+                end: End::Never,
+                fault: lower(x, join_at(y, 7, at)),
             }
         }
-        Place::None => match until {
-            Place::At(u) => {
-                let x = read_until(text, u);
-                Ending {
-                    end: End::Until(until_time(x)),
-                    fault: fault_at(until_fault(x), u),
-                }
+        (None, Some(c)) => {
+            let n = count(text, c);
+            Ending {
+                end: End::Count(n.value),
+                fault: fault_at(n.fault, c),
             }
-            Place::None => Ending {
-                end: End::Never,
-                fault: First::None,
-            },
+        }
+        (Some(u), None) => {
+            let x = read_until(text, u);
+            Ending {
+                end: End::Until(until_time(x)),
+                fault: fault_at(until_fault(x), u),
+            }
+        }
+        (None, None) => Ending {
+            end: End::Never,
+            fault: None,
         },
     }
 }

@@ -41,14 +41,14 @@ pub struct Signed {
 pub struct DayRead {
     pub weekday: u32,
     pub nth: i64,
-    pub fault: fault::First,
+    pub fault: Option<fault::Fault>,
 }
 
 // How many entries a list has, and the fault that decides in it.
 #[derive(Clone, Copy)]
 pub struct Listed {
     pub count: usize,
-    pub fault: fault::First,
+    pub fault: Option<fault::Fault>,
 }
 
 // The same of byDay, and whether some entry has an nthOfPeriod.
@@ -56,7 +56,7 @@ pub struct Listed {
 pub struct DaysListed {
     pub count: usize,
     pub nth: bool,
-    pub fault: fault::First,
+    pub fault: Option<fault::Fault>,
 }
 
 // Where a by-list stands: none may be written, or a value that is no array, whose place is given too.
@@ -72,14 +72,14 @@ pub enum Place {
 pub struct NumberList {
     pub list: [i64; 64],
     pub count: usize,
-    pub fault: fault::First,
+    pub fault: Option<fault::Fault>,
 }
 
 #[derive(Clone, Copy)]
 pub struct MonthList {
     pub list: [u32; 64],
     pub count: usize,
-    pub fault: fault::First,
+    pub fault: Option<fault::Fault>,
 }
 
 // byDay: weekdays and beside each its nthOfPeriod, and whether some entry has one.
@@ -89,7 +89,7 @@ pub struct DayList {
     pub nths: [i64; 64],
     pub count: usize,
     pub any: bool,
-    pub fault: fault::First,
+    pub fault: Option<fault::Fault>,
 }
 
 // The first members of a rule, and the fault that decides in them.
@@ -98,19 +98,19 @@ pub struct Head {
     pub frequency: rule::Frequency,
     pub interval: u64,
     pub first: u32,
-    pub fault: fault::First,
+    pub fault: Option<fault::Fault>,
 }
 
 // What ends a rule, and its fault.
 #[derive(Clone, Copy)]
 pub struct Ending {
     pub end: rule::End,
-    pub fault: fault::First,
+    pub fault: Option<fault::Fault>,
 }
 
 // A rule that was read, and its fault. Where it has one the rule does not matter.
 #[derive(Clone, Copy)]
 pub struct Read {
     pub rule: rule::Rule,
-    pub fault: fault::First,
+    pub fault: Option<fault::Fault>,
 }

@@ -15,7 +15,7 @@ ghost use Rattle.rule_text.specs.Inner.Lists.{Placed, list_fault, DayEntries};
 use crate::days::day_entries;
 use crate::entries::{month_entries, signed_entries};
 use crate::{DaysListed, Listed, Place};
-use fault::{First, lower};
+use fault::{Fault, fault_at, join_at};
 use json_text::bytes::byte;
 use property::rows::place;
 use property::vocabulary::{BY_DAY, BY_MONTH};
@@ -26,25 +26,26 @@ fn list_in(text: &[u8], at: usize, row: &[usize], word: usize) -> Place
     ensures { Placed text.now (placed (find_in text.now (word_of word) (members_of text.now at))) result }
 {
     match place(text, at, row, word) {
-        property::Place::At(value) => {
+        Some(value) => {
             if byte(text, value) == 0x5B {
                 return Place::At(value);
             }
             Place::Wrong(value)
         }
-        property::Place::None => Place::Absent,
+        None => Place::Absent,
     }
 }
 
 // The fault of a list with so many entries at a place, of whose entries' own the one that decides is given.
-fn list_fault(count: usize, at: usize, fault: First) -> First
+#[tactic(auto, unfolding(crate::specs::Inner::Lists::list_fault, fault::specs::Fault::faults_at, fault::specs::Fault::first, fault::specs::Fault::lower))]
+fn list_fault(count: usize, at: usize, fault: Option<Fault>) -> Option<Fault>
     ensures { result ≡ list_fault count at fault }
 {
     if count == 0 {
-        return First::At(25, at);
+        return fault_at(25, at);
     }
     if 64 < count {
-        return lower(fault, First::At(9, at));
+        return join_at(fault, 9, at);
     }
     fault
 }
@@ -73,11 +74,11 @@ pub(crate) fn signed_list(
         }
         Place::Absent => Listed {
             count: 0,
-            fault: First::None,
+            fault: None,
         },
         Place::Wrong(i) => Listed {
             count: 0,
-            fault: First::At(20, i),
+            fault: fault_at(20, i),
         },
     }
 }
@@ -104,11 +105,11 @@ pub(crate) fn month_list(
         }
         Place::Absent => Listed {
             count: 0,
-            fault: First::None,
+            fault: None,
         },
         Place::Wrong(i) => Listed {
             count: 0,
-            fault: First::At(20, i),
+            fault: fault_at(20, i),
         },
     }
 }
@@ -138,12 +139,12 @@ pub(crate) fn day_list(
         Place::Absent => DaysListed {
             count: 0,
             nth: false,
-            fault: First::None,
+            fault: None,
         },
         Place::Wrong(i) => DaysListed {
             count: 0,
             nth: false,
-            fault: First::At(20, i),
+            fault: fault_at(20, i),
         },
     }
 }

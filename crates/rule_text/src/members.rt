@@ -15,9 +15,8 @@ ghost use Rattle.property.specs.Inner.Vocabulary.{word_of};
 use crate::numbers::{count, signed_up_to};
 use crate::spelled::{read_frequency, read_scale, read_skip, read_type, read_weekday};
 use crate::{Number, Object, Signed};
-use fault::{First, lower};
+use fault::{Fault, fault_at, lower};
 use keywords::{Named, Rate};
-use property::Place;
 use property::rows::place;
 use property::vocabulary::{DAY, FIRST_DAY, FREQUENCY, INTERVAL, NTH, RSCALE, SKIP, TYPE};
 
@@ -27,8 +26,8 @@ pub(crate) fn type_in(text: &[u8], at: usize, row: &[usize], object: Object) -> 
     ensures { (l : ℕ) → result ≡ (required true (read_type (type_of object)) (member_at l text.now at (ascii "@type"))).fault }
 {
     match place(text, at, row, TYPE) {
-        Place::At(i) => read_type(text, i, object),
-        Place::None => 26,
+        Some(i) => read_type(text, i, object),
+        None => 26,
     }
 }
 
@@ -37,8 +36,8 @@ pub(crate) fn frequency_in(text: &[u8], at: usize, row: &[usize]) -> Rate
     ensures { (l : ℕ) → from_rate result ≡ required Yearly read_frequency (member_at l text.now at (ascii "frequency")) }
 {
     match place(text, at, row, FREQUENCY) {
-        Place::At(i) => read_frequency(text, i),
-        Place::None => Rate::Fault(26),
+        Some(i) => read_frequency(text, i),
+        None => Rate::Fault(26),
     }
 }
 
@@ -47,8 +46,8 @@ pub(crate) fn interval_in(text: &[u8], at: usize, row: &[usize]) -> Number
     ensures { Reads (λ l. optional 1 read_count (member_at l text.now at (ascii "interval"))) result.value result.fault }
 {
     match place(text, at, row, INTERVAL) {
-        Place::At(i) => count(text, i),
-        Place::None => Number { value: 1, fault: 0 },
+        Some(i) => count(text, i),
+        None => Number { value: 1, fault: 0 },
     }
 }
 
@@ -57,8 +56,8 @@ pub(crate) fn first_in(text: &[u8], at: usize, row: &[usize]) -> Named
     ensures { (l : ℕ) → from_named result ≡ optional 0 read_weekday (member_at l text.now at (ascii "firstDayOfWeek")) }
 {
     match place(text, at, row, FIRST_DAY) {
-        Place::At(i) => read_weekday(text, i),
-        Place::None => Named::Number(0),
+        Some(i) => read_weekday(text, i),
+        None => Named::Number(0),
     }
 }
 
@@ -67,8 +66,8 @@ pub(crate) fn day_in(text: &[u8], at: usize, row: &[usize]) -> Named
     ensures { (l : ℕ) → from_named result ≡ required 0 read_weekday (member_at l text.now at (ascii "day")) }
 {
     match place(text, at, row, DAY) {
-        Place::At(i) => read_weekday(text, i),
-        Place::None => Named::Wrong(26),
+        Some(i) => read_weekday(text, i),
+        None => Named::Wrong(26),
     }
 }
 
@@ -78,8 +77,8 @@ pub(crate) fn nth_in(text: &[u8], at: usize, row: &[usize]) -> Signed
     ensures { Reads (λ l. read_nth (member_at l text.now at (ascii "nthOfPeriod"))) (nth_from result.value) result.fault }
 {
     match place(text, at, row, NTH) {
-        Place::At(i) => signed_up_to(text, i, 53),
-        Place::None => Signed { value: 0, fault: 0 },
+        Some(i) => signed_up_to(text, i, 53),
+        None => Signed { value: 0, fault: 0 },
     }
 }
 
@@ -88,8 +87,8 @@ pub(crate) fn scale_in(text: &[u8], at: usize, row: &[usize]) -> u32
     ensures { (l : ℕ) → result ≡ (optional true read_scale (member_at l text.now at (ascii "rscale"))).fault }
 {
     match place(text, at, row, RSCALE) {
-        Place::At(i) => read_scale(text, i),
-        Place::None => 0,
+        Some(i) => read_scale(text, i),
+        None => 0,
     }
 }
 
@@ -98,8 +97,8 @@ pub(crate) fn skip_in(text: &[u8], at: usize, row: &[usize]) -> u32
     ensures { (l : ℕ) → result ≡ (optional true read_skip (member_at l text.now at (ascii "skip"))).fault }
 {
     match place(text, at, row, SKIP) {
-        Place::At(i) => read_skip(text, i),
-        Place::None => 0,
+        Some(i) => read_skip(text, i),
+        None => 0,
     }
 }
 
@@ -109,13 +108,13 @@ pub(crate) fn unsupported_in(
     at: usize,
     row: &[usize],
     word: usize,
-    others: First,
-) -> First
+    others: Option<Fault>,
+) -> Option<Fault>
     requires { RowTo (word + 1) text.now at row.now }
     ensures { (l : ℕ) → result ≡ fault_lower (first (unsupported (member_at l text.now at (word_of word)))) others }
 {
     match place(text, at, row, word) {
-        Place::At(i) => lower(First::At(8, i), others),
-        Place::None => others,
+        Some(i) => lower(fault_at(8, i), others),
+        None => others,
     }
 }

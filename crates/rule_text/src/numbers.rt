@@ -5,9 +5,9 @@ ghost use Rattle.event.specs.Rules.{read_count, read_signed};
 ghost use Rattle.rule_text.specs.Inner.Reads.{Reads, no_integer_at};
 
 use crate::{Number, Signed};
+use json_tree::Kind;
 use json_tree::integers::integer;
 use json_tree::kinds::kind;
-use json_tree::{Integer, Kind};
 use signed::difference;
 
 // What is wrong with a value that is no integer in range: a number is 23, any other value 20.
@@ -16,12 +16,7 @@ fn no_integer(text: &[u8], at: usize) -> u32
 {
     match kind(text, at) {
         Kind::Number => 23,
-        Kind::Null => 20,
-        Kind::False => 20,
-        Kind::True => 20,
-        Kind::String => 20,
-        Kind::Array => 20,
-        Kind::Object => 20,
+        _ => 20,
     }
 }
 
@@ -30,25 +25,15 @@ pub(crate) fn count(text: &[u8], at: usize) -> Number
     ensures { Reads (λ l. read_count (tree_at l text.now at)) result.value result.fault }
 {
     match integer(text, at) {
-        Integer::Is(below, size) => {
-            if below {
-                return Number {
-                    value: 1,
-                    fault: 23,
-                };
-            }
-            if size == 0 {
-                return Number {
-                    value: 1,
-                    fault: 23,
-                };
-            }
-            Number {
-                value: size,
-                fault: 0,
-            }
-        }
-        Integer::No => Number {
+        Some(n) if !n.negative && n.size != 0 => Number {
+            value: n.size,
+            fault: 0,
+        },
+        Some(_) => Number {
+            value: 1,
+            fault: 23,
+        },
+        None => Number {
             value: 1,
             fault: no_integer(text, at),
         },
@@ -60,31 +45,19 @@ pub(crate) fn signed_up_to(text: &[u8], at: usize, most: u32) -> Signed
     ensures { Reads (λ l. read_signed most (tree_at l text.now at)) result.value result.fault }
 {
     match integer(text, at) {
-        Integer::Is(below, size) => {
-            if size == 0 {
-                return Signed {
-                    value: 1,
-                    fault: 23,
-                };
-            }
-            if (most as u64) < size {
-                return Signed {
-                    value: 1,
-                    fault: 23,
-                };
-            }
-            if below {
-                return Signed {
-                    value: difference(0, size),
-                    fault: 0,
-                };
-            }
-            Signed {
-                value: difference(size, 0),
-                fault: 0,
-            }
-        }
-        Integer::No => Signed {
+        Some(n) if 1 <= n.size && n.size <= u64::from(most) => Signed {
+            value: if n.negative {
+                difference(0, n.size)
+            } else {
+                difference(n.size, 0)
+            },
+            fault: 0,
+        },
+        Some(_) => Signed {
+            value: 1,
+            fault: 23,
+        },
+        None => Signed {
             value: 1,
             fault: no_integer(text, at),
         },

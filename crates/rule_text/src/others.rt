@@ -7,23 +7,23 @@ ghost use Rattle.property.specs.Inner.From.{fields_in};
 ghost use Rattle.rule_text.specs.Inner.Parts.{other_faults, nth_fault, joined};
 
 use crate::members::{scale_in, skip_in, unsupported_in};
-use fault::{First, lower};
+use fault::{Fault, fault_at, lower};
 use property::rows::join_in;
 use property::vocabulary::{BY_HOUR, BY_MINUTE, BY_SECOND, BY_WEEK_NO, BY_YEAR_DAY, RSCALE, SKIP};
 use rule::Frequency;
 
-fn unsupported_lists(text: &[u8], at: usize, row: &[usize]) -> First
+fn unsupported_lists(text: &[u8], at: usize, row: &[usize]) -> Option<Fault>
     requires { RowTo 34 text.now at row.now }
     ensures { (l : ℕ) → result ≡ first (unsupported_lists (fields_in l text.now at)) }
 {
-    let second = unsupported_in(text, at, row, BY_SECOND, First::None);
+    let second = unsupported_in(text, at, row, BY_SECOND, None);
     let minute = unsupported_in(text, at, row, BY_MINUTE, second);
     let hour = unsupported_in(text, at, row, BY_HOUR, minute);
     let week = unsupported_in(text, at, row, BY_WEEK_NO, hour);
     unsupported_in(text, at, row, BY_YEAR_DAY, week)
 }
 
-pub(crate) fn other_fault(text: &[u8], at: usize, row: &[usize]) -> First
+pub(crate) fn other_fault(text: &[u8], at: usize, row: &[usize]) -> Option<Fault>
     requires { RowTo 34 text.now at row.now }
     ensures { (l : ℕ) → result ≡ first (other_faults l text.now at) }
 {
@@ -33,31 +33,32 @@ pub(crate) fn other_fault(text: &[u8], at: usize, row: &[usize]) -> First
 }
 
 // An nthOfPeriod under weekly or daily, in the rule at a place.
-pub(crate) fn nth_fault(at: usize, frequency: Frequency, any: bool) -> First
+#[tactic(auto, unfolding(fault::specs::Fault::faults_at, fault::specs::Fault::first, fault::specs::Fault::lower))]
+pub(crate) fn nth_fault(at: usize, frequency: Frequency, any: bool) -> Option<Fault>
     ensures { result ≡ nth_fault at frequency any }
 {
     if !any {
-        return First::None;
+        return None;
     }
     match frequency {
-        Frequency::Daily => First::At(7, at),
-        Frequency::Weekly => First::At(7, at),
-        Frequency::Monthly => First::None,
-        Frequency::Yearly => First::None,
+        Frequency::Daily => fault_at(7, at),
+        Frequency::Weekly => fault_at(7, at),
+        Frequency::Monthly => None,
+        Frequency::Yearly => None,
     }
 }
 
 // The faults of the parts of a rule, joined.
 pub(crate) fn join(
-    head: First,
-    days: First,
-    dates: First,
-    months: First,
-    positions: First,
-    ends: First,
-    nth: First,
-    other: First,
-) -> First
+    head: Option<Fault>,
+    days: Option<Fault>,
+    dates: Option<Fault>,
+    months: Option<Fault>,
+    positions: Option<Fault>,
+    ends: Option<Fault>,
+    nth: Option<Fault>,
+    other: Option<Fault>,
+) -> Option<Fault>
     ensures { result ≡ joined head days dates months positions ends nth other }
 {
     let last = lower(ends, lower(nth, other));

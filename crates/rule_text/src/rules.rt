@@ -15,10 +15,9 @@ use crate::ends::read_ends;
 use crate::heads::read_head;
 use crate::others::{join, nth_fault, other_fault};
 use crate::{Listed, Read};
-use fault::{First, lower};
+use fault::{Fault, fault_at, join_at, lower};
 use json_ends::arrays::{first_element, next_element};
 use json_text::bytes::byte;
-use json_walk::ElementStep;
 use property::rows::fill;
 use property::vocabulary::{BY_MONTH_DAY, BY_SET_POSITION};
 use rule::{End, Frequency, Rule};
@@ -107,7 +106,7 @@ pub fn read_rule(text: &[u8], ends: &[u32], at: usize) -> Read
     if byte(text, at) != 0x7B {
         return Read {
             rule: stand_in(),
-            fault: First::At(20, at),
+            fault: fault_at(20, at),
         };
     }
     rule_in(text, ends, at)
@@ -119,42 +118,39 @@ fn rule_entries(text: &[u8], ends: &[u32], at: usize) -> Listed
     ensures { Tally (λ l. entries_at read_rule (suc (suc (suc l))) text.now at) result.count result.fault }
 {
     let mut step = first_element(text, ends, at);
-    let mut n = text.len();
-    let mut count = 0;
-    let mut fault = First::None;
-    while 0 < n {
-        match step {
-            ElementStep::Next(e) => {
-                let one = read_rule(text, ends, e.value);
-                let f = one.fault;
-                fault = lower(fault, f);
-                step = next_element(text, ends, e.after);
-            }
-            ElementStep::Stop => return Listed { count, fault },
-        }
-        count += 1;
-        n -= 1;
+    let mut fault = None;
+    for count in 0..text.len() {
+        let Some(e) = step else {
+            return Listed { count, fault };
+        };
+        let one = read_rule(text, ends, e.value);
+        fault = lower(fault, one.fault);
+        step = next_element(text, ends, e.after);
     }
-    Listed { count, fault }
+    Listed {
+        count: text.len(),
+        fault,
+    }
 }
 
 // The fault of a list with so many rules at a place, of whose rules' own the one that decides is given.
-fn limit(count: usize, at: usize, fault: First) -> First
+#[tactic(auto, unfolding(crate::specs::Inner::Places::rules_fault, fault::specs::Fault::faults_at, fault::specs::Fault::first, fault::specs::Fault::lower))]
+fn limit(count: usize, at: usize, fault: Option<Fault>) -> Option<Fault>
     ensures { result ≡ rules_fault count at fault }
 {
     if 8 < count {
-        return lower(fault, First::At(9, at));
+        return join_at(fault, 9, at);
     }
     fault
 }
 
 // The fault of a list of rules.
-pub fn rules_fault(text: &[u8], ends: &[u32], at: usize) -> First
+pub fn rules_fault(text: &[u8], ends: &[u32], at: usize) -> Option<Fault>
     requires { Ends text.now ends.now }
     ensures { (l : ℕ) → result ≡ first (read_rules (tree_at (suc (suc (suc (suc l)))) text.now at)).faults }
 {
     if byte(text, at) != 0x5B {
-        return First::At(20, at);
+        return fault_at(20, at);
     }
     let all = rule_entries(text, ends, at);
     let f = all.fault;

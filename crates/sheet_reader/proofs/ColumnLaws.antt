@@ -1,12 +1,12 @@
 -- A lent slice that is filled from its first element on.
-use Prim.Native.Nat.{ℕ, zero, suc, ◌+◌, ◌*◌, ◌-◌, ◌<◌, ◌≤◌}
+use Prim.Native.Nat.{ℕ, zero, suc, ◌+◌, ◌*◌, ◌<◌}
 use mathlib.Core.List.{List, [], ◌∷◌, ◌++◌}
 use mathlib.Core.Path.{◌≡◌, refl, sym, ap, ◌∙◌}
 use native.Mathlib.Nat.{add-zero}
 use native.Mathlib.Numerals.{add-one}
 use native.Mathlib.Omega.{arith}
 use lib.ListN.{length, set, take}
-use lib.Seq.{take_all, take-suc-set}
+use lib.Seq.{take-suc-set}
 use Rattle.little_endian.specs.Bytes.{number_at, signed_of}
 use Rattle.sheet.specs.Runs.{tabulate}
 use Rattle.sheet.specs.Records.{id_at, start_at, end_at}
@@ -24,11 +24,6 @@ module _ {A : Type 0} (f : ℕ → A) where
 
   pub column-more : (l : List A) (k i : ℕ) → i < length l → take i l ≡ tabulate f k i → take (i + 1) (set l i (f (k + i))) ≡ tabulate f k (i + 1)
   column-more l k i h e = rw add-one (take-suc-set l i (f (k + i)) h ∙ (ap (λ (m : List A). m ++ (f (k + i) ∷ [])) e ∙ sym (tab-snoc k i)))
-
-  pub column-done : (l : List A) (n k i : ℕ) → length l ≡ n → i ≤ length l → length l ≤ i → take i l ≡ tabulate f k i → l ≡ tabulate f k n
-  column-done l n k i same p q e =
-      let all : i ≡ n = omega arith in
-      sym (take_all i l q) ∙ (e ∙ ap (tabulate f k) all)
 
 -- ---- the numbers by their places
 

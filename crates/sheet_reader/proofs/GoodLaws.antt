@@ -1,9 +1,10 @@
 -- Records with nothing wrong in them: one turn of the pass, and that none of 38 to 40 applies.
 use Prim.Native.Nat.{ℕ, zero, suc, ◌+◌, ◌*◌, ◌-◌, ◌<◌, ◌≤◌}
-use mathlib.Core.Bool.{true, false}
+use mathlib.Core.Bool.{Bool, true, false, ◌&&◌}
 use mathlib.Core.List.{List}
-use mathlib.Core.Path.{◌≡◌, refl}
-use native.Mathlib.Numerals.{add-one, sub-one}
+use mathlib.Core.Path.{◌≡◌, refl, ◌∙◌}
+use native.Mathlib.Nat.{add-zero, zero-add}
+use native.Mathlib.Numerals.{sub-one}
 use native.Mathlib.Omega.{arith}
 use lib.ListN.{length}
 use borrow.Author.Tests.{leb-true, le-leb, eq-eqb}
@@ -15,32 +16,32 @@ use Rattle.sheet.specs.Records.{marks_at, zeros_at}
 use Rattle.sheet.specs.Reading.{rises_at, marked_at, clear_at, fault_in_rows}
 use Rattle.sheet_reader.specs.Inner.Good.{sound_at, good_from}
 
--- ---- one turn
+-- ---- one pass
 
-module _ (most : ℕ) (s : List ℕ) (k : ℕ) where
-  pub good_more : (n : ℕ) → 1 < n → rises_at s k ≡ true → sound_at most s k ≡ true → good_from most s (k + 1) (n - 1) ≡ good_from most s k n
-  unfolding good_from
-  good_more zero h a b = absurd (omega arith)
-  good_more (suc zero) h a b = absurd (omega arith)
-  good_more (suc (suc n)) h a b = rw (add-one, sub-one, a, b)
+-- a record that is not the last
+abbrev pub pair_at : ℕ → List ℕ → ℕ → Bool
+pair_at most s k = rises_at s k && sound_at most s k
 
-  pub good-falls : (n : ℕ) → 1 < n → rises_at s k ≡ false → false ≡ good_from most s k n
-  unfolding good_from
-  good-falls zero h a = absurd (omega arith)
-  good-falls (suc zero) h a = absurd (omega arith)
-  good-falls (suc (suc n)) h a = rw a
+four : (a b c d : Bool) → a && (b && (c && d)) ≡ ((a && b) && c) && d
+four true true c d = refl
+four true false c d = refl
+four false b c d = refl
 
-  pub good-unsound : (n : ℕ) → 1 < n → rises_at s k ≡ true → sound_at most s k ≡ false → false ≡ good_from most s k n
-  unfolding good_from
-  good-unsound zero h a b = absurd (omega arith)
-  good-unsound (suc zero) h a b = absurd (omega arith)
-  good-unsound (suc (suc n)) h a b = rw (a, b)
+-- all but the last, and the last
+pub good-pairs : (most : ℕ) (s : List ℕ) (k n : ℕ) → good_from most s k (suc n) ≡ every (pair_at most s) k n && sound_at most s (k + n)
+unfolding good_from every
+good-pairs most s k zero = rw (add-zero k) refl
+good-pairs most s k (suc n) =
+    let e : suc k + n ≡ k + suc n = omega arith in
+    rw (good-pairs most s (suc k) n, e) (four (rises_at s k) (sound_at most s k) (every (pair_at most s) (suc k) n) (sound_at most s (k + suc n)))
 
-  pub good-last : (n : ℕ) → 0 < n → n ≤ 1 → sound_at most s k ≡ good_from most s k n
-  unfolding good_from
-  good-last zero h l = absurd (omega arith)
-  good-last (suc zero) h l = refl
-  good-last (suc (suc n)) h l = absurd (omega arith)
+pub good-last : (most : ℕ) (s : List ℕ) (n : ℕ) → (n ≡ 0 → ⊥) → good_from most s 0 n ≡ every (pair_at most s) 0 (n - 1) && sound_at most s (n - 1)
+good-last most s zero h = absurd (h refl)
+good-last most s (suc n) h = rw sub-one (good-pairs most s 0 n ∙ rw (zero-add n) refl)
+
+pub good-none : (most : ℕ) (s : List ℕ) (n : ℕ) → n ≡ 0 → good_from most s 0 n ≡ true
+unfolding good_from
+good-none most s n h = rw h refl
 
 -- ---- nothing is wrong
 

@@ -1,2 +1,3 @@
 pub mod GoodLaws
 pub mod ColumnLaws
+pub mod EveryLaws

@@ -12,10 +12,8 @@ fn numbers(s: &[u8], place: usize, k: usize, out: &mut [i64])
     requires { (place ≤ 16) × (28 * (k + length out.old) ≤ length s.now) }
     ensures { out.new ≡ tabulate (signed_at place s.now) k (length out.old) }
 {
-    let mut i = 0;
-    while i < out.len() {
-        out[i] = get_i64(s, 28 * (k + i) + place);
-        i += 1;
+    for (i, to) in out.iter_mut().enumerate() {
+        *to = get_i64(s, 28 * (k + i) + place);
     }
 }
 
@@ -44,9 +42,7 @@ pub fn marks(s: &[u8], k: usize, out: &mut [u32])
     requires { 28 * (k + length out.old) ≤ length s.now }
     ensures { out.new ≡ tabulate (marks_at s.now) k (length out.old) }
 {
-    let mut i = 0;
-    while i < out.len() {
-        out[i] = marks_at(s, k + i);
-        i += 1;
+    for (i, to) in out.iter_mut().enumerate() {
+        *to = marks_at(s, k + i);
     }
 }

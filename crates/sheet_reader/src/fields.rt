@@ -1,8 +1,8 @@
-// The numbers of record k.
+// The numbers of record k. Each is one call of `little_endian`'s reader at its place, and `Records` defines each by its name.
 ghost use Rattle.std.specs.Prelude.{◌≡◌, ◌+◌, ◌*◌, ◌≤◌, length};
 ghost use Rattle.sheet.specs.Records.{id_at, start_at, end_at, marks_at, zeros_at};
 
-use little_endian::reading::{get_i64, get_u8, get_u24};
+use little_endian::reading::{get, get_i64};
 
 pub fn id_at(s: &[u8], k: usize) -> i64
     requires { 28 * k + 28 ≤ length s.now }
@@ -29,12 +29,12 @@ pub fn marks_at(s: &[u8], k: usize) -> u32
     requires { 28 * k + 28 ≤ length s.now }
     ensures { result ≡ marks_at s.now k }
 {
-    get_u8(s, 28 * k + 24) as u32
+    get::<1>(s, 28 * k + 24) as u32
 }
 
 pub(crate) fn zeros_at(s: &[u8], k: usize) -> u64
     requires { 28 * k + 28 ≤ length s.now }
     ensures { result ≡ zeros_at s.now k }
 {
-    get_u24(s, 28 * k + 25)
+    get::<3>(s, 28 * k + 25)
 }

@@ -5,4 +5,5 @@
 pub mod columns;
 pub mod fields;
 mod records;
+pub mod refusal;
 pub mod trailer;

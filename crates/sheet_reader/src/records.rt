@@ -4,9 +4,11 @@ ghost use Rattle.std.specs.Prelude.{◌≡◌, ◌+◌, ◌*◌, ◌-◌, ◌<�
 ghost use Rattle.sheet.specs.Runs.{every};
 ghost use Rattle.sheet.specs.Reading.{rises_at, marked_at, clear_at, fault_in_rows};
 ghost use Rattle.sheet_reader.specs.Inner.Good.{sound_at, good_from};
+ghost use Rattle.sheet_reader.specs.Inner.Refused.{number_of};
 
 use crate::fields::{id_at, marks_at, zeros_at};
-use little_endian::reading::get_u32;
+use crate::refusal::Refusal;
+use little_endian::reading::get;
 
 // The id of record k is below that of the next one.
 fn rises(s: &[u8], k: usize) -> bool
@@ -34,48 +36,21 @@ fn rising(s: &[u8], n: usize) -> bool
     requires { 28 * n ≤ length s.now }
     ensures { result ≡ every (rises_at s.now) 0 (n - 1) }
 {
-    let mut k = 0;
-    let mut left = n;
-    while 1 < left {
-        if !rises(s, k) {
-            return false;
-        }
-        k += 1;
-        left -= 1;
-    }
-    true
+    (0..n.saturating_sub(1)).all(|k| rises(s, k))
 }
 
 fn all_marked(s: &[u8], n: usize, most: u32) -> bool
     requires { 28 * n ≤ length s.now }
     ensures { result ≡ every (marked_at most s.now) 0 n }
 {
-    let mut k = 0;
-    let mut left = n;
-    while 0 < left {
-        if !marked(s, k, most) {
-            return false;
-        }
-        k += 1;
-        left -= 1;
-    }
-    true
+    (0..n).all(|k| marked(s, k, most))
 }
 
 fn all_clear(s: &[u8], n: usize) -> bool
     requires { 28 * n ≤ length s.now }
     ensures { result ≡ every (clear_at s.now) 0 n }
 {
-    let mut k = 0;
-    let mut left = n;
-    while 0 < left {
-        if !clear(s, k) {
-            return false;
-        }
-        k += 1;
-        left -= 1;
-    }
-    true
+    (0..n).all(|k| clear(s, k))
 }
 
 // The marks and the zeros of record k, as one number.
@@ -83,47 +58,33 @@ fn sound(s: &[u8], k: usize, most: u32) -> bool
     requires { 28 * k + 28 ≤ length s.now }
     ensures { result ≡ sound_at most s.now k }
 {
-    get_u32(s, 28 * k + 24) <= most as u64
+    get::<4>(s, 28 * k + 24) <= most as u64
 }
 
 fn all_good(s: &[u8], n: usize, most: u32) -> bool
     requires { 28 * n ≤ length s.now }
     ensures { result ≡ good_from most s.now 0 n }
 {
-    if n == 0 {
-        return true;
-    }
-    let mut i = 0;
-    let mut rest = n;
-    while 1 < rest {
-        if !rises(s, i) {
-            return false;
-        }
-        if !sound(s, i, most) {
-            return false;
-        }
-        i += 1;
-        rest -= 1;
-    }
-    sound(s, i, most)
+    let last = n.saturating_sub(1);
+    (0..last).all(|k| rises(s, k) && sound(s, k, most)) && (n == 0 || sound(s, last, most))
 }
 
-// Of n records: 0, or 38 to 40.
-pub(crate) fn judge_rows(s: &[u8], most: u32, n: usize) -> u32
+// Of n records: the first of the last three refusals that applies.
+pub(crate) fn judge_rows(s: &[u8], most: u32, n: usize) -> Result<(), Refusal>
     requires { (28 * n ≤ length s.now) × (most < 256) }
-    ensures { result ≡ fault_in_rows s.now most n }
+    ensures { number_of result ≡ fault_in_rows s.now most n }
 {
     if all_good(s, n, most) {
-        return 0;
+        return Ok(());
     }
     if !rising(s, n) {
-        return 38;
+        return Err(Refusal::Order);
     }
     if !all_marked(s, n, most) {
-        return 39;
+        return Err(Refusal::Marks);
     }
     if !all_clear(s, n) {
-        return 40;
+        return Err(Refusal::Zeros);
     }
-    0
+    Ok(())
 }

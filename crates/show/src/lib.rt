@@ -1,83 +1,59 @@
-// Printing for the programs: signed numbers, numbers with leading zeros, dates and date-times. Each answers with the error of the write that
-// failed, if one does.
+// Printing for the programs: dates, date-times and weekdays.
 #![tactic(auto)]
 
-ghost use Rattle.gregorian.specs.Days.{day_count};
-ghost use Rattle.std.specs.Prelude.{◌<◌};
-
 use gregorian::{Date, Moment};
-use std::io;
+use std::fmt;
 
-pub fn text(rt: &impl Print, s: &[u8]) -> io::Result<()> {
-    rt.write_all(s)
-}
+// A date, as YYYY-MM-DD.
+#[derive(Clone, Copy)]
+pub struct Iso(pub Date);
 
-pub fn number(rt: &impl Print, n: u64) -> io::Result<()> {
-    print!(rt; "{n}")
-}
-
-pub fn signed_number(rt: &impl Print, z: i64) -> io::Result<()> {
-    print!(rt; "{z}")
-}
-
-// At least two digits.
-pub fn two_digits(rt: &impl Print, n: u32) -> io::Result<()> {
-    print!(rt; "{n:02}")
-}
-
-// At least four digits.
-pub fn four_digits(rt: &impl Print, n: u32) -> io::Result<()> {
-    print!(rt; "{n:04}")
-}
-
-// YYYY-MM-DD.
-pub fn date(rt: &impl Print, d: Date) -> io::Result<()> {
-    four_digits(rt, d.year)?;
-    text(rt, b"-")?;
-    two_digits(rt, d.month)?;
-    text(rt, b"-")?;
-    two_digits(rt, d.day)
-}
-
-// HH:MM:SS of a second of the day.
-fn time(rt: &impl Print, second: u32) -> io::Result<()> {
-    two_digits(rt, second / 3600)?;
-    text(rt, b":")?;
-    two_digits(rt, second / 60 % 60)?;
-    text(rt, b":")?;
-    two_digits(rt, second % 60)
-}
-
-// YYYY-MM-DDTHH:MM:SS.
-fn moment(rt: &impl Print, m: Moment) -> io::Result<()>
-    requires { m.day < day_count }
-{
-    date(rt, calendar::days::date_of(m.day))?;
-    text(rt, b"T")?;
-    time(rt, m.second)
-}
-
-// The date-time of local seconds, or on which side of the calendar they lie.
-pub fn seconds(rt: &impl Print, t: i64) -> io::Result<()> {
-    if 11676096000 < signed::negative_part(t) {
-        return text(rt, b"before 1600");
+impl fmt::Display for Iso {
+    fn fmt<W: fmt::Write>(&self, f: &mut fmt::Formatter<W>) -> fmt::Result {
+        let Date { year, month, day } = self.0;
+        write!(f, "{year:04}-{month:02}-{day:02}")
     }
-    if 253402300799 < signed::positive_part(t) {
-        return text(rt, b"after 9999");
+}
+
+// Local seconds, as YYYY-MM-DDTHH:MM:SS, or on which side of the calendar they lie.
+#[derive(Clone, Copy)]
+pub struct Local(pub i64);
+
+impl fmt::Display for Local {
+    fn fmt<W: fmt::Write>(&self, f: &mut fmt::Formatter<W>) -> fmt::Result {
+        let t = self.0;
+        if t < -11676096000 {
+            return f.write_str("before 1600");
+        }
+        if 253402300799 < t {
+            return f.write_str("after 9999");
+        }
+        let Moment { day, second } = calendar::seconds::moment_of(t);
+        let date = Iso(calendar::days::date_of(day));
+        write!(
+            f,
+            "{date}T{:02}:{:02}:{:02}",
+            second / 3600,
+            second / 60 % 60,
+            second % 60
+        )
     }
-    moment(rt, calendar::seconds::moment_of(t))
 }
 
 // The two letters of a weekday: 0 is Monday.
-pub fn weekday(rt: &impl Print, w: u32) -> io::Result<()> {
-    let letters = match w {
-        0 => b"mo",
-        1 => b"tu",
-        2 => b"we",
-        3 => b"th",
-        4 => b"fr",
-        5 => b"sa",
-        _ => b"su",
-    };
-    text(rt, letters)
+#[derive(Clone, Copy)]
+pub struct Weekday(pub u32);
+
+impl fmt::Display for Weekday {
+    fn fmt<W: fmt::Write>(&self, f: &mut fmt::Formatter<W>) -> fmt::Result {
+        f.write_str(match self.0 {
+            0 => "mo",
+            1 => "tu",
+            2 => "we",
+            3 => "th",
+            4 => "fr",
+            5 => "sa",
+            _ => "su",
+        })
+    }
 }

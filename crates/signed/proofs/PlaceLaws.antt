@@ -1,7 +1,7 @@
 -- A signed place by the parts of its number.
 use Rattle.std.specs.Prelude.{if◌then◌else◌}
-use Prim.Native.Nat.{ℕ, suc, ◌+◌, ◌-◌, ◌<◌, ◌≤◌}
-use mathlib.Core.Path.{◌≡◌, refl, sym}
+use Prim.Native.Nat.{ℕ, ◌-◌, ◌<◌, ◌≤◌}
+use mathlib.Core.Path.{◌≡◌, refl}
 use native.Mathlib.Omega.{arith}
 use lib.IntN.{ℤ, pos, negsuc}
 use mathlib.Core.Bool.{Bool, true, false}
@@ -10,16 +10,11 @@ use borrow.Author.Tests.{le-leb, lt-leb, leb-true}
 use Rattle.signed.specs.Parts.{pos_part, neg_part}
 use Rattle.signed.specs.Place.{place_of}
 
--- more places back than there are
-pub place-before : (z : ℤ) (n : ℕ) → n < neg_part z → 0 ≡ place_of z n
+-- a place that counts from the end
+pub place-back : (z : ℤ) (n : ℕ) → 0 < neg_part z → n - (neg_part z - 1) ≡ place_of z n
 unfolding place_of
-place-before (pos k) n h = absurd (omega arith)
-place-before (negsuc k) n h = omega arith
-
-pub place-back : (z : ℤ) (n : ℕ) → neg_part z ≤ n → 0 < neg_part z → n - neg_part z + 1 ≡ place_of z n
-unfolding place_of
-place-back (pos k) n h p = absurd (omega arith)
-place-back (negsuc k) n h p = omega arith
+place-back (pos k) n p = absurd (omega arith)
+place-back (negsuc k) n p = omega arith
 
 -- more places on than there are
 pub place_after : (z : ℤ) (n : ℕ) → neg_part z ≤ 0 → n < pos_part z → 0 ≡ place_of z n

@@ -11,21 +11,14 @@ ghost use Rattle.signed.specs.Place.{place_of};
 pub fn positive_part(z: i64) -> u64
     ensures { result ≡ pos_part z }
 {
-    if z < 0 {
-        return 0;
-    }
-    z as u64
+    z.max(0) as u64
 }
 
-// -z, or 0 where z is not negative. -z need not fit an i64; -1 - z always does.
+// -z, or 0 where z is not negative.
 pub fn negative_part(z: i64) -> u64
     ensures { result ≡ neg_part z }
 {
-    let below = -1 - z;
-    if below < 0 {
-        return 0;
-    }
-    below as u64 + 1
+    z.min(0).unsigned_abs()
 }
 
 // a - b.
@@ -37,19 +30,14 @@ pub fn difference(a: u64, b: u64) -> i64
 }
 
 // The place, counted from 1, that z names among n places; a negative z counts from the end. 0: there is no such place.
+// A number and no Option: the contract of `place`, which docs/DECISIONS.md names, says that the result is `place_of`, and that is a number.
 pub fn place(z: i64, n: u64) -> u64
     ensures { result ≡ place_of z n }
 {
     let back = negative_part(z);
-    if n < back {
-        return 0;
-    }
     if 0 < back {
-        return n - back + 1;
+        return n.saturating_sub(back - 1);
     }
     let on = positive_part(z);
-    if n < on {
-        return 0;
-    }
-    on
+    if on <= n { on } else { 0 }
 }

@@ -2,6 +2,7 @@
 ghost use Rattle.call_definitions.specs.Call.{title_of, description_of};
 ghost use Rattle.call_definitions.specs.Results.{Shows};
 
+// Two functions and no parameter for which text: C calls both by name, through `smocurant_c`.
 pub fn smocurant_title(text: &[u8], date: i64, start: &mut u64, length: &mut u64) -> u32
     ensures { Shows (title_of text.now date) result start.new length.new }
 {

@@ -1,6 +1,6 @@
 -- Listed days are handed over as ids: the listing may stop at any day.
 use Rattle.std.specs.Prelude.{if◌then◌else◌}
-use Prim.Native.Nat.{ℕ, zero, suc, ◌+◌, ◌-◌, ◌*◌, ◌/◌, ◌%◌, ◌<◌, ◌≤◌}
+use Prim.Native.Nat.{ℕ, zero, suc, min, ◌+◌, ◌-◌, ◌*◌, ◌/◌, ◌%◌, ◌<◌, ◌≤◌}
 use mathlib.Core.Bool.{Bool, false}
 use mathlib.Core.List.{List, [], ◌∷◌, ◌++◌, map}
 use mathlib.Core.Path.{◌≡◌, refl, sym, ap, ◌∙◌, subst}
@@ -230,11 +230,12 @@ module _ (d : Dates) (rows : List Bool) (from to places : ℕ) (l : Listing d ro
 
 -- ---- as many days as there is room for ids
 
-pub lent-days : (n : ℕ) → n < 1024 → n ≡ length (take n (replicate {A = ℕ} 1024 0))
+pub lent-days : (n : ℕ) → n ≤ 1024 → n ≡ length (take n (replicate {A = ℕ} 1024 0))
 lent-days n less = sym (length-take-le n (replicate {A = ℕ} 1024 0) (omega (arith, length-replicate {A = ℕ} 1024 0)))
 
-pub lent-asks : (d : Dates) (rows : List Bool) (from to n : ℕ) → Listing d rows from to n → n < 1024
-    → Listing d rows from to (length (take n (replicate {A = ℕ} 1024 0)))
-    × ((length (take n (replicate {A = ℕ} 1024 0)) ≤ 1024) × (length (take n (replicate {A = ℕ} 1024 0)) ≤ n))
-lent-asks d rows from to n l less =
-    subst (λ (k : ℕ). Listing d rows from to k × ((k ≤ 1024) × (k ≤ n))) (lent-days n less) (l, (omega arith, omega arith))
+pub lent-asks : (d : Dates) (rows : List Bool) (from to n room : ℕ) → Listing d rows from to n → room ≡ min n 1024
+    → Listing d rows from to (length (take room (replicate {A = ℕ} 1024 0)))
+    × ((length (take room (replicate {A = ℕ} 1024 0)) ≤ 1024) × (length (take room (replicate {A = ℕ} 1024 0)) ≤ n))
+lent-asks d rows from to n room l is =
+    subst (λ (k : ℕ). Listing d rows from to k × ((k ≤ 1024) × (k ≤ n))) (lent-days room (omega arith))
+    (record { plain = l.plain; whole = l.whole; span = l.span; room = omega (arith, l.room) }, (omega arith, omega arith))

@@ -34,10 +34,7 @@ fn holds_days(start: u64, overrides: usize, from: u64, to: u64, places: u64) -> 
     ensures { result ≡ leb (day_from start to - day_from start from + overrides) places }
 {
     let days = day_from(start, to) - day_from(start, from);
-    if places < days {
-        return false;
-    }
-    overrides as u64 <= places - days
+    days <= places && overrides as u64 <= places - days
 }
 
 // Does the table of a window fit into `size` bytes? Its first ids are found; those after them are counted only where it has to be.
@@ -61,11 +58,7 @@ pub fn has_room(
     if places < count {
         return false;
     }
-    if first.next == to {
-        return true;
-    }
-    if holds_days(dates.start, ids.len(), first.next, to, places - count) {
-        return true;
-    }
-    count_ids(dates, rows, ids, gone, first.next, to) <= places - count
+    first.next == to
+        || holds_days(dates.start, ids.len(), first.next, to, places - count)
+        || count_ids(dates, rows, ids, gone, first.next, to) <= places - count
 }

@@ -18,10 +18,7 @@ fn days_at_once(from: u64, to: u64) -> usize
     ensures { Marks from to result }
 {
     let days = (to - 1) / 86400 - from / 86400 + 1;
-    if (DAYS as u64) < days {
-        return DAYS;
-    }
-    days as usize
+    days.min(DAYS as u64) as usize
 }
 
 // The ids of the first days of the window, as many days as are marked at once and as many ids as the slice has room for.

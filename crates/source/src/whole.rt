@@ -24,7 +24,8 @@ pub fn ids_from(
     ensures { Handed (dates_in dates rows.now ids.now gone.now) from to out.old out.new result.count result.next }
 {
     if is_listed(dates, rows, ids, from, to) {
-        return listed(dates, rows, from, to, out);
+        listed(dates, rows, from, to, out)
+    } else {
+        marked(dates, rows, ids, gone, from, to, out)
     }
-    marked(dates, rows, ids, gone, from, to, out)
 }

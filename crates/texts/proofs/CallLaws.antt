@@ -1,4 +1,5 @@
 -- The calls for a text, by the fault of the event's text and what the look-up found.
+use Rattle.std.specs.Prelude.{Option}
 use Prim.Native.Nat.{ℕ, ◌+◌, ◌-◌, ◌≤◌}
 use mathlib.Core.Bool.{Bool, true, false}
 use mathlib.Core.List.{List}
@@ -15,7 +16,7 @@ use Rattle.call_definitions.specs.Answer.{date_time_of}
 use Rattle.call_definitions.specs.Call.{Shown, no_place, text_fault, shown_at, text_of, title_of, description_of}
 use Rattle.call_definitions.specs.Results.{Shows, Tells}
 use Rattle.texts.specs.declared.Told.{Told}
-use Rattle.texts.specs.declared.Lookup.{Lookup}
+use Rattle.texts.specs.declared.Part.{Part}
 use Rattle.texts.specs.Inner.Shown.{told_shown, lookup_shown, Placed, chosen}
 
 -- The date was passed by its bits.
@@ -27,7 +28,7 @@ module _ (s : List ℕ) (title : Bool) (t : ℤ) (fits : SFits w64 t) where
   pub refused-placed : (f : ℕ) → (f ≡ text_fault s) × (f ≡ 0 → ⊥) → (u : Shown) → u ≡ no_place f → Placed (length s) (text_of (chosen title) s t) u
   refused-placed f e u is = record { is = is ∙ refused f e; within = subst (λ (v : Shown). v.start + v.length ≤ length s) (sym is) (omega arith) }
 
-  module _ (fine : text_fault s ≡ 0) (r : Lookup) (placed : Placed (length s) (shown_at (chosen title) (event_of s) (date_time_of (to_z w64 (of_z w64 t)))) (lookup_shown r)) where
+  module _ (fine : text_fault s ≡ 0) (r : Option Part) (placed : Placed (length s) (shown_at (chosen title) (event_of s) (date_time_of (to_z w64 (of_z w64 t)))) (lookup_shown r)) where
     shown : shown_at (chosen title) (event_of s) (date_time_of (to_z w64 (of_z w64 t))) ≡ text_of (chosen title) s t
     unfolding text_of
     shown = rw (to_z-of_z fits, fine)

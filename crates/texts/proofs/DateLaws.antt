@@ -1,17 +1,15 @@
 -- What is shown for a date, by whether it is an occurrence and who may see the event.
 use Rattle.std.specs.Prelude.{if◌then◌else◌}
-use Prim.Native.Nat.{ℕ, ◌+◌, ◌-◌, ◌<◌}
+use Prim.Native.Nat.{ℕ, ◌<◌}
 use mathlib.Core.Bool.{Bool, true, false, false≢true}
 use mathlib.Core.Option.{Option, none, some}
 use mathlib.Core.Path.{◌≡◌, refl, sym}
 use native.Mathlib.Omega.{arith}
-use native.Mathlib.Decide.{dec_lt}
 use lib.IntN.{ℤ, pos, negsuc, neg_ℤ}
 use lib.Signed.{le_z}
 use mir.Syntax.{w64}
 use mir.Val.{SFits, to_z, of_z}
 use mir.Facts.{to_z-of_z}
-use Rattle.signed.specs.Parts.{pos_part, neg_part}
 use Rattle.signed.proofs.Parts.{parts-le}
 use Rattle.keywords.specs.declared.Privacy.{Privacy}
 use Rattle.keywords.specs.declared.Privacy.TheVariants.{Public, Private, Secret}
@@ -20,7 +18,7 @@ use Rattle.call_definitions.specs.Window.{epoch, since1600}
 use Rattle.call_definitions.specs.Answer.{is_secret, is_public, text_answer_for, text_answer, date_time_of}
 use Rattle.call_definitions.specs.Call.{Shown, no_place, place_of, shown_for, shown_at}
 use Rattle.call_definitions.specs.Occurrence.{is_occurrence, details_at}
-use Rattle.record.proofs.WindowLaws.{since_none}
+use Rattle.record.proofs.WindowLaws.{since-parts}
 use Rattle.texts.specs.Inner.Shown.{shown_by}
 
 -- ---- who may see it
@@ -63,11 +61,7 @@ module _ (which : Details → Option Text) (e : Event) (x : ℕ) where
 
 not-before : (t : ℤ) → 0 < since1600 t → le_z (neg_ℤ (pos epoch)) t ≡ true
 not-before (pos n) h = refl
-not-before (negsuc n) h = go (dec_lt (pos_part (negsuc n) + epoch) (neg_part (negsuc n)))
-  where
-    go : Dec (pos_part (negsuc n) + epoch < neg_part (negsuc n)) → le_z (neg_ℤ (pos epoch)) (negsuc n) ≡ true
-    go (yes p) = absurd (omega (arith, since_none (negsuc n) p))
-    go (no q) = parts-le (neg_ℤ (pos epoch)) (negsuc n) (omega (arith, q))
+not-before (negsuc n) h = parts-le (neg_ℤ (pos epoch)) (negsuc n) (omega (arith, h, since-parts (negsuc n)))
 
 -- x was found for a date that was passed by its bits
 module _ (which : Details → Option Text) (e : Event) (t : ℤ) (fits : SFits w64 t) (x : ℕ) (was : x ≡ since1600 (to_z w64 (of_z w64 t))) where

@@ -6,7 +6,7 @@ use mathlib.Core.List.{List}
 use mathlib.Core.Path.{◌≡◌, ap, ◌∙◌}
 use Rattle.event.specs.Types.{Details, Override}
 use Rattle.property.specs.Inner.From.{text_in}
-use Rattle.property.specs.declared.Place.{Place}
+use Rattle.property.specs.Inner.Place.{Place}
 use Rattle.override_text.specs.declared.Own.{Own}
 use Rattle.override_text.specs.declared.Patch.{Patch}
 use Rattle.override_text.specs.Inner.Meaning.{details_in, override_in}

@@ -5,8 +5,7 @@ ghost use Rattle.call_definitions.specs.Call.{text_of, no_place};
 ghost use Rattle.texts.specs.Inner.Shown.{told_shown, lookup_shown, Placed, chosen};
 
 use crate::events::look_up;
-use crate::{Lookup, Told};
-use opening::Opening;
+use crate::{Part, Told};
 use opening::whole::open_text;
 
 // A number without a text.
@@ -21,10 +20,10 @@ fn refused(answer: u32) -> Told
 }
 
 // "A date asked that is no occurrence answers 14."
-fn told_of(found: Lookup) -> Told
+fn told_of(found: Option<Part>) -> Told
     ensures { told_shown result ≡ lookup_shown found }
 {
-    let Lookup::Found(part) = found else {
+    let Some(part) = found else {
         return refused(14);
     };
     Told {
@@ -40,8 +39,8 @@ fn told_in(text: &[u8], ends: &mut [u32], title: bool, date: i64) -> Told
     ensures { Placed (length text.now) (text_of (chosen title) text.now date) (told_shown result) }
 {
     match open_text(text, ends) {
-        Opening::Refused(answer, _) => refused(answer),
-        Opening::Accepted(head) => told_of(look_up(text, ends, head, title, date)),
+        Err(refusal) => refused(refusal.answer),
+        Ok(head) => told_of(look_up(text, ends, head, title, date)),
     }
 }
 

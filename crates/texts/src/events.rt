@@ -9,7 +9,7 @@ ghost use Rattle.call_definitions.specs.Call.{place_of, shown_at};
 ghost use Rattle.texts.specs.Inner.Dated.{Dated};
 ghost use Rattle.texts.specs.Inner.Shown.{lookup_shown, Placed, chosen, shown_by};
 
-use crate::Lookup;
+use crate::Part;
 use crate::parts::part_at;
 use crate::patched::text_by;
 use crate::visible::visible;
@@ -27,7 +27,14 @@ const FIRST: u64 = 31622400;
 const END: u64 = 265046860800;
 
 // What the call keeps of the event is loaded up to the day of the date: days after it are not asked for.
-fn look_up_event(text: &[u8], ends: &[u32], title: bool, public: bool, head: Head, x: u64) -> Lookup
+fn look_up_event(
+    text: &[u8],
+    ends: &[u32],
+    title: bool,
+    public: bool,
+    head: Head,
+    x: u64,
+) -> Option<Part>
     requires { Dated text.now ends.now head x }
     ensures { Placed (length text.now) (shown_by public (is_occurrence (event_of text.now) x) (place_of (chosen title (details_at (event_of text.now) x)))) (lookup_shown result) }
 {
@@ -48,38 +55,31 @@ fn look_up_event(text: &[u8], ends: &[u32], title: bool, public: bool, head: Hea
     );
     let n = kept.count;
     if !is_id(kept.dates, &rows, &ids[..n], &gone[..n], x) {
-        return Lookup::Missing;
+        return None;
     }
-    let form = kept.form;
-    let place = text_by(text, ends, title, form.own, &ids[..n], &places[..n], x);
-    let part = visible(public, part_at(text, place));
-    Lookup::Found(part)
+    let place = text_by(text, ends, title, kept.form.own, &ids[..n], &places[..n], x);
+    Some(visible(public, part_at(text, place)))
 }
 
-// A secret event tells of no occurrence.
-fn look_up_at(text: &[u8], ends: &[u32], title: bool, head: Head, x: u64) -> Lookup
+// A secret event tells of no occurrence. None: the date is no occurrence that may be told of.
+fn look_up_at(text: &[u8], ends: &[u32], title: bool, head: Head, x: u64) -> Option<Part>
     requires { Dated text.now ends.now head x }
     ensures { Placed (length text.now) (shown_at (chosen title) (event_of text.now) (some x)) (lookup_shown result) }
 {
-    let privacy = head.privacy;
-    if is_secret(privacy) {
-        return Lookup::Missing;
+    if is_secret(head.privacy) {
+        return None;
     }
-    let public = is_public(privacy);
-    look_up_event(text, ends, title, public, head, x)
+    look_up_event(text, ends, title, is_public(head.privacy), head, x)
 }
 
 // No occurrence of an accepted event lies outside the years 1601 to 9998.
-pub(crate) fn look_up(text: &[u8], ends: &[u32], head: Head, title: bool, date: i64) -> Lookup
+pub(crate) fn look_up(text: &[u8], ends: &[u32], head: Head, title: bool, date: i64) -> Option<Part>
     requires { Taken text.now ends.now head }
     ensures { Placed (length text.now) (shown_at (chosen title) (event_of text.now) (date_time_of date)) (lookup_shown result) }
 {
     let x = since_1600(date);
-    if x < FIRST {
-        return Lookup::Missing;
-    }
-    if END <= x {
-        return Lookup::Missing;
+    if x < FIRST || END <= x {
+        return None;
     }
     look_up_at(text, ends, title, head, x)
 }

@@ -15,13 +15,6 @@ pub struct Part {
     pub length: usize,
 }
 
-// What is found for a date: the part that is shown, or that the date is no occurrence that may be told of.
-#[derive(Clone, Copy)]
-pub enum Lookup {
-    Found(Part),
-    Missing,
-}
-
 // What a call answers: the number, and the part that is shown; both 0 where it has no bytes.
 #[derive(Clone, Copy)]
 pub struct Told {

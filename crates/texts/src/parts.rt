@@ -6,9 +6,7 @@ ghost use Rattle.call_definitions.specs.Call.{place_from, place_of};
 ghost use Rattle.texts.specs.Inner.Shown.{part_shown, spanned, Placed};
 
 use crate::Part;
-use json_text::Read;
 use json_text::strings::string;
-use property::Place;
 
 // The bytes from one place to before another.
 fn between(from: usize, to: usize) -> Part
@@ -33,18 +31,17 @@ fn part_from(text: &[u8], at: usize) -> Part
     ensures { Placed (length text.now) (place_from (at + 1) (word_at text.now at)) (part_shown result) }
 {
     match string(text, at) {
-        Read::To(stop) => between(at + 1, stop - 1),
-        Read::Bad => between(0, 0),
-        Read::Deep => between(0, 0),
+        Ok(stop) => between(at + 1, stop - 1),
+        Err(_) => between(0, 0),
     }
 }
 
 // The same for a string that may be absent.
-pub(crate) fn part_at(text: &[u8], place: Place) -> Part
+pub(crate) fn part_at(text: &[u8], place: Option<usize>) -> Part
     ensures { Placed (length text.now) (place_of (text_in text.now place)) (part_shown result) }
 {
     match place {
-        Place::None => between(0, 0),
-        Place::At(at) => part_from(text, at),
+        None => between(0, 0),
+        Some(at) => part_from(text, at),
     }
 }

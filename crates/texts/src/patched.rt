@@ -8,9 +8,9 @@ ghost use Rattle.texts.specs.Inner.Shown.{chosen};
 
 use override_text::Own;
 use override_text::patches::patch;
-use property::Place;
+use writer::times::patch_of;
 
-fn choose(title: bool, first: Place, second: Place) -> Place
+fn choose(title: bool, first: Option<usize>, second: Option<usize>) -> Option<usize>
     ensures { result ≡ (if title then first else second) }
 {
     if title {
@@ -20,17 +20,22 @@ fn choose(title: bool, first: Place, second: Place) -> Place
 }
 
 // The text of the occurrence `id` after the patch at a place.
-fn text_patched(text: &[u8], ends: &[u32], title: bool, at: usize, own: Own, id: u64) -> Place
+fn text_patched(
+    text: &[u8],
+    ends: &[u32],
+    title: bool,
+    at: usize,
+    own: Own,
+    id: u64,
+) -> Option<usize>
     requires { Ends text.now ends.now }
     ensures { text_in text.now result ≡ chosen title (patch_details (details_in text.now own) text.now at id) }
 {
     let p = patch(text, ends, at, own, id);
-    let first = p.title;
-    let second = p.description;
-    choose(title, first, second)
+    choose(title, p.title, p.description)
 }
 
-// The text of the occurrence x: after its patch where an override names it, else the event's own.
+// The text of the occurrence x: after its patch where an override names it, else the event's own. The ids may stand in any order.
 pub(crate) fn text_by(
     text: &[u8],
     ends: &[u32],
@@ -39,18 +44,12 @@ pub(crate) fn text_by(
     ids: &[u64],
     places: &[usize],
     x: u64,
-) -> Place
+) -> Option<usize>
     requires { Ends text.now ends.now × (length ids.now ≡ length places.now) }
     ensures { text_in text.now result ≡ chosen title (details_by text.now (details_in text.now own) ids.now places.now x) }
 {
-    let mut i = 0;
-    while i < ids.len() {
-        if ids[i] == x {
-            return text_patched(text, ends, title, places[i], own, x);
-        }
-        i += 1;
+    match patch_of(ids, places, false, x) {
+        Some(at) => text_patched(text, ends, title, at, own, x),
+        None => choose(title, own.title, own.description),
     }
-    let first = own.title;
-    let second = own.description;
-    choose(title, first, second)
 }

@@ -14,13 +14,12 @@ use Rattle.rule.proofs.Counting.{count-more, count_less, count_none, count-nothi
 use Rattle.rule.specs.declared.Day.{Day}
 use Rattle.matcher.specs.declared.Terms.{Terms}
 use Rattle.matcher.proofs.WalkLaws.{number_is, day-again}
-use Rattle.matcher.specs.Inner.Walk.{picks_on_by}
 use Rattle.matcher.specs.Inner.Member.{is_first, falls_on_by}
 use Rattle.track.specs.Inner.Last.{end_of, Ending}
 use Rattle.rule.specs.Day.{day_at}
 use Rattle.track.specs.declared.Rest.{Rest}
 use Rattle.track.specs.Inner.Ahead.{EndAt, AheadAt, AheadOf, Resting, OutAfter}
-use Rattle.track.proofs.LastLaws.{end-yes, end-no, end-leaps, falls-by}
+use Rattle.track.proofs.LastLaws.{end-yes, end-no, falls-by}
 
 -- ---- how many of some days pass
 

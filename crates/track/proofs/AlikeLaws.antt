@@ -2,13 +2,16 @@
 use Rattle.std.specs.Prelude.{if◌then◌else◌}
 use Prim.Native.Nat.{ℕ, zero, suc, ◌+◌, ◌-◌, ◌%◌, ◌<◌, ◌≤◌}
 use mathlib.Core.Bool.{Bool, true, false, false≢true}
-use mathlib.Core.List.{List}
+use mathlib.Core.List.{List, [], ◌∷◌}
 use mathlib.Core.Path.{◌≡◌, refl, sym, ap, ◌∙◌, subst}
 use native.Mathlib.Omega.{arith}
-use lib.Dec.{T, leb, ltb, eqb, leb→le}
-use lib.ListN.{length, get_or, set}
+use lib.Dec.{T, leb, eqb, leb→le}
+use Rattle.std.specs.List.{list_all}
+use Rattle.std.proofs.lemmas.List.{places}
+use Rattle.std.proofs.lemmas.List.Folds.{list_all_at}
+use lib.ListN.{length, get_or, set, take, drop}
 use lib.Seq.{set-get_or}
-use borrow.Author.Tests.{ltb-true, ltb-false, eqb-true, eqb-false}
+use borrow.Author.Tests.{eqb-true, eqb-false}
 use Rattle.gregorian.specs.Year.{is_leap}
 use Rattle.gregorian.specs.Month.{month_length, length_in}
 use Rattle.gregorian.specs.Days.{day_count}
@@ -23,7 +26,7 @@ use Rattle.rule.specs.Inner.Bounds.{InCalendar}
 use Rattle.rule.proofs.Bools.{by}
 use Rattle.matcher.specs.declared.Terms.{Terms}
 use Rattle.matcher.specs.Inner.Flags.{named, nth_by, month_by, date_by, day_by, stays_by}
-use Rattle.matcher.specs.Inner.Layout.{dates_at, dates_back, weekdays_at, positions_at, positions_back}
+use Rattle.matcher.specs.Inner.Layout.{row_size, dates_at, dates_back, weekdays_at, positions_at, positions_back}
 use Rattle.matcher.specs.Inner.Walk.{Asked, stays_on_by, step_by, placed_by, picks_by, picks_on_by}
 use Rattle.matcher.proofs.WalkLaws.{step-each, in-calendar}
 use Rattle.months.specs.Inner.Kinds.{Kind, stays_in, chosen_in, picks_in}
@@ -38,16 +41,34 @@ use Rattle.track.proofs.LeapLaws.{first_of, first-of-month, month-not-early}
 
 -- ---- every weekday is set
 
-pub weekdays-none : (row : List Bool) → WeekdaysSet row 0
-weekdays-none row = record { each = λ w h. absurd (omega arith) }
+all-set : (l : List Bool) → ((k : ℕ) → k < length l → get_or l k false ≡ true) → list_all (λ b. b) l ≡ true
+all-set [] h = refl
+all-set (b ∷ l) h = rw (h 0 (omega arith), all-set l (λ k less. h (suc k) (omega arith)))
 
-pub weekdays-more : (row : List Bool) (k : ℕ) → WeekdaysSet row k → get_or row (weekdays_at + k) false ≡ true → WeekdaysSet row (k + 1)
-weekdays-more row k s e =
-    record {
-      each = λ w h.
-          by (ltb w k) (λ b. s.each w (ltb-true w k b))
-          (λ b. let same : k ≡ w = omega (arith, ltb-false w k b) in subst (λ (i : ℕ). get_or row (weekdays_at + i) false ≡ true) same e);
-    }
+-- a part of a list
+part-length : (l : List Bool) (a n : ℕ) → a + n ≤ length l → length (take n (drop a l)) ≡ n
+part-length l a n room = grind (arith, places)
+
+part-at : (l : List Bool) (a n k : ℕ) → k < n → get_or (take n (drop a l)) k false ≡ get_or l (a + k) false
+part-at l a n k h = grind (arith, places)
+
+module _ (row : List Bool) (size : length row ≡ row_size) (r : Bool) (is : r ≡ list_all (λ b. b) (take 7 (drop weekdays_at row))) where
+  seven : length (take 7 (drop weekdays_at row)) ≡ 7
+  seven = part-length row weekdays_at 7 (omega arith)
+
+  weekday-at : (k : ℕ) → k < 7 → get_or (take 7 (drop weekdays_at row)) k false ≡ get_or row (weekdays_at + k) false
+  weekday-at k h = part-at row weekdays_at 7 k h
+
+  pub weekdays-said : r ≡ true → WeekdaysSet row 7
+  weekdays-said e =
+      record {
+        each = λ k h.
+            by (get_or row (weekdays_at + k) false) (λ f. f)
+            (λ f. absurd (false≢true (sym (is ∙ list_all_at (λ b. b) (take 7 (drop weekdays_at row)) k false (omega (arith, seven)) (weekday-at k h ∙ f)) ∙ e)));
+      }
+
+  pub weekdays-all : WeekdaysSet row 7 → r ≡ true
+  weekdays-all w = is ∙ all-set (take 7 (drop weekdays_at row)) (λ k h. let less : k < 7 = omega (arith, seven) in weekday-at k less ∙ w.each k less)
 
 -- ---- counting and marking by other numbers
 

@@ -1,13 +1,11 @@
 -- What a rule has in two years of one kind: the same days, one by one.
-use Rattle.std.specs.Prelude.{if◌then◌else◌}
-use Prim.Native.Nat.{ℕ, zero, suc, ◌+◌, ◌-◌, ◌*◌, ◌/◌, ◌%◌, ◌<◌, ◌≤◌}
+use Prim.Native.Nat.{ℕ, zero, suc, ◌+◌, ◌-◌, ◌/◌, ◌%◌, ◌<◌, ◌≤◌}
 use mathlib.Core.Bool.{Bool, true, false, not, false≢true}
 use mathlib.Core.List.{List}
-use mathlib.Core.Path.{◌≡◌, refl, sym, ap, ◌∙◌, subst}
+use mathlib.Core.Path.{◌≡◌, refl, sym, ap, ◌∙◌}
 use native.Mathlib.Omega.{arith}
 use native.Mathlib.Nat.{mod-add-mod}
-use lib.Dec.{eqb, ltb}
-use borrow.Author.Tests.{ltb-true, ltb-false}
+use lib.Dec.{eqb}
 use Rattle.gregorian.specs.Days.{day_count, date_of, weekday_of}
 use Rattle.gregorian.proofs.MonthLaws.{month-next, month-mono, year-is-months}
 use Rattle.gregorian.proofs.DayLaws.{month-within}
@@ -19,12 +17,11 @@ use Rattle.rule.specs.Day.{on_date, day_at}
 use Rattle.rule.specs.Lists.{count_in}
 use Rattle.rule.specs.Period.{period_of, since_first, days_of}
 use Rattle.rule.specs.Gives.{end_day}
-use Rattle.rule.specs.Inner.Bounds.{InCalendar}
 use Rattle.rule.proofs.Bools.{by}
 use Rattle.rule.proofs.DayLaws.{day-facts}
 use Rattle.rule.proofs.PeriodLaws.{day-number}
 use Rattle.matcher.specs.declared.Terms.{Terms}
-use Rattle.matcher.specs.Inner.Flags.{named, stays_by}
+use Rattle.matcher.specs.Inner.Flags.{named}
 use Rattle.matcher.specs.Inner.Layout.{positions_at, positions_back}
 use Rattle.matcher.specs.Inner.Walk.{stays_on_by, step_by, placed_by, picks_by, picks_on_by}
 use Rattle.track.specs.Inner.Years.{NewYear, owns_places, phase_of}

@@ -1,9 +1,9 @@
 -- The day that ends a rule: before it, and only there, fewer than `count` days came before and `until` is not past.
 use Rattle.std.specs.Prelude.{if◌then◌else◌}
-use Prim.Native.Nat.{ℕ, zero, suc, ◌+◌, ◌-◌, ◌*◌, ◌/◌, ◌%◌, ◌<◌, ◌≤◌}
-use mathlib.Core.Bool.{Bool, true, false, not, ◌&&◌, ◌||◌}
+use Prim.Native.Nat.{ℕ, zero, suc, ◌+◌, ◌-◌, ◌/◌, ◌%◌, ◌<◌, ◌≤◌, min}
+use mathlib.Core.Bool.{Bool, true, false}
 use mathlib.Core.List.{List}
-use mathlib.Core.Path.{◌≡◌, refl, sym, ap, ◌∙◌, subst}
+use mathlib.Core.Path.{◌≡◌, refl, sym, ap, ◌∙◌}
 use native.Mathlib.Omega.{arith}
 use native.Mathlib.Numerals.{add-one}
 use lib.Dec.{eqb, leb, ltb}
@@ -17,7 +17,7 @@ use Rattle.rule.specs.Lists.{not_after}
 use Rattle.rule.specs.Inner.Read.{until_from}
 use Rattle.rule.proofs.PeriodLaws.{day-number}
 use Rattle.matcher.specs.declared.Terms.{Terms}
-use Rattle.matcher.specs.Inner.Walk.{picks_by, picks_on_by}
+use Rattle.matcher.specs.Inner.Walk.{picks_on_by}
 use Rattle.matcher.specs.Inner.Member.{is_first, falls_by, falls_on_by}
 use Rattle.track.specs.Inner.Last.{until_day, end_of}
 use Rattle.track.specs.Inner.Ahead.{EndAt}
@@ -186,6 +186,17 @@ count-ends p (suc k) d n t low high =
     (λ f. end-at-once p k d n t low (eqb-false n 0 e) (omega (arith, ltb-false d t f))))
 
 -- a day at the start's time of day is not after `until` exactly when it lies before the day that ends the rule
+pub until-some : (start until rest : ℕ) → (start % 86400 ≤ until) → rest ≡ until - start % 86400 → min (rest / 86400 + 1) end_day ≡ until_day start until
+unfolding until_day
+until-some start until rest low is =
+    by (leb end_day (rest / 86400))
+    (λ e. rw (le-ltb until (start % 86400) low, ← is, e) (omega (arith, leb-true end_day (rest / 86400) e)))
+    (λ e. rw (le-ltb until (start % 86400) low, ← is, e) (omega (arith, leb-false end_day (rest / 86400) e)))
+
+pub until-none : (start until : ℕ) → until < start % 86400 → 0 ≡ until_day start until
+unfolding until_day
+until-none start until h = rw (lt-ltb until (start % 86400) h)
+
 pub until-ends : (start until d : ℕ) → d < end_day → leb (on_day start d) until ≡ ltb d (until_day start until)
 unfolding until_day
 until-ends start until d h =

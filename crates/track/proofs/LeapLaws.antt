@@ -208,6 +208,9 @@ month-not-last y m r h low high =
 pub month-holds-day : (y m r : ℕ) → 1 ≤ m → m ≤ 12 → month_start y m ≤ r → r < month_start y (m + 1) → HoldsDayOfYear y m r
 month-holds-day y m r first last low high = record { low = low; high = omega (arith, ap (month_start y) (add-one m)); first = first; last = last }
 
+pub december-holds-day : (y r : ℕ) → month_start y 12 ≤ r → r < year_length y → HoldsDayOfYear y 12 r
+december-holds-day y r low high = month-holds-day y 12 r (omega arith) (omega arith) low (omega (arith, year-is-months y))
+
 on-date : (t : Date) → Parts t → (n : ℕ) → day_of t ≡ n → on_date n t ≡ day_at n
 unfolding day_at
 on-date t p n e = ap (on_date n) (sym (ap date_of (sym e) ∙ date-day-date t (is-date t p)))

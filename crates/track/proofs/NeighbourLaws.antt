@@ -1,7 +1,6 @@
 -- The days just before a year and just after it, which its first and its last week may hold: from year to year they agree in all but
 -- their number, their year and their place in it.
-use Rattle.std.specs.Prelude.{if◌then◌else◌}
-use Prim.Native.Nat.{ℕ, zero, suc, ◌+◌, ◌-◌, ◌*◌, ◌/◌, ◌%◌, ◌<◌, ◌≤◌}
+use Prim.Native.Nat.{ℕ, zero, suc, ◌+◌, ◌-◌, ◌%◌, ◌<◌, ◌≤◌}
 use mathlib.Core.Bool.{Bool, true, false}
 use mathlib.Core.List.{List}
 use mathlib.Core.Path.{◌≡◌, refl, sym, ap, ◌∙◌, subst}
@@ -14,15 +13,14 @@ use Rattle.gregorian.specs.Days.{day_count, weekday_of}
 use Rattle.rule.specs.declared.Day.{Day}
 use Rattle.rule.specs.Day.{on_date, day_at}
 use Rattle.rule.specs.Gives.{end_day}
-use Rattle.rule.specs.Inner.Bounds.{InCalendar}
 use Rattle.rule.proofs.Bools.{by}
 use Rattle.rule.proofs.DayLaws.{day-facts, step-month, step-year, step-next-year, year-within}
 use Rattle.rule.proofs.PeriodLaws.{day-number}
-use Rattle.matcher.specs.Inner.Flags.{month_by, date_by, day_by, nth_by, stays_by}
+use Rattle.matcher.specs.Inner.Flags.{month_by, date_by, day_by, stays_by}
 use Rattle.track.specs.Inner.Years.{NewYear}
 use Rattle.track.proofs.LeapLaws.{new-year}
 use Rattle.track.proofs.SkipLaws.{in-same-month}
-use Rattle.track.proofs.YearDayLaws.{any_year, days-alike}
+use Rattle.track.proofs.YearDayLaws.{days-alike}
 
 -- a day of any year, at any place in it
 abbrev pub any_place : Day → Day

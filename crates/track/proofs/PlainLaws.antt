@@ -1,6 +1,6 @@
 -- A rule without set positions: its days, and a part of a run that is marked apart.
 use Rattle.std.specs.Prelude.{if◌then◌else◌}
-use Prim.Native.Nat.{ℕ, zero, suc, ◌+◌, ◌-◌, ◌<◌, ◌≤◌}
+use Prim.Native.Nat.{ℕ, suc, ◌+◌, ◌-◌, ◌<◌, ◌≤◌, min}
 use mathlib.Core.Bool.{Bool, true, false}
 use mathlib.Core.List.{List, [], ◌∷◌, ◌++◌, append_assoc}
 use mathlib.Core.Path.{◌≡◌, refl, sym, ap, ◌∙◌, subst}
@@ -8,7 +8,8 @@ use native.Mathlib.Omega.{arith}
 use lib.Dec.{ltb}
 use lib.ListN.{length, take, drop, length-append, length-drop, take-append-drop}
 use lib.Seq.{length-take-le, take_at, drop_at}
-use borrow.Author.Tests.{le-ltb, lt-ltb}
+use borrow.Author.Tests.{le-ltb, lt-ltb, ltb-true, ltb-false}
+use Rattle.rule.proofs.Bools.{by}
 use Rattle.rule.specs.declared.Day.{Day}
 use Rattle.rule.specs.Day.{day_at}
 use Rattle.matcher.specs.declared.Terms.{Terms}
@@ -99,6 +100,10 @@ module _ (p : ℕ → Bool) (value : Bool) (first : ℕ) (before hits part : Lis
       })
 
 -- ---- the days of one month
+
+pub part-is : (n left end : ℕ) → n ≡ min left end → n ≡ (if ltb left end then left else end)
+part-is n left end is =
+    by (ltb left end) (λ e. rw e (omega (arith, ltb-true left end e))) (λ e. rw e (omega (arith, ltb-false left end e)))
 
 pub month-some : (x : Day) → x ≡ day_at x.number → x.number < end_day → 1 ≤ to_month_end x
 unfolding to_month_end

@@ -1,13 +1,12 @@
 -- A rule that was settled gives the date-times of the days that it has.
 use Rattle.std.specs.Prelude.{if◌then◌else◌}
-use Prim.Native.Nat.{ℕ, zero, suc, ◌+◌, ◌-◌, ◌*◌, ◌/◌, ◌%◌, ◌<◌, ◌≤◌}
+use Prim.Native.Nat.{ℕ, ◌-◌, ◌/◌, ◌%◌, ◌<◌, ◌≤◌}
 use mathlib.Core.Bool.{Bool, true, false, not, ◌&&◌, ◌||◌}
 use mathlib.Core.List.{List}
-use mathlib.Core.Option.{Option, none, some}
 use mathlib.Core.Path.{◌≡◌, refl, sym, ap, ◌∙◌, subst}
 use native.Mathlib.Omega.{arith}
-use lib.Dec.{eqb, leb, ltb}
-use lib.ListN.{length, get_or, replicate, length-replicate}
+use lib.Dec.{eqb, ltb}
+use lib.ListN.{length, get_or, length-replicate}
 use borrow.Author.Tests.{lt-ltb, le-ltb, eq-eqb}
 use Rattle.rule.specs.declared.Day.{Day}
 use Rattle.rule.specs.declared.End.{End}
@@ -22,9 +21,9 @@ use Rattle.rule.specs.Inner.Read.{until_from, count_from, written}
 use Rattle.rule.proofs.Counting.{count_same}
 use Rattle.matcher.specs.declared.Terms.{Terms}
 use Rattle.matcher.specs.Inner.Layout.{row_size}
-use Rattle.matcher.specs.Inner.Walk.{picks_by, picks_on_by}
+use Rattle.matcher.specs.Inner.Walk.{picks_on_by}
 use Rattle.matcher.specs.Inner.Rows.{Termed}
-use Rattle.matcher.specs.Inner.Member.{is_first, falls_by, falls_on_by}
+use Rattle.matcher.specs.Inner.Member.{is_first, falls_on_by}
 use Rattle.matcher.proofs.RowLaws.{Marked, row-marked}
 use Rattle.matcher.proofs.GiveLaws.{clear-row, picks-here, falls-same}
 use Rattle.track.specs.declared.Track.{Track}

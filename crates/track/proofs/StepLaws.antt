@@ -1,9 +1,9 @@
 -- The period of the next day, and what is carried from one day to the next.
 use Rattle.std.specs.Prelude.{if◌then◌else◌}
-use Prim.Native.Nat.{ℕ, zero, suc, ◌+◌, ◌-◌, ◌*◌, ◌/◌, ◌%◌, ◌<◌, ◌≤◌}
+use Prim.Native.Nat.{ℕ, suc, ◌+◌, ◌-◌, ◌<◌, ◌≤◌}
 use mathlib.Core.Bool.{Bool, true, false, false≢true}
 use mathlib.Core.List.{List}
-use mathlib.Core.Path.{◌≡◌, refl, sym, ap, ◌∙◌, subst}
+use mathlib.Core.Path.{◌≡◌, refl, sym, ap, ◌∙◌}
 use native.Mathlib.Omega.{arith}
 use lib.Dec.{ltb}
 use lib.ListN.{length}
@@ -16,9 +16,8 @@ use Rattle.rule.specs.Day.{day_at}
 use Rattle.rule.specs.Lists.{count_in}
 use Rattle.rule.specs.Period.{since_first, days_of}
 use Rattle.rule.specs.Gives.{end_day}
-use Rattle.rule.specs.Inner.Bounds.{InCalendar}
 use Rattle.rule.proofs.Bools.{by}
-use Rattle.rule.proofs.Counting.{count-more, count_less, count_none, count-split, count_most}
+use Rattle.rule.proofs.Counting.{count-more, count_less, count_none, count-split}
 use Rattle.rule.proofs.PeriodLaws.{day-number}
 use Rattle.rule.proofs.DayLaws.{of-day, step-month, step-year, step-next-year}
 use Rattle.matcher.specs.declared.Terms.{Terms}

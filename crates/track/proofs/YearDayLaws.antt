@@ -1,25 +1,24 @@
 -- The days of two years of one kind agree in all but their number and their year.
 use Rattle.std.specs.Prelude.{if◌then◌else◌}
-use Prim.Native.Nat.{ℕ, zero, suc, ◌+◌, ◌-◌, ◌*◌, ◌/◌, ◌%◌, ◌<◌, ◌≤◌}
+use Prim.Native.Nat.{ℕ, zero, suc, ◌+◌, ◌%◌, ◌<◌, ◌≤◌}
 use mathlib.Core.Bool.{Bool, true, false}
 use mathlib.Core.List.{List}
-use mathlib.Core.Path.{◌≡◌, refl, sym, ap, ◌∙◌, subst}
+use mathlib.Core.Path.{◌≡◌, refl, sym, ap, ◌∙◌}
 use native.Mathlib.Omega.{arith}
 use lib.Dec.{ltb}
 use borrow.Author.Tests.{ltb-true, ltb-false}
 use Rattle.gregorian.specs.Year.{is_leap, year_length}
 use Rattle.gregorian.specs.Month.{length_in, month_length}
-use Rattle.gregorian.specs.Days.{day_count, weekday_of}
-use Rattle.rule.specs.declared.Frequency.TheVariants.{Daily, Weekly, Monthly, Yearly}
+use Rattle.gregorian.specs.Days.{day_count}
+use Rattle.rule.specs.declared.Frequency.TheVariants.{Yearly}
 use Rattle.rule.specs.declared.Day.{Day}
-use Rattle.rule.specs.Day.{on_date, day_at}
+use Rattle.rule.specs.Day.{day_at}
 use Rattle.rule.specs.Period.{period_of, since_first, days_of}
 use Rattle.rule.specs.Gives.{end_day}
-use Rattle.rule.specs.Inner.Bounds.{InCalendar}
 use Rattle.rule.proofs.Bools.{by}
 use Rattle.rule.proofs.DayLaws.{step-month, step-year, step-next-year}
 use Rattle.rule.proofs.PeriodLaws.{day-number}
-use Rattle.matcher.specs.Inner.Flags.{month_by, date_by, day_by, nth_by, stays_by}
+use Rattle.matcher.specs.Inner.Flags.{month_by, date_by, day_by, stays_by}
 use Rattle.matcher.proofs.WalkLaws.{in-calendar}
 use Rattle.track.specs.Inner.Years.{NewYear}
 use Rattle.track.proofs.SpanLaws.{Later, in-period, year-length-of}

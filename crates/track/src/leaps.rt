@@ -20,12 +20,9 @@ pub(crate) fn in_month(x: Day, k: u32) -> Day
     Day {
         number: x.number + k,
         weekday: (x.weekday + k) % 7,
-        year: x.year,
         yearday: x.yearday + k,
-        yeardays: x.yeardays,
-        month: x.month,
         monthday: x.monthday + k,
-        monthdays: x.monthdays,
+        ..x
     }
 }
 
@@ -54,11 +51,12 @@ fn month_from(year: u32, month: u32, r: u32) -> u32
     requires { ((1 ≤ month) × (month ≤ 12)) × ((month_start year month ≤ r) × (r < year_length year)) }
     ensures { HoldsDayOfYear year result r }
 {
-    let mut m = month;
-    while calendar::month::month_start(year, m + 1) <= r {
-        m += 1;
+    for m in month..12 {
+        if r < calendar::month::month_start(year, m + 1) {
+            return m;
+        }
     }
-    m
+    12
 }
 
 // k days later in the same year.
@@ -66,19 +64,16 @@ fn in_year(x: Day, k: u32) -> Day
     requires { (x ≡ day_at x.number) × ((x.number + k < day_count) × (x.yearday + k < x.yeardays)) }
     ensures { result ≡ day_at (x.number + k) }
 {
-    let year = x.year;
     let yearday = x.yearday + k;
-    let month = month_from(year, x.month, yearday);
-    let monthdays = calendar::month::month_length(year, month);
+    let month = month_from(x.year, x.month, yearday);
     Day {
         number: x.number + k,
         weekday: (x.weekday + k) % 7,
-        year,
         yearday,
-        yeardays: x.yeardays,
         month,
-        monthday: yearday - calendar::month::month_start(year, month) + 1,
-        monthdays,
+        monthday: yearday - calendar::month::month_start(x.year, month) + 1,
+        monthdays: calendar::month::month_length(x.year, month),
+        ..x
     }
 }
 

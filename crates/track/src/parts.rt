@@ -25,9 +25,9 @@ fn mark_part(
 {
     if alike {
         super::alike::mark_alike(terms, flags, rows, x, hits, value);
-        return;
+    } else {
+        super::plain::mark_each(terms, flags, hits, x, value);
     }
-    super::plain::mark_each(terms, flags, hits, x, value);
 }
 
 pub(crate) fn mark_parts(
@@ -44,6 +44,7 @@ pub(crate) fn mark_parts(
     let mut rows = [false; ANSWERS];
     let mut x = rule::days::day_of(first);
     let mut i = 0;
+    // The steps are as long as a gap or a part of a month, so no range has them.
     while i < hits.len() {
         let here = x;
         let out = super::skips::skip(terms, flags, here);

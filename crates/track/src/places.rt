@@ -8,6 +8,7 @@ use matcher::Terms;
 use matcher::layout::{POSITIONS, POSITIONS_BACK};
 use rule::{Day, Frequency};
 
+#[tactic(auto, unfolding(crate::specs::Inner::Places::most_days))]
 pub(crate) fn most_days(frequency: Frequency) -> u32
     ensures { result ≡ most_days frequency }
 {
@@ -24,23 +25,16 @@ pub(crate) fn least_days(terms: Terms, flags: &[bool]) -> u32
     requires { length flags.now ≡ row_size }
     ensures { Unset flags.now result }
 {
-    let placed = terms.placed;
-    if !placed {
+    if !terms.placed {
         return 1;
     }
-    let frequency = terms.frequency;
-    let most = most_days(frequency);
-    let mut k = 1;
-    while k <= most {
-        if flags[POSITIONS + k as usize] {
+    let most = most_days(terms.frequency);
+    for k in 1..most + 1 {
+        if flags[POSITIONS + k as usize] || flags[POSITIONS_BACK + k as usize] {
             return k;
         }
-        if flags[POSITIONS_BACK + k as usize] {
-            return k;
-        }
-        k += 1;
     }
-    k
+    most + 1
 }
 
 // Days from this one on to the end of its period, or of the profile.
@@ -52,8 +46,5 @@ pub(crate) fn to_period_end(terms: Terms, x: Day) -> u32
     let before = matcher::periods::since_first(frequency, terms.first, x);
     let rest = matcher::periods::days_of(frequency, x) - before;
     let known = 3067672 - x.number;
-    if known < rest {
-        return known;
-    }
-    rest
+    known.min(rest)
 }

@@ -13,10 +13,7 @@ pub(crate) fn picks_plain(terms: Terms, flags: &[bool], x: Day) -> bool
     requires { (terms.placed ≡ false) × Asked terms (length flags.now) x }
     ensures { result ≡ picks_on_by terms flags.now x.number }
 {
-    if !matcher::flags::stays(flags, terms.inyear, x) {
-        return false;
-    }
-    matcher::walk::in_step(terms, x)
+    matcher::flags::stays(flags, terms.inyear, x) && matcher::walk::in_step(terms, x)
 }
 
 // The days of one month from x on, as many as there are hits.
@@ -24,13 +21,11 @@ pub(crate) fn mark_each(terms: Terms, flags: &[bool], hits: &mut [bool], x: Day,
     requires { (terms.placed ≡ false) × (Asked terms (length flags.now) x × InMonth x (length hits.old)) }
     ensures { hits.new ≡ marked (picks_on_by terms flags.now) value x.number hits.old }
 {
-    let mut k = 0;
-    while k < hits.len() {
-        let here = k;
-        k += 1;
-        let y = super::leaps::in_month(x, here as u32);
-        if picks_plain(terms, flags, y) {
-            hits[here] = value;
+    for (k, hit) in hits.iter_mut().enumerate() {
+        let y = super::leaps::in_month(x, k as u32);
+        let picked = picks_plain(terms, flags, y);
+        if picked {
+            *hit = value;
         }
     }
 }
@@ -41,8 +36,5 @@ pub fn month_part(x: Day, left: usize) -> usize
     ensures { Part x left result }
 {
     let end = super::skips::to_month_end(x) as usize;
-    if left < end {
-        return left;
-    }
-    end
+    left.min(end)
 }

@@ -16,6 +16,7 @@ fn mark_placed(terms: Terms, flags: &[bool], hits: &mut [bool], first: u32, valu
     let need = super::places::least_days(terms, flags);
     let mut c = super::steps::cursor_at(terms, flags, first);
     let mut i = 0;
+    // The steps are as long as a day or a gap, so no range has them.
     while i < hits.len() {
         let held = c;
         if super::steps::picks(terms, flags, held) {
@@ -33,33 +34,18 @@ fn mark_placed(terms: Terms, flags: &[bool], hits: &mut [bool], first: u32, valu
     }
 }
 
-fn mark_monthly(terms: Terms, flags: &[bool], hits: &mut [bool], first: u32, value: bool)
-    requires { (terms.frequency ≡ Monthly) × Run terms (length flags.now) first (length hits.old) }
-    ensures { hits.new ≡ marked (picks_on_by terms flags.now) value first hits.old }
-{
-    if super::alike::is_alike(terms, flags) {
-        super::parts::mark_parts(terms, flags, true, hits, first, value);
-        return;
-    }
-    mark_placed(terms, flags, hits, first, value);
-}
-
 // Months are marked whole; a position that no month has is left to the walk from day to day, which passes all of them at once.
 fn mark_positions(terms: Terms, flags: &[bool], hits: &mut [bool], first: u32, value: bool)
     requires { Run terms (length flags.now) first (length hits.old) }
     ensures { hits.new ≡ marked (picks_on_by terms flags.now) value first hits.old }
 {
-    let need = super::places::least_days(terms, flags);
-    if 31 < need {
+    if terms.frequency == Frequency::Monthly
+        && super::places::least_days(terms, flags) <= 31
+        && super::alike::is_alike(terms, flags)
+    {
+        super::parts::mark_parts(terms, flags, true, hits, first, value);
+    } else {
         mark_placed(terms, flags, hits, first, value);
-        return;
-    }
-    let frequency = terms.frequency;
-    match frequency {
-        Frequency::Daily => mark_placed(terms, flags, hits, first, value),
-        Frequency::Weekly => mark_placed(terms, flags, hits, first, value),
-        Frequency::Monthly => mark_monthly(terms, flags, hits, first, value),
-        Frequency::Yearly => mark_placed(terms, flags, hits, first, value),
     }
 }
 
@@ -67,13 +53,12 @@ fn mark_days(terms: Terms, flags: &[bool], hits: &mut [bool], first: u32, value:
     requires { Run terms (length flags.now) first (length hits.old) }
     ensures { hits.new ≡ marked (picks_on_by terms flags.now) value first hits.old }
 {
-    let placed = terms.placed;
-    if placed {
+    if terms.placed {
         mark_positions(terms, flags, hits, first, value);
-        return;
+    } else {
+        let alike = super::alike::is_alike(terms, flags);
+        super::parts::mark_parts(terms, flags, alike, hits, first, value);
     }
-    let alike = super::alike::is_alike(terms, flags);
-    super::parts::mark_parts(terms, flags, alike, hits, first, value);
 }
 
 // Hit i of the run stands for day first + i: where the rule has that day, it gets the value. Only the days from `begin` on and before

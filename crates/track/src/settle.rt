@@ -12,8 +12,8 @@ pub fn settle(excluded: bool, rule: Rule, start: u64, limit: u32, row: &mut [boo
     ensures { SettledBy excluded rule start limit row.old row.new result }
 {
     let first = rule::days::day_of((start / 86400) as u32);
-    let terms = matcher::rows::terms_of(rule, first);
-    matcher::rows::mark_row(rule, first, row);
+    let terms = matcher::rows::terms_of(&rule, first);
+    matcher::rows::mark_row(&rule, first, row);
     let end = rule.end;
     let last = super::last::last_day(excluded, end, terms, row, start, limit);
     Track { terms, last }

@@ -29,10 +29,7 @@ fn periods_out(terms: Terms, period: u32) -> u32
         return 0;
     }
     let left = interval - over;
-    if 3067672 <= left {
-        return 3067672;
-    }
-    left as u32
+    left.min(3067672) as u32
 }
 
 pub(crate) fn to_month_end(x: Day) -> u32
@@ -42,6 +39,7 @@ pub(crate) fn to_month_end(x: Day) -> u32
     x.monthdays + 1 - x.monthday
 }
 
+#[tactic(auto, unfolding(crate::specs::Inner::Skips::days_ahead))]
 fn days_ahead(frequency: Frequency, first: u32, n: u32, x: Day) -> u32
     requires { ((first < 7) × ((1 ≤ n) × (n ≤ end_day))) × ((x ≡ day_at x.number) × (x.number < end_day)) }
     ensures { result ≡ days_ahead frequency first n x }
@@ -84,14 +82,12 @@ fn next_month(flags: &[bool], month: u32) -> u32
     requires { (length flags.now ≡ row_size) × (month ≤ 12) }
     ensures { MonthsUnset flags.now month result }
 {
-    let mut next = month;
-    while next < 13 {
+    for next in month..13 {
         if flags[next as usize] {
             return next;
         }
-        next += 1;
     }
-    next
+    13
 }
 
 // Days from this one on of months that the rule has not, as far as its year goes.
@@ -108,15 +104,11 @@ fn month_out(flags: &[bool], x: Day) -> u32
 }
 
 // The positions of a year are counted once, where it begins: it is passed whole or not at all.
+#[tactic(auto, unfolding(crate::specs::Inner::Skips::is_carried))]
 fn is_carried(frequency: Frequency, placed: bool) -> bool
     ensures { result ≡ is_carried frequency placed }
 {
-    match frequency {
-        Frequency::Daily => false,
-        Frequency::Weekly => false,
-        Frequency::Monthly => false,
-        Frequency::Yearly => placed,
-    }
+    frequency == Frequency::Yearly && placed
 }
 
 // Days from this one on that surely are none of the rule's: 0 where nothing is known. How many is left open: it only saves time.
@@ -124,8 +116,7 @@ pub fn skip(terms: Terms, flags: &[bool], x: Day) -> u32
     requires { Asked terms (length flags.now) x }
     ensures { Without (picks_on_by terms flags.now) x.number result }
 {
-    let frequency = terms.frequency;
-    if is_carried(frequency, terms.placed) {
+    if is_carried(terms.frequency, terms.placed) {
         return period_out(terms, x);
     }
     let out = days_out(terms, x);
@@ -141,15 +132,13 @@ fn to_next(terms: Terms, flags: &[bool], x: Day) -> u32
     ensures { Between (picks_on_by terms flags.now) x.number result }
 {
     let end = to_month_end(x);
-    let mut k = 1;
-    while k < end {
+    for k in 1..end {
         let y = super::leaps::in_month(x, k);
         if matcher::flags::stays(flags, terms.inyear, y) {
             return k;
         }
-        k += 1;
     }
-    k
+    end
 }
 
 // Looked for only up to the first day of a period that stays: asked on each day, it would cost more than it saves.

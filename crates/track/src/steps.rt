@@ -9,14 +9,11 @@ use matcher::Terms;
 use matcher::layout::{POSITIONS, POSITIONS_BACK};
 use rule::Day;
 
+#[tactic(auto, unfolding(crate::specs::Inner::Steps::is_counted))]
 fn is_counted(terms: Terms, n: u32) -> bool
     ensures { result ≡ is_counted terms n }
 {
-    let placed = terms.placed;
-    if placed {
-        return n < 3067672;
-    }
-    false
+    terms.placed && n < 3067672
 }
 
 // The period of a day counted as a whole.
@@ -78,20 +75,14 @@ pub(crate) fn advance(terms: Terms, flags: &[bool], c: Cursor) -> Cursor
     if matcher::periods::since_first(frequency, terms.first, x) == 0 {
         return cursor_on(terms, flags, x);
     }
-    let seen = c.seen;
-    let total = c.total;
     if matcher::flags::stays(flags, terms.inyear, day) {
         return Cursor {
             day: x,
-            seen: seen + 1,
-            total,
+            seen: c.seen + 1,
+            ..c
         };
     }
-    Cursor {
-        day: x,
-        seen,
-        total,
-    }
+    Cursor { day: x, ..c }
 }
 
 pub(crate) fn picks(terms: Terms, flags: &[bool], c: Cursor) -> bool
@@ -99,17 +90,8 @@ pub(crate) fn picks(terms: Terms, flags: &[bool], c: Cursor) -> bool
     ensures { result ≡ picks_on_by terms flags.now c.day.number }
 {
     let day = c.day;
-    if !matcher::flags::stays(flags, terms.inyear, day) {
-        return false;
-    }
-    if !matcher::walk::in_step(terms, day) {
-        return false;
-    }
-    let placed = terms.placed;
-    if !placed {
-        return true;
-    }
-    let seen = c.seen;
-    let total = c.total;
-    matcher::flags::is_named(flags, POSITIONS, POSITIONS_BACK, seen + 1, total)
+    matcher::flags::stays(flags, terms.inyear, day)
+        && matcher::walk::in_step(terms, day)
+        && (!terms.placed
+            || matcher::flags::is_named(flags, POSITIONS, POSITIONS_BACK, c.seen + 1, c.total))
 }

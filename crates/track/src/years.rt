@@ -14,45 +14,28 @@ use matcher::Terms;
 use rule::{Day, End, Frequency};
 
 // A week may begin in one year and end in the next: the days of the other year are alike too, but for their place in the year.
+#[tactic(auto, unfolding(crate::specs::Inner::Years::owns_places))]
 fn owns_places(frequency: Frequency, placed: bool, inyear: bool) -> bool
     ensures { result ≡ owns_places frequency placed inyear }
 {
-    match frequency {
-        Frequency::Daily => true,
-        Frequency::Weekly => {
-            if placed {
-                return !inyear;
-            }
-            true
-        }
-        Frequency::Monthly => true,
-        Frequency::Yearly => true,
-    }
+    frequency != Frequency::Weekly || !placed || !inyear
 }
 
 // With an interval beyond 512 hardly two years are of one kind, and few have a day of the rule.
+#[tactic(auto, unfolding(crate::specs::Inner::Years::is_alike))]
 fn is_alike(terms: Terms) -> bool
     ensures { result ≡ is_alike terms }
 {
-    let interval = terms.interval;
-    if interval == 0 {
-        return false;
-    }
-    if 512 < interval {
-        return false;
-    }
-    let frequency = terms.frequency;
-    owns_places(frequency, terms.placed, terms.inyear)
+    (1..=512).contains(&terms.interval) && owns_places(terms.frequency, terms.placed, terms.inyear)
 }
 
 // Fewer days are counted as fast one by one, or a month at a time where there are no set positions.
+#[tactic(auto, unfolding(crate::specs::Inner::Years::is_far))]
 fn is_far(placed: bool, left: u32) -> bool
     ensures { result ≡ is_far placed left }
 {
-    if placed {
-        return 12000 <= left;
-    }
-    100000 <= left
+    let least = if placed { 12000 } else { 100000 };
+    least <= left
 }
 
 // The place of a year's kind: its length, the weekday of its first day, and how far the period of that day lies after one in step.
@@ -85,6 +68,7 @@ fn count_days(
     let mut c = super::steps::cursor_on(terms, flags, x);
     let mut left = n;
     let mut found: u32 = 0;
+    // The steps are as long as a day or a gap, so no range has them.
     while 0 < left {
         if super::last::falls(excluded, end, terms, flags, start, c) {
             found += 1;
@@ -107,11 +91,10 @@ fn span_part(frequency: Frequency, x: Day, left: u32) -> u32
     requires { (x ≡ day_at x.number) × ((x.number < end_day) × (1 ≤ left)) }
     ensures { Some left result }
 {
-    match frequency {
-        Frequency::Daily => left,
-        Frequency::Weekly => left,
-        Frequency::Monthly => super::plain::month_part(x, left as usize) as u32,
-        Frequency::Yearly => left,
+    if frequency == Frequency::Monthly {
+        super::plain::month_part(x, left as usize) as u32
+    } else {
+        left
     }
 }
 
@@ -132,6 +115,7 @@ fn count_span(
     let mut d = x;
     let mut left = n;
     let mut found: u32 = 0;
+    // The steps are as long as a gap or a part, so no range has them.
     while 0 < left {
         let here = d;
         let out = super::ahead::out_after(terms, flags, first, here);
@@ -152,21 +136,12 @@ fn count_span(
     found
 }
 
+#[tactic(auto, unfolding(crate::specs::Inner::Years::idle_in))]
 fn idle_in(frequency: Frequency, interval: u64, phase: u64) -> bool
     requires { phase < interval }
     ensures { result ≡ idle_in frequency interval phase }
 {
-    match frequency {
-        Frequency::Daily => false,
-        Frequency::Weekly => false,
-        Frequency::Monthly => {
-            if phase == 0 {
-                return false;
-            }
-            12 <= interval - phase
-        }
-        Frequency::Yearly => false,
-    }
+    frequency == Frequency::Monthly && phase != 0 && 12 <= interval - phase
 }
 
 // Whether no month of a year is in step: then the year is not walked. Other periods are passed at once where they are out of step.
@@ -231,6 +206,7 @@ fn pass_years(
     let mut x = from.day;
     let mut left = from.left;
     let mut more = from.more;
+    // The steps are as long as the years, so no range has them.
     while 366 <= left {
         let d = x;
         let found = year_count(excluded, end, terms, flags, start, &mut known, d);

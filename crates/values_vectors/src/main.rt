@@ -6,7 +6,7 @@ ghost use Rattle.std.specs.Prelude.{◌≤◌, ◌<◌, length};
 
 use date_time::DateTime;
 use duration::Span;
-use fault::First;
+use fault::Fault;
 use json_text::bytes::byte;
 use keywords::{FreeBusy, Named, Privacy, Rate};
 use std::io;
@@ -106,7 +106,7 @@ fn word(rt: &impl Print, kind: u8, raw: &[u8]) -> io::Result<()> {
 }
 
 // A fault in three digits at a place of the line: two for its number, 00 for none, and one for its place.
-fn fault_in(raw: &[u8], at: usize) -> First
+fn fault_in(raw: &[u8], at: usize) -> Option<Fault>
     requires { at < 100 }
 {
     let place = digits::digit(byte(raw, at + 2));

@@ -1,7 +1,7 @@
 -- The first day that passes: it passes, and none before it does.
 use Rattle.std.specs.Prelude.{if◌then◌else◌}
 use Prim.Native.Nat.{ℕ, zero, suc, ◌+◌, ◌-◌, ◌<◌, ◌≤◌}
-use mathlib.Core.Bool.{Bool, true, false, false≢true, ◌&&◌}
+use mathlib.Core.Bool.{Bool, true, false, false≢true, not, ◌&&◌}
 use mathlib.Core.Path.{◌≡◌, refl, sym, ap, ◌∙◌, subst}
 use native.Mathlib.Omega.{arith}
 use native.Mathlib.Numerals.{add-one}
@@ -40,6 +40,12 @@ none-step p (suc n) d h none =
     go true false later = refl
     go false none later = refl
 
+and-not : (none hit : Bool) → (none && not hit) ≡ (if hit then false else none)
+and-not true true = refl
+and-not true false = refl
+and-not false true = refl
+and-not false false = refl
+
 none_end : (p : ℕ → Bool) (d : ℕ) (none : Bool) → (none && none_in p d 0) ≡ none
 unfolding none_in
 none_end p d true = refl
@@ -55,10 +61,10 @@ module _ (p : ℕ → Bool) (low high : ℕ) where
   none-starts h = record { within = h; same = refl }
 
   module _ (none : Bool) (i : ℕ) (a : NoneAt p low high none i) where
-    pub none-goes-on : i < high → (next : Bool) → next ≡ (if p i then false else none) → NoneAt p low high next (i + 1)
-    none-goes-on more next is =
+    pub none-goes-on : i < high → (hit : Bool) → hit ≡ p i → NoneAt p low high (none && not hit) (i + 1)
+    none-goes-on more hit is =
         let less : high - (i + 1) ≡ high - i - 1 = omega arith in
-        record { within = omega arith; same = rw (is, less) (none-step p (high - i) i (omega arith) none ∙ a.same) }
+        record { within = omega arith; same = rw (is, and-not none (p i), less) (none-step p (high - i) i (omega arith) none ∙ a.same) }
 
     pub none-ends : high ≤ i → none ≡ none_in p low (high - low)
     none-ends over =

@@ -1,5 +1,4 @@
 -- The next hit of a run, as a second.
-use Rattle.std.specs.Prelude.{if◌then◌else◌}
 use Prim.Native.Nat.{ℕ, ◌+◌, ◌-◌, ◌*◌, ◌/◌, ◌%◌, ◌<◌, ◌≤◌}
 use mathlib.Core.Bool.{Bool, true, false}
 use mathlib.Core.List.{List}
@@ -11,7 +10,7 @@ use borrow.Author.Tests.{ltb-true, ltb-false, leb-true, leb-false, eqb-true, eq-
 use Rattle.rule.specs.Gives.{end_day}
 use Rattle.rule.proofs.Bools.{by}
 use Rattle.window.proofs.FirstLaws.{First, first-is, first-none, first-here, first-later, first-passed}
-use Rattle.window.specs.Inner.Next.{first_from, none_in, next_of, at_hit, TrueAt, is_hit, day_from, Stretch}
+use Rattle.window.specs.Inner.Next.{first_from, none_in, next_of, at_hit, TrueAt, is_hit, day_from, lower, Stretch}
 use Rattle.window.proofs.NextLaws.{next-made}
 
 -- ---- the walk through the hits
@@ -144,12 +143,15 @@ module _ (hits : List Bool) (first start at to : ℕ) (s : Stretch first (length
         (λ e. rw e)
 
     -- what the code answers
-    pub hit-here : x < to → x ≡ next_of (is_hit hits first start) at to
-    hit-here h =
-        next-made (is_hit hits first start) at to s.order x
-        (record { low = reached; high = omega arith; passes = hit-passes; none = hit-none })
-
-    pub hit-nowhere : to ≤ x → to ≡ next_of (is_hit hits first start) at to
-    hit-nowhere h =
-        next-made (is_hit hits first start) at to s.order to
-        (record { low = s.order; high = omega arith; passes = λ k. absurd (omega arith); none = λ j low high. hit-none j low (omega arith) })
+    pub hit-lower : lower to x ≡ next_of (is_hit hits first start) at to
+    unfolding lower
+    hit-lower =
+        by (ltb x to)
+        (λ e.
+        rw e
+        (next-made (is_hit hits first start) at to s.order x
+        (record { low = reached; high = omega (arith, ltb-true x to e); passes = hit-passes; none = hit-none })))
+        (λ e.
+        rw e
+        (next-made (is_hit hits first start) at to s.order to
+        (record { low = s.order; high = omega arith; passes = λ k. absurd (omega arith); none = λ j low high. hit-none j low (omega (arith, ltb-false x to e)) })))

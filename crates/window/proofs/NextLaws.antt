@@ -1,6 +1,6 @@
 -- The next second that passes: it is at hand by what it is, and two tests have their next where the nearer has its own.
 use Rattle.std.specs.Prelude.{if◌then◌else◌}
-use Prim.Native.Nat.{ℕ, ◌-◌, ◌<◌, ◌≤◌}
+use Prim.Native.Nat.{ℕ, ◌-◌, ◌<◌, ◌≤◌, min}
 use mathlib.Core.Bool.{Bool, true, false, false≢true, ◌||◌}
 use mathlib.Core.Path.{◌≡◌, refl, sym, ◌∙◌}
 use native.Mathlib.Omega.{arith}
@@ -38,6 +38,14 @@ module _ (p : ℕ → Bool) (a to : ℕ) (order : a ≤ to) where
 
   pub next-made : (r : ℕ) → Next p a to r → r ≡ next_of p a to
   next-made r f = next-unique r (next_of p a to) f next-is
+
+-- the library's word for it
+pub lower-min : (a b : ℕ) → min a b ≡ lower a b
+unfolding lower
+lower-min a b =
+    by (ltb b a)
+    (λ e. let less = ltb-true b a e in rw e (omega arith))
+    (λ e. let more = ltb-false b a e in rw e (omega arith))
 
 -- the nearer of two
 pub next-lower : (p q : ℕ → Bool) (a to r s : ℕ) → Next p a to r → Next q a to s → Next (λ x. p x || q x) a to (lower r s)

@@ -1,15 +1,14 @@
 -- The overrides, one after the other.
 use Rattle.std.specs.Prelude.{if◌then◌else◌}
-use Prim.Native.Nat.{ℕ, suc, ◌+◌, ◌<◌, ◌≤◌}
+use Prim.Native.Nat.{ℕ, ◌+◌, ◌<◌, ◌≤◌}
 use mathlib.Core.Bool.{Bool, true, false, ◌&&◌, ◌||◌}
 use mathlib.Core.List.{List, [], ◌∷◌}
 use mathlib.Core.Path.{◌≡◌, refl, sym, ap, ◌∙◌, subst}
 use native.Mathlib.Omega.{arith}
-use native.Mathlib.Numerals.{add-one}
 use lib.Dec.{eqb, ltb}
-use lib.ListN.{length, drop, get_or}
-use lib.Seq.{drop-cons, drop-length}
+use lib.ListN.{length}
 use borrow.Author.Tests.{ltb-true, ltb-false, eqb-true, eq-eqb, ne_eqb}
+use Rattle.std.specs.List.{zip, list_any}
 use Rattle.rule.proofs.Bools.{by, or_left, or_right}
 use Rattle.dates.specs.Inner.Overrides.{counts, is_named, is_kept}
 use Rattle.window.specs.Inner.Next.{nearer, least_of, next_of}
@@ -19,78 +18,31 @@ neither : (b c : Bool) → ((b && false) || c) ≡ c
 neither true c = refl
 neither false c = refl
 
--- ---- whether one names x
+-- ---- whether one names x, by the pairs of an id and its mark
 
-pub record NamedAt (only : Bool) (ids : List ℕ) (gone : List Bool) (x i : ℕ) : Type 0 where
-  pub within : i ≤ length ids
-  pub same : is_named only (drop i ids) (drop i gone) x ≡ is_named only ids gone x
+pub named-any : (only : Bool) (ids : List ℕ) (gone : List Bool) (x : ℕ) → list_any (λ (p : ℕ × Bool). counts only p.1 && eqb p.0 x) (zip ids gone) ≡ is_named only ids gone x
+unfolding is_named
+named-any only [] gone x = refl
+named-any only (i ∷ ids) [] x = refl
+named-any only (i ∷ ids) (g ∷ gone) x = ap (λ (b : Bool). (counts only g && eqb i x) || b) (named-any only ids gone x)
 
-module _ (only : Bool) (ids : List ℕ) (gone : List Bool) (x : ℕ) where
-  pub named-starts : NamedAt only ids gone x 0
-  named-starts = record { within = omega arith; same = refl }
+-- ---- the least of those that are not excluded: those that are left have it from the best so far
 
-  module _ (i : ℕ) (a : NamedAt only ids gone x i) (more : i < length ids) (sizes : length ids ≡ length gone) where
-    step : is_named only ids gone x ≡ ((counts only (get_or gone i false) && eqb (get_or ids i 0) x) || is_named only (drop (suc i) ids) (drop (suc i) gone) x)
-    unfolding is_named
-    step =
-        sym a.same
-        ∙ (ap (λ (l : List ℕ). is_named only l (drop i gone) x) (drop-cons ids i 0 more)
-        ∙ ap (λ (g : List Bool). is_named only (get_or ids i 0 ∷ drop (suc i) ids) g x) (drop-cons gone i false (omega arith)))
+pub record LeastAt (ids : List ℕ) (gone : List Bool) (at to best : ℕ) (left : List ℕ) (marks : List Bool) : Type 0 where
+  pub sizes : length left ≡ length marks
+  pub same : least_of at best left marks ≡ least_of at to ids gone
 
-    pub named_here : (counted : Bool) → counted ≡ counts only (get_or gone i false) → counted ≡ true → get_or ids i 0 ≡ x → true ≡ is_named only ids gone x
-    named_here counted is yes-it-is same =
-        sym (step ∙ rw (sym is ∙ yes-it-is, eq-eqb (get_or ids i 0) x same))
+module _ (ids : List ℕ) (gone : List Bool) (at to best : ℕ) where
+  pub least-goes-on : (next i : ℕ) (g : Bool) (left : List ℕ) (marks : List Bool) → LeastAt ids gone at to best (i ∷ left) (g ∷ marks) → next ≡ nearer at best i g
+      → LeastAt ids gone at to next left marks
+  unfolding least_of
+  least-goes-on next i g left marks a is =
+      let sizes = a.sizes in
+      record { sizes = omega arith; same = ap (λ (b : ℕ). least_of at b left marks) is ∙ a.same }
 
-    pub named_other : (counted : Bool) → counted ≡ counts only (get_or gone i false) → (get_or ids i 0 ≡ x → ⊥) → NamedAt only ids gone x (i + 1)
-    named_other counted is other =
-        rw (add-one i)
-        (record {
-          within = more;
-          same = sym (step ∙ rw (ne_eqb (get_or ids i 0) x other) (neither (counts only (get_or gone i false)) (is_named only (drop (suc i) ids) (drop (suc i) gone) x)));
-        })
-
-    pub named-not-counted : (counted : Bool) → counted ≡ counts only (get_or gone i false) → counted ≡ false → NamedAt only ids gone x (i + 1)
-    named-not-counted counted is no-it-is-not =
-        rw (add-one i) (record { within = more; same = sym (step ∙ rw (sym is ∙ no-it-is-not)) })
-
-  pub named_none : (i : ℕ) → NamedAt only ids gone x i → length ids ≤ i → false ≡ is_named only ids gone x
-  unfolding is_named
-  named_none i a over =
-      let all : i ≡ length ids = omega (arith, a.within) in
-      let none : drop i ids ≡ [] = rw all (drop-length ids) in
-      sym (ap (λ (l : List ℕ). is_named only l (drop i gone) x) none) ∙ a.same
-
--- ---- the least of those that are not excluded
-
-pub record LeastAt (ids : List ℕ) (gone : List Bool) (at to best i : ℕ) : Type 0 where
-  pub within : i ≤ length ids
-  pub same : least_of at best (drop i ids) (drop i gone) ≡ least_of at to ids gone
-
-module _ (ids : List ℕ) (gone : List Bool) (at to : ℕ) (sizes : length ids ≡ length gone) where
-  pub least-starts : LeastAt ids gone at to to 0
-  least-starts = record { within = omega arith; same = refl }
-
-  module _ (best i : ℕ) (a : LeastAt ids gone at to best i) where
-    pub least-goes-on : (next : ℕ) → i < length ids → next ≡ nearer at best (get_or ids i 0) (get_or gone i false) → LeastAt ids gone at to next (i + 1)
-    unfolding least_of
-    least-goes-on next more is =
-        rw (add-one i)
-        (record {
-          within = more;
-          same =
-              ap (λ (b : ℕ). least_of at b (drop (suc i) ids) (drop (suc i) gone)) is
-              ∙ (sym
-              (ap (λ (l : List ℕ). least_of at best l (drop i gone)) (drop-cons ids i 0 more)
-              ∙ ap (least_of at best (get_or ids i 0 ∷ drop (suc i) ids)) (drop-cons gone i false (omega arith)))
-              ∙ a.same);
-        })
-
-    pub least-ends : length ids ≤ i → best ≡ least_of at to ids gone
-    unfolding least_of
-    least-ends over =
-        let all : i ≡ length ids = omega (arith, a.within) in
-        let none : drop i ids ≡ [] = rw all (drop-length ids) in
-        sym (ap (λ (l : List ℕ). least_of at best l (drop i gone)) none) ∙ a.same
+  pub least-ends : LeastAt ids gone at to best [] [] → best ≡ least_of at to ids gone
+  unfolding least_of
+  least-ends a = a.same
 
 -- an override names it, and what an override names before it is excluded by each that names it
 record Least (at best : ℕ) (ids : List ℕ) (gone : List Bool) (r : ℕ) : Type 0 where

@@ -1,6 +1,9 @@
 -- Ids that increase: an id stands at one place, and what stands after it is greater.
 use Prim.Native.Nat.{ℕ, zero, suc, ◌+◌, ◌-◌, ◌<◌, ◌≤◌}
-use mathlib.Core.Bool.{Bool, true, false, ◌&&◌, ◌||◌}
+use mathlib.Core.Bool.{Bool, true, false, false≢true, ◌&&◌, ◌||◌}
+use Rattle.std.proofs.lemmas.List.{get_or_default}
+use Rattle.std.specs.List.{IsAllAdjacentAnswer}
+use Rattle.std.specs.List.Sorted.{IsPartitionedBy, IsPartitionPoint}
 use mathlib.Core.List.{List, [], ◌∷◌}
 use mathlib.Core.Path.{◌≡◌, refl, sym, ap, ◌∙◌, subst}
 use native.Mathlib.Omega.{arith}
@@ -8,45 +11,19 @@ use native.Mathlib.Numerals.{add-one}
 use lib.Dec.{eqb, ltb}
 use lib.ListN.{length, drop, get_or, length-drop, drop_of_length-le}
 use lib.Seq.{drop-cons, get_or-drop}
-use borrow.Author.Tests.{ltb-true, ltb-false, lt-ltb, le-ltb, eqb-true, eqb-false, eq-eqb, ne_eqb}
+use borrow.Author.Tests.{ltb-true, ltb-false, lt-ltb, le-ltb, eqb-true, eq-eqb, ne_eqb}
 use Rattle.rule.proofs.Bools.{by}
 use Rattle.dates.specs.Inner.Overrides.{counts, is_named, is_kept}
 use Rattle.window.specs.Inner.Next.{next_of, lower}
-use Rattle.window.specs.Inner.Sorted.{Rising, less_than, Below}
+use Rattle.window.specs.Inner.Sorted.{Rising, Ordered, less_than, Below}
 use Rattle.window.proofs.NextLaws.{next-made}
 
--- ---- the walk that looks whether they increase
+-- ---- what the library says of each id and the next
 
-pub record RisesTo (ids : List ℕ) (i : ℕ) : Type 0 where
-  pub some_way : 1 ≤ i
-  pub each : (k : ℕ) → k + 1 < i → get_or ids k 0 < get_or ids (k + 1) 0
-
-pub rises-starts : (ids : List ℕ) → RisesTo ids 1
-rises-starts ids = record { some_way = omega arith; each = λ k h. absurd (omega arith) }
-
-pub rises-goes-on : (ids : List ℕ) (i : ℕ) → RisesTo ids i → get_or ids (i - 1) 0 < get_or ids i 0 → RisesTo ids (i + 1)
-rises-goes-on ids i a more =
-    let begun = a.some_way in
-    record {
-      some_way = omega arith;
-      each = λ k h.
-          by (eqb (k + 1) i)
-          (λ e.
-          let last : k + 1 ≡ i = eqb-true (k + 1) i e in
-          let before : i - 1 ≡ k = omega arith in
-          subst (λ (j : ℕ). get_or ids k 0 < get_or ids j 0) (sym last) (subst (λ (j : ℕ). get_or ids j 0 < get_or ids i 0) before more))
-          (λ e. let other = eqb-false (k + 1) i e in a.each k (omega (arith, other)));
-    }
-
-pub rises-all : (ids : List ℕ) (i : ℕ) → RisesTo ids i → length ids ≤ i → Rising ids
-rises-all ids i a over = record { each = λ k h. a.each k (omega arith) }
-
-pub rises-not : (ids : List ℕ) (i : ℕ) → RisesTo ids i → Rising ids → i < length ids → get_or ids i 0 ≤ get_or ids (i - 1) 0 → ⊥
-rises-not ids i a r within less =
-    let begun = a.some_way in
-    let back : i - 1 + 1 ≡ i = omega arith in
-    let more : get_or ids (i - 1) 0 < get_or ids i 0 = subst (λ (j : ℕ). get_or ids (i - 1) 0 < get_or ids j 0) back (r.each (i - 1) (omega arith)) in
-    omega arith
+pub rises-answer : (ids : List ℕ) (r : Bool) → IsAllAdjacentAnswer (λ x y b. b ≡ ltb x y) ids r → Ordered ids r × (Rising ids → r ≡ true)
+rises-answer ids true h = (λ e. record { each = λ k less. ltb-true _ _ (sym (h k 0 less)) }, λ r. refl)
+rises-answer ids false h =
+    (λ e. absurd (false≢true e), λ r. absurd (false≢true (h.2 0 ∙ lt-ltb _ _ (r.each h.0 h.1))))
 
 -- ---- what stands after is greater
 
@@ -66,35 +43,19 @@ module _ (ids : List ℕ) (r : Rising ids) where
       let there : i + suc (j - suc i) ≡ j = omega arith in
       subst (λ (m : ℕ). get_or ids i 0 < get_or ids m 0) there (behind (j - suc i) i (omega arith))
 
--- ---- halving
+-- ---- where those that are less end
 
-pub record Halved (ids : List ℕ) (x low high : ℕ) : Type 0 where
-  pub order : low ≤ high
-  pub within : high ≤ length ids
-  pub less : (i : ℕ) → i < low → get_or ids i 0 < x
-  pub rest : high < length ids → x ≤ get_or ids high 0
+pub ids-part : (ids : List ℕ) (x : ℕ) → Rising ids → IsPartitionedBy (λ i. ltb i x) ids
+ids-part ids x r i j d before within less =
+    by (ltb i j)
+    (λ e.
+    let more = greater ids r i j (ltb-true i j e) within in
+    lt-ltb _ _ (omega (arith, ltb-true _ x less, get_or_default ids i d 0 (omega arith), get_or_default ids j d 0 within)))
+    (λ e.
+    let same : i ≡ j = omega (arith, ltb-false i j e) in
+    rw same less)
 
 module _ (ids : List ℕ) (x : ℕ) where
-  pub halves-start : Halved ids x 0 (length ids)
-  halves-start = record { order = omega arith; within = omega arith; less = λ i h. absurd (omega arith); rest = λ h. absurd (omega arith) }
-
-  module _ (r : Rising ids) (low high middle : ℕ) (a : Halved ids x low high) (above : low ≤ middle) (beneath : middle < high) where
-    pub halves-up : get_or ids middle 0 < x → Halved ids x (middle + 1) high
-    halves-up h =
-        let most = a.within in
-        record {
-          order = omega arith;
-          within = most;
-          less = λ i k.
-              by (eqb i middle)
-              (λ e. let same = eqb-true i middle e in subst (λ (j : ℕ). get_or ids j 0 < x) (sym same) h)
-              (λ e. omega (arith, greater ids r i middle (omega (arith, eqb-false i middle e)) (omega arith)));
-          rest = a.rest;
-        }
-
-    pub halves-down : x ≤ get_or ids middle 0 → Halved ids x low middle
-    halves-down h = record { order = above; within = omega (arith, a.within); less = a.less; rest = λ k. h }
-
   less-is : (ids : List ℕ) (r : ℕ) → r ≤ length ids → ((i : ℕ) → i < r → get_or ids i 0 < x) → (r < length ids → x ≤ get_or ids r 0) → r ≡ less_than x ids
   unfolding less_than
   less-is [] zero within less rest = refl
@@ -104,13 +65,11 @@ module _ (ids : List ℕ) (x : ℕ) where
       rw (lt-ltb i x (less 0 (omega arith)))
       (ap suc (less-is ids r (omega arith) (λ k h. less (suc k) (omega arith)) (λ h. rest (omega arith))))
 
-  pub halves-end : (low high : ℕ) → Halved ids x low high → high ≤ low → Below ids x low
-  halves-end low high a over =
-      let order = a.order in
-      let same : high ≡ low = omega arith in
-      let within : low ≤ length ids = omega (arith, a.within) in
-      let rest : (low < length ids → x ≤ get_or ids low 0) = λ k. subst (λ (j : ℕ). x ≤ get_or ids j 0) same (a.rest (omega arith)) in
-      record { is = less-is ids low within a.less rest; within = within; less = a.less; rest = rest }
+  pub below-made : (r : ℕ) → r ≤ length ids → IsPartitionPoint (λ i. ltb i x ≡ true) (λ i. ltb i x ≡ false) ids r → Below ids x r
+  below-made r within p =
+      let less : ((i : ℕ) → i < r → get_or ids i 0 < x) = λ i h. ltb-true _ _ (p.0 i 0 (omega arith) h) in
+      let rest : (r < length ids → x ≤ get_or ids r 0) = λ h. ltb-false _ _ (p.1 r 0 (omega arith) h) in
+      record { is = less-is ids r within less rest; within = within; less = less; rest = rest }
 
 -- ---- names
 

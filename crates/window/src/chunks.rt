@@ -8,9 +8,5 @@ pub fn chunk_end(at: u64, to: u64, k: usize) -> u64
     requires { at / 86400 + k ≤ end_day }
     ensures { result ≡ chunk_end at to k }
 {
-    let end = 86400 * (at / 86400 + k as u64);
-    if end < to {
-        return end;
-    }
-    to
+    to.min(86400 * (at / 86400 + k as u64))
 }

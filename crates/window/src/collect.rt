@@ -22,21 +22,19 @@ pub fn collect_run(
     ensures { Handed (is_there hits.now first start ids.now gone.now) from to out.old out.new result.count result.next }
 {
     let sorted = rises(ids);
-    let mut n = 0;
     let mut at = from;
     let mut pending = next_kept(ids, gone, sorted, from, to);
-    while at < to {
-        if out.len() <= n {
-            return Chunk { count: n, next: at };
-        }
+    for (n, place) in out.iter_mut().enumerate() {
         let x = next_in(hits, first, start, pending, at, to);
         if to <= x {
             return Chunk { count: n, next: to };
         }
-        out[n] = x;
-        n += 1;
+        *place = x;
         at = x + 1;
         pending = renew(ids, gone, sorted, pending, x + 1, to);
     }
-    Chunk { count: n, next: at }
+    Chunk {
+        count: out.len(),
+        next: at,
+    }
 }

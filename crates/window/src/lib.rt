@@ -6,11 +6,11 @@ pub mod collect;
 pub mod next;
 pub mod sorted;
 
-// What was found of a window's ids: how many stand in the lent slice, and the second from which on to ask for more.
+// What was found of a window's ids, or of its days: how many stand in the lent slice, and the second, or the day, from which on to ask for more.
 #[derive(Clone, Copy)]
-pub struct Chunk {
+pub struct Chunk<T = u64> {
     pub count: usize,
-    pub next: u64,
+    pub next: T,
 }
 
 // The window of a call, in seconds from 1600: the first is in it, the second is not.

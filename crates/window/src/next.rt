@@ -11,32 +11,17 @@ fn is_named(only: bool, ids: &[u64], gone: &[bool], x: u64) -> bool
     requires { length ids.now ≡ length gone.now }
     ensures { result ≡ is_named only ids.now gone.now x }
 {
-    let mut i = 0;
-    while i < ids.len() {
-        let here = i;
-        i += 1;
-        if dates::marks::count_it(only, gone[here]) {
-            if ids[here] == x {
-                return true;
-            }
-        }
-    }
-    false
+    ids.iter().zip(gone).any(|(id, gone)| dates::marks::count_it(only, *gone) && *id == x)
 }
 
 fn nearer_of(at: u64, best: u64, id: u64, gone: bool) -> u64
     ensures { result ≡ nearer at best id gone }
 {
-    if id < at {
-        return best;
+    if at <= id && id < best && !gone {
+        id
+    } else {
+        best
     }
-    if id < best {
-        if gone {
-            return best;
-        }
-        return id;
-    }
-    best
 }
 
 // The least date-time from `at` on, and before `to`, of an override that is not excluded; `to` where there is none.
@@ -45,10 +30,8 @@ fn nearest(ids: &[u64], gone: &[bool], at: u64, to: u64) -> u64
     ensures { result ≡ least_of at to ids.now gone.now }
 {
     let mut best = to;
-    let mut i = 0;
-    while i < ids.len() {
-        best = nearer_of(at, best, ids[i], gone[i]);
-        i += 1;
+    for (id, gone) in ids.iter().zip(gone) {
+        best = nearer_of(at, best, *id, *gone);
     }
     best
 }
@@ -80,9 +63,10 @@ pub(crate) fn next_kept(ids: &[u64], gone: &[bool], sorted: bool, at: u64, to: u
     ensures { result ≡ next_of (is_kept ids.now gone.now) at to }
 {
     if sorted {
-        return next_sorted(ids, gone, at, to);
+        next_sorted(ids, gone, at, to)
+    } else {
+        next_unsorted(ids, gone, at, to)
     }
-    next_unsorted(ids, gone, at, to)
 }
 
 // What was next among the overrides, looked for again only where it was passed.
@@ -91,18 +75,10 @@ pub(crate) fn renew(ids: &[u64], gone: &[bool], sorted: bool, pending: u64, at: 
     ensures { result ≡ renewed ids.now gone.now pending at to }
 {
     if pending < at {
-        return next_kept(ids, gone, sorted, at, to);
+        next_kept(ids, gone, sorted, at, to)
+    } else {
+        pending
     }
-    pending
-}
-
-fn still(none: bool, hit: bool) -> bool
-    ensures { result ≡ (if hit then false else none) }
-{
-    if hit {
-        return false;
-    }
-    none
 }
 
 // Is none of some days hit? It looks at all of them, so that the machine looks at many at once.
@@ -111,10 +87,8 @@ fn none_in(hits: &[bool], low: usize, high: usize) -> bool
     ensures { result ≡ none_in (at_hit hits.now) low (high - low) }
 {
     let mut none = true;
-    let mut i = low;
-    while i < high {
-        none = still(none, hits[i]);
-        i += 1;
+    for hit in &hits[low..high] {
+        none &= !*hit;
     }
     none
 }
@@ -140,13 +114,11 @@ fn past_quiet(hits: &[bool], i: usize) -> usize
     requires { i ≤ length hits.now }
     ensures { TrueAt hits.now i result }
 {
-    if hits.len() - i < 16 {
-        return i;
+    if 16 <= hits.len() - i && none_in(hits, i, i + 16) {
+        past_blocks(hits, i + 16)
+    } else {
+        i
     }
-    if none_in(hits, i, i + 16) {
-        return past_blocks(hits, i + 16);
-    }
-    i
 }
 
 fn next_true(hits: &[bool], from: usize) -> usize
@@ -168,9 +140,10 @@ pub fn day_from(start: u64, at: u64) -> u64
     ensures { result ≡ day_from start at }
 {
     if at % 86400 <= start % 86400 {
-        return at / 86400;
+        at / 86400
+    } else {
+        at / 86400 + 1
     }
-    at / 86400 + 1
 }
 
 // The first date-time from `at` on, and before `to`, whose hit is set; `to` where there is none.
@@ -178,14 +151,9 @@ fn next_hit(hits: &[bool], first: u32, start: u64, at: u64, to: u64) -> u64
     requires { Stretch first (length hits.now) at to }
     ensures { result ≡ next_of (is_hit hits.now first start) at to }
 {
-    let day = day_from(start, at);
-    let from = day - first as u64;
+    let from = day_from(start, at) - u64::from(first);
     let i = next_true(hits, from as usize);
-    let x = 86400 * (first as u64 + i as u64) + start % 86400;
-    if x < to {
-        return x;
-    }
-    to
+    to.min(86400 * (u64::from(first) + i as u64) + start % 86400)
 }
 
 // The first date-time of the set from `at` on, and before `to`; `pending` is what comes next among the overrides.
@@ -193,9 +161,5 @@ pub(crate) fn next_in(hits: &[bool], first: u32, start: u64, pending: u64, at: u
     requires { Stretch first (length hits.now) at to }
     ensures { result ≡ lower (next_of (is_hit hits.now first start) at to) pending }
 {
-    let hit = next_hit(hits, first, start, at, to);
-    if pending < hit {
-        return pending;
-    }
-    hit
+    next_hit(hits, first, start, at, to).min(pending)
 }

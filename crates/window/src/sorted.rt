@@ -8,14 +8,7 @@ ghost use Rattle.window.specs.Inner.Sorted.{Rising, Ordered, Below};
 pub fn rises(ids: &[u64]) -> bool
     ensures { Ordered ids.now result × (Rising ids.now → result ≡ true) }
 {
-    let mut i = 1;
-    while i < ids.len() {
-        if ids[i] <= ids[i - 1] {
-            return false;
-        }
-        i += 1;
-    }
-    true
+    ids.is_sorted_by(|a, b| a < b)
 }
 
 // How many ids are less than x.
@@ -23,26 +16,7 @@ pub fn below(ids: &[u64], x: u64) -> usize
     requires { Rising ids.now }
     ensures { Below ids.now x result }
 {
-    let mut low = 0;
-    let mut high = ids.len();
-    while low < high {
-        let middle = low + (high - low) / 2;
-        if ids[middle] < x {
-            low = middle + 1;
-        } else {
-            high = middle;
-        }
-    }
-    low
-}
-
-fn lower_of(a: u64, b: u64) -> u64
-    ensures { result ≡ lower a b }
-{
-    if b < a {
-        return b;
-    }
-    a
+    ids.partition_point(|id| *id < x)
 }
 
 // The first date-time from `at` on, and before `to`, that an override names and none excludes; `to` where there is none.
@@ -50,12 +24,10 @@ pub(crate) fn next_sorted(ids: &[u64], gone: &[bool], at: u64, to: u64) -> u64
     requires { Rising ids.now × ((length ids.now ≡ length gone.now) × (at ≤ to)) }
     ensures { result ≡ next_of (is_kept ids.now gone.now) at to }
 {
-    let mut i = below(ids, at);
-    while i < ids.len() {
+    for i in below(ids, at)..ids.len() {
         if !gone[i] {
-            return lower_of(to, ids[i]);
+            return to.min(ids[i]);
         }
-        i += 1;
     }
     to
 }

@@ -2,7 +2,7 @@
 use Prim.Native.Nat.{ℕ, suc, ◌+◌, ◌*◌, ◌<◌, ◌≤◌}
 use mathlib.Core.Bool.{Bool}
 use mathlib.Core.List.{List, [], ◌++◌, map}
-use mathlib.Core.Path.{◌≡◌, refl, sym, ap, ◌∙◌}
+use mathlib.Core.Path.{◌≡◌, sym, ap, ◌∙◌}
 use native.Mathlib.Numerals.{add-one}
 use native.Mathlib.Omega.{arith}
 use lib.IntN.{ℤ}
@@ -33,13 +33,7 @@ pub record ChunkAt (row : ℕ → Row) (chunk before : List ℕ) (at i place : �
   pub rest : sets buf place (rows_bytes (map row (drop i chunk))) ≡ sets before at (rows_bytes (map row chunk))
 
 module _ (row : ℕ → Row) (chunk before : List ℕ) (at : ℕ) where
-  pub chunk-starts : ChunkAt row chunk before at 0 at before
-  chunk-starts = record { within = omega arith; along = omega arith; same = refl; rest = refl }
-
   module _ (i place : ℕ) (buf : List ℕ) (c : ChunkAt row chunk before at i place buf) where
-    pub chunk-room : i < length chunk → at + 28 * length chunk ≤ length before → place + 28 ≤ length buf
-    chunk-room more enough = omega (arith, c.along, c.same)
-
     pub chunk-one : i < length chunk → (after : List ℕ) → after ≡ sets buf place (row_bytes (row (get_or chunk i 0)))
         → ChunkAt row chunk before at (i + 1) (place + 28) after
     unfolding rows_bytes

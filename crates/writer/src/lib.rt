@@ -6,7 +6,7 @@ use override_text::Own;
 
 pub mod nothing;
 pub mod records;
-mod times;
+pub mod times;
 
 // What the records of an event are made from: its own details, whether it floats, and whether the ids of its overrides increase.
 #[derive(Clone, Copy)]

@@ -26,13 +26,10 @@ pub fn write_records(
 {
     let mut hints = [0usize; 2];
     let mut place = at;
-    let mut i = 0;
-    while i < chunk.len() {
-        let x = chunk[i];
-        let t = times_at(text, ends, form, ids, places, x);
-        put_occurrence(buffer, place, x, t, initial, instants, offsets, &mut hints);
+    for x in chunk {
+        let t = times_at(text, ends, form, ids, places, *x);
+        put_occurrence(buffer, place, *x, t, initial, instants, offsets, &mut hints);
         place += 28;
-        i += 1;
     }
     place
 }

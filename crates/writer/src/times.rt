@@ -1,10 +1,10 @@
 // The times of one occurrence.
-ghost use Rattle.std.specs.Prelude.{◌≡◌};
+ghost use Rattle.std.specs.Prelude.{◌≡◌, length};
 ghost use Rattle.json_ends.specs.Inner.Ends.{Ends};
 ghost use Rattle.override_text.specs.Inner.Meaning.{details_in};
 ghost use Rattle.window.specs.Inner.Sorted.{Ordered};
 ghost use Rattle.record.specs.Inner.Utc.{times_of};
-ghost use Rattle.writer.specs.Inner.Details.{Passed, details_by, patch_times, times_from};
+ghost use Rattle.writer.specs.Inner.Details.{Passed, details_by, patch_of, patch_times, times_from};
 ghost use Rattle.writer.specs.Inner.Writes.{LooksUp};
 
 use crate::Form;
@@ -54,6 +54,22 @@ fn look_from(ids: &[u64], sorted: bool, x: u64) -> usize
     0
 }
 
+// The place of the patch of the first override that names x, where one does.
+pub fn patch_of(ids: &[u64], places: &[usize], sorted: bool, x: u64) -> Option<usize>
+    requires { Ordered ids.now sorted × (length ids.now ≡ length places.now) }
+    ensures { result ≡ patch_of ids.now places.now x }
+{
+    if ids.is_empty() {
+        return None;
+    }
+    for i in look_from(ids, sorted, x)..ids.len() {
+        if ids[i] == x {
+            return Some(places[i]);
+        }
+    }
+    None
+}
+
 // The times of the occurrence x: after its patch where an override names it, else the event's own from x on.
 pub(crate) fn times_at(
     text: &[u8],
@@ -66,15 +82,8 @@ pub(crate) fn times_at(
     requires { LooksUp text.now ends.now form ids.now places.now }
     ensures { result ≡ times_of form.floating (details_by text.now (details_in text.now form.own) ids.now places.now x) }
 {
-    if ids.len() == 0 {
-        return own_times(form.own, form.floating, x);
+    match patch_of(ids, places, form.sorted, x) {
+        Some(at) => patched(text, ends, at, form, x),
+        None => own_times(form.own, form.floating, x),
     }
-    let mut i = look_from(ids, form.sorted, x);
-    while i < ids.len() {
-        if ids[i] == x {
-            return patched(text, ends, places[i], form, x);
-        }
-        i += 1;
-    }
-    own_times(form.own, form.floating, x)
 }

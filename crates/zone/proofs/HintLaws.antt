@@ -1,12 +1,12 @@
 -- The look at the hint: where it says yes, the offset of the local time stands there.
 use Rattle.std.specs.Prelude.{if◌then◌else◌}
-use Prim.Native.Nat.{ℕ, ◌-◌, ◌<◌}
+use Prim.Native.Nat.{ℕ, ◌-◌, ◌<◌, ◌≤◌}
 use mathlib.Core.Bool.{Bool, true, false}
 use mathlib.Core.List.{List}
 use mathlib.Core.Path.{◌≡◌, refl}
 use native.Mathlib.Omega.{arith}
 use lib.Dec.{ltb}
-use borrow.Author.Tests.{ltb-false, ne_eqb}
+use borrow.Author.Tests.{ltb-false, ne_eqb, le-ltb, lt-ltb}
 use lib.IntN.{ℤ}
 use lib.ListN.{length}
 use lib.Signed.{lt_z}
@@ -16,6 +16,19 @@ use Rattle.zone.specs.Places.{mark_at}
 use Rattle.zone.specs.Inner.Hint.{begun_at, ahead_at, still_at}
 use Rattle.zone.proofs.OrderLaws.{le_not_lt}
 use Rattle.zone.proofs.LookupLaws.{Halves, halves-at}
+
+-- its questions, as they are asked one after the other
+pub still-asked : (f : ℕ → ℤ) (n : ℕ) (x : ℤ) (i : ℕ) → i ≤ n → begun_at f x i ≡ true → ahead_at f n x i ≡ still_at f n x i
+unfolding still_at
+still-asked f n x i h e = rw (le-ltb n i h, e)
+
+pub not-begun : (f : ℕ → ℤ) (n : ℕ) (x : ℤ) (i : ℕ) → i ≤ n → begun_at f x i ≡ false → false ≡ still_at f n x i
+unfolding still_at
+not-begun f n x i h e = rw (le-ltb n i h, e)
+
+pub not-there : (f : ℕ → ℤ) (n : ℕ) (x : ℤ) (i : ℕ) → n < i → false ≡ still_at f n x i
+unfolding still_at
+not-there f n x i h = rw (lt-ltb n i h)
 
 -- Two marks at most are read: any others that are the same there give the same answer.
 pub still-two : (f g : ℕ → ℤ) (n : ℕ) (x : ℤ) (i : ℕ) → f (i - 1) ≡ g (i - 1) → f i ≡ g i → still_at f n x i ≡ still_at g n x i

@@ -1,10 +1,11 @@
 -- What the code's signed operations give. A signed local holds bits, so each fact is about the number read back from its bits.
-use Prim.Native.Nat.{ℕ, zero, suc, ◌+◌, ◌-◌, ◌<◌, ◌≤◌, ◌^◌}
-use mathlib.Core.Bool.{Bool, true, false, not}
+use Rattle.std.specs.Prelude.{if◌then◌else◌}
+use Prim.Native.Nat.{ℕ, ◌+◌, ◌-◌, ◌<◌, ◌≤◌, ◌^◌}
+use mathlib.Core.Bool.{Bool, true, false, cond}
 use mathlib.Core.List.{List, ◌∷◌}
 use mathlib.Core.Path.{◌≡◌, refl, sym, ◌∙◌, ap}
 use native.Mathlib.Omega.{arith}
-use borrow.Author.Tests.{not-true, not-false, ne_eqb}
+use borrow.Author.Tests.{ne_eqb}
 use lib.IntN.{ℤ, pos, negsuc, nat_abs, ◌+ℤ◌, ◌-ℤ◌}
 use lib.ListN.{length, get_or}
 use lib.Signed.{le_z, lt_z, mag}
@@ -12,11 +13,12 @@ use mir.Syntax.{w64}
 use mir.Val.{SFits, to_z, of_z}
 use mir.Facts.{to_z-of_z}
 use Rattle.signed.proofs.Parts.{back}
-use Rattle.zone.specs.Table.{larger, within, all_within, increasing, valid_table}
+use Rattle.zone.specs.Table.{larger, within, all_within, valid_table}
 use Rattle.zone.specs.Lookup.{offset_at}
 use Rattle.zone.specs.Places.{InRange, mark_at}
 use Rattle.zone.proofs.RangeLaws.{range_at, sum-abs, difference-abs, abs-fits}
-use Rattle.zone.proofs.OrderLaws.{ends-first, ends_last}
+use Rattle.std.specs.Int.{int_max}
+use Rattle.zone.proofs.OrderLaws.{le_not_lt, not-le-lt}
 use Rattle.zone.proofs.PassLaws.{Pass, both, mark_of, pass-start, pass-wide, pass-down, pass-next, pass-end, added-small}
 use Rattle.zone.specs.declared.search.Found.{Found}
 use Rattle.zone.specs.Search.{middle, halve, Halved, search_by}
@@ -28,26 +30,15 @@ use Rattle.zone.proofs.SearchLaws.{halved, Going, going_end, search-finds}
 abbrev pub again : ℤ → ℤ
 again z = to_z w64 (of_z w64 z)
 
--- ---- the offset before a place
-
-pub first-place : (b : ℤ) (ns : List ℤ) (i : ℕ) → SFits w64 b → i ≡ 0 → again b ≡ get_or (b ∷ ns) i (pos 0)
-first-place b ns zero f e = to_z-of_z f
-first-place b ns (suc i) f e = absurd (omega arith)
-
-pub other_place : (b : ℤ) (ns : List ℤ) (i : ℕ) → (i ≡ 0 → ⊥) → SFits w64 (get_or ns (i - 1) (pos 0)) → again (get_or ns (i - 1) (pos 0)) ≡ get_or (b ∷ ns) i (pos 0)
-other_place b ns zero n f = absurd (n refl)
-other_place b ns (suc i) n f = to_z-of_z f ∙ ap (λ (k : ℕ). get_or ns k (pos 0)) (omega arith)
-
 -- ---- the larger of two
 
-module _ (a b : ℤ) (f : SFits w64 a) (g : SFits w64 b) where
-  pub larger-second : le_z (again a) (again b) ≡ true → again b ≡ larger a b
-  unfolding larger
-  larger-second e = rw (rw (to_z-of_z f, to_z-of_z g) at e) (to_z-of_z g)
-
-  pub larger-first : le_z (again a) (again b) ≡ false → again a ≡ larger a b
-  unfolding larger
-  larger-first e = rw (rw (to_z-of_z f, to_z-of_z g) at e) (to_z-of_z f)
+pub max-larger : (a b : ℤ) → int_max a b ≡ larger a b
+unfolding larger
+max-larger a b = by (le_z a b) refl
+  where
+    by : (t : Bool) → le_z a b ≡ t → cond (lt_z b a) a b ≡ (if t then b else a)
+    by true e = rw (le_not_lt b a e)
+    by false e = rw (not-le-lt b a e)
 
 -- ---- a sum and a difference of numbers that are small enough
 
@@ -64,37 +55,16 @@ module _ (a b : ℤ) (f : SFits w64 a) (g : SFits w64 b) (p : nat_abs a ≤ 2 ^ 
   pub difference-is : again (again a -ℤ again b) ≡ a -ℤ b
   difference-is = to_z-of_z difference-fits ∙ (rw (to_z-of_z f, to_z-of_z g))
 
--- ---- the mark, from what the calls in `mark::at` give: B the offset before, L the larger
+-- ---- the mark, from what the calls in `mark::at` give: B the offset before, L the larger of it and the one after
 
 module _ (b : ℤ) (ns : List ℤ) (i : ℕ) (f : SFits w64 b) (g : SFits w64 (get_or ns i (pos 0))) where
-  pub larger-is : (B L : ℤ) → mag B < 2 ^ 63 → B ≡ get_or (again b ∷ ns) i (pos 0) → L ≡ larger (again B) (again (get_or ns i (pos 0)))
+  pub larger-is : (B L : ℤ) → mag B < 2 ^ 63 → B ≡ get_or (again b ∷ ns) i (pos 0) → L ≡ int_max (again B) (again (get_or ns i (pos 0)))
       → L ≡ larger (get_or (b ∷ ns) i (pos 0)) (get_or ns i (pos 0))
   larger-is B L k e h =
       let same : B ≡ get_or (b ∷ ns) i (pos 0) = rw (to_z-of_z f) at e in
-      rw (back B k, to_z-of_z g, same) at h
+      (rw (back B k, to_z-of_z g, same) at h) ∙ max-larger _ _
 
--- ---- `range::ends_within`: r is what `within` answers of the first number, l of the last
-
-module _ (k : ℕ) (s : List ℤ) (some : length s ≡ 0 → ⊥) (f : SFits w64 (get_or s 0 (pos 0))) (r : Bool) (e : r ≡ within k (again (get_or s 0 (pos 0)))) where
-  first-answer : r ≡ within k (get_or s 0 (pos 0))
-  first-answer = rw (to_z-of_z f) at e
-
-  pub first_out : not r ≡ true → false ≡ all_within k s
-  first_out t = ends-first k s some (sym first-answer ∙ not-true r t)
-
-  pub last-tells : increasing s ≡ true → not r ≡ false → SFits w64 (get_or s (length s - 1) (pos 0))
-      → (l : Bool) → l ≡ within k (again (get_or s (length s - 1) (pos 0))) → l ≡ all_within k s
-  last-tells up t g l h = (rw (to_z-of_z g) at h) ∙ ends_last k s some up (sym first-answer ∙ not-false r t)
-
--- ---- two numbers compared
-
-pub compared-le : (a b : ℤ) (t : Bool) → SFits w64 a → SFits w64 b → le_z (again a) (again b) ≡ t → le_z a b ≡ t
-compared-le a b t f g e = rw (to_z-of_z f, to_z-of_z g) at e
-
-pub compared-lt : (a b : ℤ) (t : Bool) → SFits w64 a → SFits w64 b → lt_z (again a) (again b) ≡ t → lt_z a b ≡ t
-compared-lt a b t f g e = rw (to_z-of_z f, to_z-of_z g) at e
-
--- ---- `mark::in_order`: r is what `within` answers of the offset at i, L the larger as `larger` gives it. The initial offset is as it is
+-- ---- `mark::in_order`: r is what `within` answers of the offset at i, L the larger as `max` gives it. The initial offset is as it is
 -- read back.
 
 -- what a turn gives once the offset is judged: the mark fits, and as it is compared the pass stops or goes on
@@ -119,16 +89,16 @@ module _ (b : ℤ) (ts ns : List ℤ) (f : SFits w64 b) where
       offset-answer : r ≡ within 86399 (get_or ns i (pos 0))
       offset-answer = rw (to_z-of_z g) at e
 
-      pub turn-wide : not r ≡ true → false ≡ both b ts ns
-      turn-wide t = as-given false (pass-wide (again b) ts ns even before last i h w (sym offset-answer ∙ not-true r t))
+      pub turn-wide : r ≡ false → false ≡ both b ts ns
+      turn-wide t = as-given false (pass-wide (again b) ts ns even before last i h w (sym offset-answer ∙ t))
 
-      module _ (t : not r ≡ false) (near : all_within (2 ^ 40) ts ≡ true) (j : SFits w64 (get_or ts i (pos 0)))
-          (L : ℤ) (k : mag L < 2 ^ 63) (l : L ≡ larger before (again (get_or ns i (pos 0)))) where
+      module _ (t : r ≡ true) (near : all_within (2 ^ 40) ts ≡ true) (j : SFits w64 (get_or ts i (pos 0)))
+          (L : ℤ) (k : mag L < 2 ^ 63) (l : L ≡ int_max before (again (get_or ns i (pos 0)))) where
         offset-in : within 86399 (get_or ns i (pos 0)) ≡ true
-        offset-in = sym offset-answer ∙ not-false r t
+        offset-in = sym offset-answer ∙ t
 
         added : L ≡ larger before (get_or ns i (pos 0))
-        added = rw (to_z-of_z g) at l
+        added = (rw (to_z-of_z g) at l) ∙ max-larger before (get_or ns i (pos 0))
 
         added-near : nat_abs L ≤ 86399
         added-near = rw added (added-small (again b) ts ns even before last i h w offset-in)

@@ -1,15 +1,17 @@
--- Numbers that increase. A walk that compares each with the one before carries: the answer from the last one on is the whole answer.
+-- Numbers that increase.
 use Prim.Native.Nat.{ℕ, zero, suc, ◌+◌, ◌-◌, ◌<◌, ◌≤◌}
 use mathlib.Core.Bool.{Bool, true, false, ◌&&◌}
 use mathlib.Core.List.{List, [], ◌∷◌}
 use mathlib.Core.Path.{◌≡◌, refl, sym, ◌∙◌}
 use native.Mathlib.Omega.{arith}
+use native.Mathlib.Numerals.{add-one}
 use lib.IntN.{ℤ, pos, negsuc}
-use lib.ListN.{length, get_or, drop, length-drop}
+use Rattle.std.specs.List.{IsAllAdjacentAnswer}
+use lib.ListN.{length, get_or, drop}
 use lib.Signed.{le_z, lt_z}
 use lib.Seq.{drop-cons}
 use Rattle.signed.specs.Parts.{neg_part}
-use Rattle.signed.proofs.Parts.{pos-abs, neg-abs, le_parts, not-le-parts, lt-parts, not-lt-parts, parts-lt, parts-not-lt, parts-not-le, parts-le}
+use Rattle.signed.proofs.Parts.{false-true, pos-abs, neg-abs, le_parts, not-le-parts, lt-parts, not-lt-parts, parts-lt, parts-not-lt, parts-not-le, parts-le}
 use Rattle.zone.specs.Table.{within, all_within, increasing}
 use Rattle.zone.proofs.RangeLaws.{and_left, and_right, in-range, range-abs}
 
@@ -33,28 +35,6 @@ pair : (s : List ℤ) (i : ℕ) → suc i < length s → increasing (drop i s) �
 unfolding increasing
 pair s i h = rw (drop-cons s i (pos 0) (omega arith), drop-cons s (suc i) (pos 0) h)
 
-short : (s : List ℤ) → length s ≤ 1 → increasing s ≡ true
-unfolding increasing
-short [] h = refl
-short (a ∷ []) h = refl
-short (a ∷ b ∷ s) h = absurd (omega arith)
-
-module _ (s : List ℤ) where
-  step : (i : ℕ) → 1 ≤ i → i < length s → increasing (drop (i - 1) s) ≡ lt_z (get_or s (i - 1) (pos 0)) (get_or s i (pos 0)) && increasing (drop i s)
-  step zero p h = absurd (omega arith)
-  step (suc i) p h = let e : suc i - 1 ≡ i = omega arith in rw e (pair s i h)
-
-  pub walk-stop : (i : ℕ) → 1 ≤ i → i < length s → increasing (drop (i - 1) s) ≡ increasing s
-      → le_z (get_or s i (pos 0)) (get_or s (i - 1) (pos 0)) ≡ true → false ≡ increasing s
-  walk-stop i p h inv e = rw (← inv, step i p h, le_not_lt _ _ e)
-
-  pub walk-next : (i : ℕ) → 1 ≤ i → i < length s → increasing (drop (i - 1) s) ≡ increasing s
-      → le_z (get_or s i (pos 0)) (get_or s (i - 1) (pos 0)) ≡ false → increasing (drop (i + 1 - 1) s) ≡ increasing s
-  walk-next i p h inv e = let z : i + 1 - 1 ≡ i = omega arith in rw (← inv, step i p h, not-le-lt _ _ e, z)
-
-  pub walk_end : (i : ℕ) → length s ≤ i → increasing (drop (i - 1) s) ≡ increasing s → true ≡ increasing s
-  walk_end i h inv = sym (sym inv ∙ short (drop (i - 1) s) (omega (arith, length-drop (i - 1) s)))
-
 -- what is left of increasing numbers increases
 tail : (a : ℤ) (s : List ℤ) → increasing (a ∷ s) ≡ true → increasing s ≡ true
 unfolding increasing
@@ -69,6 +49,24 @@ increasing-drop (suc i) (a ∷ s) e = increasing-drop i s (tail a s e)
 -- each is below the next
 pub neighbours : (s : List ℤ) (i : ℕ) → suc i < length s → increasing s ≡ true → lt_z (get_or s i (pos 0)) (get_or s (suc i) (pos 0)) ≡ true
 neighbours s i h up = and_left _ _ (rw (pair s i h) at (increasing-drop i s up))
+
+-- and numbers each of which is below the next increase
+pub each-below : (s : List ℤ) → ((i : ℕ) → i + 1 < length s → (d : ℤ) → true ≡ lt_z (get_or s i d) (get_or s (i + 1) d)) → increasing s ≡ true
+unfolding increasing
+each-below [] f = refl
+each-below (a ∷ []) f = refl
+each-below (a ∷ b ∷ s) f =
+    let h = f 0 (omega arith) a in
+    rw (sym h) (each-below (b ∷ s) (λ i g d. rw add-one (rw add-one at (f (suc i) (omega arith) d))))
+
+-- what the library's test of neighbours answers
+pub sorted-answer : (s : List ℤ) (r : Bool) → IsAllAdjacentAnswer (λ x y t. t ≡ lt_z x y) s r → r ≡ increasing s
+sorted-answer s true w = sym (each-below s (λ i h d. w i d h))
+sorted-answer s false (k, h, w) = by (increasing s) refl
+  where
+    by : (t : Bool) → increasing s ≡ t → false ≡ increasing s
+    by true up = false-true (w (pos 0) ∙ (rw add-one (neighbours s k (rw add-one at h) up)))
+    by false up = sym up
 
 -- what is not below the larger of two is not below the smaller
 pub not-lt-smaller : (x a b : ℤ) → lt_z a b ≡ true → lt_z x b ≡ false → lt_z x a ≡ false
@@ -107,6 +105,12 @@ pub ends-none : (k : ℕ) (s : List ℤ) → length s ≡ 0 → true ≡ all_wit
 unfolding all_within
 ends-none k [] h = refl
 ends-none k (a ∷ s) h = absurd (omega arith)
+
+pub ends-one : (k : ℕ) (s : List ℤ) → length s ≡ 1 → within k (get_or s 0 (pos 0)) ≡ all_within k s
+unfolding all_within
+ends-one k [] h = absurd (omega arith)
+ends-one k (a ∷ []) h = and-true (within k a)
+ends-one k (a ∷ b ∷ s) h = absurd (omega arith)
 
 pub ends-first : (k : ℕ) (s : List ℤ) → (length s ≡ 0 → ⊥) → within k (get_or s 0 (pos 0)) ≡ false → false ≡ all_within k s
 unfolding all_within

@@ -11,10 +11,18 @@ use lib.ListN.{length, get_or, drop, drop_of_length-le}
 use lib.Seq.{drop-cons}
 use lib.Signed.{le_z, lt_z}
 use Rattle.signed.proofs.Parts.{neg-abs, parts-lt}
-use Rattle.zone.specs.Table.{transitions, larger, mark, within, all_within, increasing}
+use lib.Dec.{leb, eqb}
+use Rattle.zone.specs.Table.{transitions, larger, mark, within, all_within, increasing, valid_table}
 use Rattle.zone.proofs.RangeLaws.{and_left, range-abs, sum-abs}
 use Rattle.zone.proofs.OrderLaws.{le_not_lt, not-le-lt}
 use Rattle.zone.proofs.TableLaws.{marks, larger-abs}
+
+-- a test and then another, as the code joins them
+pub and-then : {v p q : Bool} → p ≡ true → v ≡ q → v ≡ p && q
+and-then e f = rw (e, f)
+
+pub and-else : {v p : Bool} (q : Bool) → p ≡ false → v ≡ p → v ≡ p && q
+and-else q e f = rw (f, e)
 
 pub and-false : (t : Bool) → t && false ≡ false
 and-false true = refl
@@ -26,6 +34,24 @@ both b ts ns = all_within 86399 ns && increasing (marks b ts ns)
 
 abbrev left : ℤ → ℤ → List ℤ → List ℤ → Bool
 left last b ts ns = all_within 86399 ns && increasing (last ∷ marks b ts ns)
+
+-- the definition's conditions: the code asks the order before the range, and the last two together
+joined : (a b c d e f g : Bool) (v r : Bool) → v ≡ a && b && d && c && e → (v ≡ true → r ≡ f && g) → (v ≡ false → r ≡ v) → r ≡ a && b && c && d && e && f && g
+joined false b c d e f g v r h p q = q h ∙ h
+joined true false c d e f g v r h p q = q h ∙ h
+joined true true false false e f g v r h p q = q h ∙ h
+joined true true false true e f g v r h p q = q h ∙ h
+joined true true true false e f g v r h p q = q h ∙ h
+joined true true true true false f g v r h p q = q h ∙ h
+joined true true true true true f g v r h p q = p h
+
+pub asked : (b : ℤ) (ts ns : List ℤ) (v r : Bool)
+    → v ≡ leb (length ts) 1024 && eqb (length ts) (length ns) && increasing ts && all_within 1099511627776 ts && within 86399 b
+    → (v ≡ true → r ≡ both b ts ns) → (v ≡ false → r ≡ v) → r ≡ valid_table b ts ns
+unfolding valid_table
+asked b ts ns =
+    joined (leb (length ts) 1024) (eqb (length ts) (length ns)) (all_within 1099511627776 ts) (increasing ts) (within 86399 b)
+    (all_within 86399 ns) (increasing (marks b ts ns))
 
 pub record Pass (b : ℤ) (ts ns : List ℤ) (before last : ℤ) (i : ℕ) : Type 0 where
   pub small : within 86399 before ≡ true

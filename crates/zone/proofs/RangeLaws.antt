@@ -4,7 +4,7 @@ use mathlib.Core.Bool.{Bool, true, false, ◌&&◌}
 use mathlib.Core.List.{List, [], ◌∷◌}
 use mathlib.Core.Path.{◌≡◌, refl, sym}
 use native.Mathlib.Omega.{arith}
-use borrow.Author.Tests.{leb-true, le-leb, lt-leb}
+use borrow.Author.Tests.{leb-true, le-leb}
 use lib.IntN.{ℤ, pos, negsuc, neg_ℤ, nat_abs, sub_ℕ, ◌+ℤ◌, ◌-ℤ◌}
 use lib.ListN.{get_or}
 use mir.Syntax.{w64}
@@ -22,14 +22,6 @@ and_right true b e = e
 and_right false b e = false-true e
 
 -- ---- one number
-
-pub above-range : (k : ℕ) (z : ℤ) → k < pos_part z → false ≡ within k z
-unfolding within
-above-range k z h = sym (lt-leb (nat_abs z) k (omega (arith, pos-abs z)))
-
-pub below-range : (k : ℕ) (z : ℤ) → k < neg_part z → false ≡ within k z
-unfolding within
-below-range k z h = sym (lt-leb (nat_abs z) k (omega (arith, neg-abs z)))
 
 pub in-range : (k : ℕ) (z : ℤ) → pos_part z ≤ k → neg_part z ≤ k → true ≡ within k z
 unfolding within

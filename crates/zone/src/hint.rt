@@ -8,11 +8,7 @@ fn begun(initial: i64, instants: &[i64], offsets: &[i64], local: i64, i: usize) 
     requires i_in_bounds { i ≤ length instants.now }
     ensures { result ≡ begun_at (mark_at initial instants.now offsets.now) local i }
 {
-    if i == 0 {
-        return true;
-    }
-    let last = super::mark::at(initial, instants, offsets, i - 1);
-    last <= local
+    i == 0 || super::mark::at(initial, instants, offsets, i - 1) <= local
 }
 
 fn ahead(initial: i64, instants: &[i64], offsets: &[i64], local: i64, i: usize) -> bool
@@ -20,22 +16,14 @@ fn ahead(initial: i64, instants: &[i64], offsets: &[i64], local: i64, i: usize) 
     requires i_in_bounds { i ≤ length instants.now }
     ensures { result ≡ ahead_at (mark_at initial instants.now offsets.now) (length instants.now) local i }
 {
-    if i == instants.len() {
-        return true;
-    }
-    let next = super::mark::at(initial, instants, offsets, i);
-    local < next
+    i == instants.len() || local < super::mark::at(initial, instants, offsets, i)
 }
 
 pub(crate) fn still(initial: i64, instants: &[i64], offsets: &[i64], local: i64, i: usize) -> bool
     requires { InRange initial instants.now offsets.now }
     ensures { result ≡ still_at (mark_at initial instants.now offsets.now) (length instants.now) local i }
 {
-    if instants.len() < i {
-        return false;
-    }
-    if !begun(initial, instants, offsets, local, i) {
-        return false;
-    }
-    ahead(initial, instants, offsets, local, i)
+    i <= instants.len()
+        && begun(initial, instants, offsets, local, i)
+        && ahead(initial, instants, offsets, local, i)
 }

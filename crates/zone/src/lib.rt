@@ -15,22 +15,12 @@ ghost use Rattle.zone.specs.Lookup.{offset_at, utc_at};
 pub fn valid(initial: i64, instants: &[i64], offsets: &[i64]) -> bool
     ensures { result ≡ valid_table initial instants.now offsets.now }
 {
-    if 1024 < instants.len() {
-        return false;
-    }
-    if instants.len() != offsets.len() {
-        return false;
-    }
-    if !range::increasing(instants) {
-        return false;
-    }
-    if !range::ends_within(instants, 1099511627776) {
-        return false;
-    }
-    if !range::within(initial, 86399) {
-        return false;
-    }
-    mark::in_order(initial, instants, offsets)
+    instants.len() <= 1024
+        && instants.len() == offsets.len()
+        && range::increasing(instants)
+        && range::ends_within(instants, 1099511627776)
+        && range::within(initial, 86399)
+        && mark::in_order(initial, instants, offsets)
 }
 
 // The offset of a local time. The hint is where the last one was found, and is left where this one is found: if the local time is still
@@ -43,8 +33,7 @@ pub fn offset(initial: i64, instants: &[i64], offsets: &[i64], local: i64, hint:
     if hint::still(initial, instants, offsets, local, guess) {
         return mark::before(initial, offsets, guess);
     }
-    let found = search::search(initial, instants, offsets, local);
-    let place = found.place;
+    let place = search::search(initial, instants, offsets, local).place;
     *hint = place;
     mark::before(initial, offsets, place)
 }

@@ -8,19 +8,7 @@ pub(crate) fn before(initial: i64, offsets: &[i64], i: usize) -> i64
     requires { i ≤ length offsets.now }
     ensures { result ≡ get_or (initial ∷ offsets.now) i (pos 0) }
 {
-    if i == 0 {
-        return initial;
-    }
-    offsets[i - 1]
-}
-
-fn larger(a: i64, b: i64) -> i64
-    ensures { result ≡ Table.larger a b }
-{
-    if a <= b {
-        return b;
-    }
-    a
+    if i == 0 { initial } else { offsets[i - 1] }
 }
 
 // The mark of the transition at i.
@@ -29,8 +17,7 @@ pub(crate) fn at(initial: i64, instants: &[i64], offsets: &[i64], i: usize) -> i
     requires i_in_bounds { i < length instants.now }
     ensures { result ≡ mark_at initial instants.now offsets.now i }
 {
-    let after = offsets[i];
-    instants[i] + larger(before(initial, offsets, i), after)
+    instants[i] + before(initial, offsets, i).max(offsets[i])
 }
 
 // Is each offset within ±86,399, and each mark below the next? One pass for both: an offset is judged before it is added, and the offset
@@ -43,19 +30,16 @@ pub(crate) fn in_order(initial: i64, instants: &[i64], offsets: &[i64]) -> bool
 {
     let mut before = initial;
     let mut last: i64 = -2199023255552;
-    let mut i = 0;
-    while i < instants.len() {
-        let after = offsets[i];
-        if !super::range::within(after, 86399) {
+    for (instant, after) in instants.iter().zip(offsets) {
+        if !super::range::within(*after, 86399) {
             return false;
         }
-        let next = instants[i] + larger(before, after);
+        let next = *instant + before.max(*after);
         if next <= last {
             return false;
         }
-        before = after;
+        before = *after;
         last = next;
-        i += 1;
     }
     true
 }

@@ -11,14 +11,16 @@ pub struct Span {
     pub high: usize,
 }
 
-// The first place whose mark is beyond the local time, and the steps that it took.
+// The first place whose mark is beyond the local time, and the steps that it took. The steps are no flag beside a value: the contract of
+// `search`, of which `Halving` speaks, is an equation with `search_by`, which counts them.
 #[derive(Clone, Copy)]
 pub struct Found {
     pub place: usize,
     pub steps: u32,
 }
 
-// The mark in the middle says on which side of it the search goes on.
+// The mark in the middle says on which side of it the search goes on. The ends are two numbers and no `Span`: docs/TRACE.md names this
+// function, and its contract takes them so.
 pub(crate) fn step(
     initial: i64,
     instants: &[i64],
@@ -34,18 +36,16 @@ pub(crate) fn step(
     let middle = low + (high - low) / 2;
     let mark = super::mark::at(initial, instants, offsets, middle);
     if local < mark {
-        return Span {
-            low: low,
-            high: middle,
-        };
+        return Span { low, high: middle };
     }
     Span {
         low: middle + 1,
-        high: high,
+        high,
     }
 }
 
-// Marks increase, so what stands before `low` is at or before the local time, and what stands from `high` on is beyond it.
+// Marks increase, so what stands before `low` is at or before the local time, and what stands from `high` on is beyond it. A loop and no
+// `partition_point`, which does not say what it reads: `Halved` says it of each step, and `search_by` how many there are.
 pub(crate) fn search(initial: i64, instants: &[i64], offsets: &[i64], local: i64) -> Found
     requires in_range { InRange initial instants.now offsets.now }
     requires instants_len_bound { length instants.now ≤ 1024 }
@@ -60,8 +60,5 @@ pub(crate) fn search(initial: i64, instants: &[i64], offsets: &[i64], local: i64
         high = s.high;
         steps += 1;
     }
-    Found {
-        place: low,
-        steps: steps,
-    }
+    Found { place: low, steps }
 }

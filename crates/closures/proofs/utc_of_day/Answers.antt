@@ -4,8 +4,8 @@ use Rattle.signed.proofs.Parts.{back}
 use Rattle.gregorian.proofs.SecondLaws.{seconds-small}
 use Rattle.closures.proofs.utc_of_day.Goals as goal
 
-pub utc-requires : goal.utc-requires
-utc-requires g c = (
+pub utc-utc-requires : goal.utc-utc-requires
+utc-utc-requires g c = (
   sym c.if-not-valid.ensures,
   rw (back _ c.seconds_of-local.type_inv, c.seconds_of-local.ensures) (seconds-small _ c.requires (omega arith)),
 )

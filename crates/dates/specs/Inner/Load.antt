@@ -1,5 +1,5 @@
 -- One more rule of an event, with its row of flags.
-use Rattle.std.specs.Prelude.{ℕ, ◌+◌, ◌*◌, ◌/◌, ◌<◌, ◌≤◌, Bool, true, false, List, ◌≡◌, length, take, drop, get_or, set}
+use Rattle.std.specs.Prelude.{ℕ, ◌+◌, ◌*◌, ◌/◌, ◌<◌, ◌≤◌, Bool, List, ◌≡◌, take, drop, set}
 use Rattle.rule.specs.declared.Rule.{Rule}
 use Rattle.rule.specs.Gives.{end_day}
 use Rattle.matcher.specs.Inner.Layout.{row_size}

@@ -1,5 +1,5 @@
 -- The set of an event over what the code keeps of it: settled rules with their flags, and the overrides.
-use Rattle.std.specs.Prelude.{if◌then◌else◌, ℕ, ◌+◌, ◌*◌, ◌/◌, ◌%◌, Bool, true, false, List, eqb}
+use Rattle.std.specs.Prelude.{if◌then◌else◌, ℕ, ◌/◌, ◌%◌, Bool, true, false, List, eqb}
 use Rattle.rule.specs.Gives.{on_day}
 use Rattle.track.specs.declared.Track.{Track}
 use Rattle.dates.specs.declared.Tracks.{Tracks}

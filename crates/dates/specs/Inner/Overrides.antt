@@ -1,5 +1,5 @@
 -- The overrides of an event: their date-times and, beside each, whether its patch is `excluded` true.
-use Rattle.std.specs.Prelude.{if◌then◌else◌, ℕ, ◌+◌, ◌*◌, ◌%◌, Bool, true, false, not, ◌&&◌, ◌||◌, List, [], ◌∷◌, eqb}
+use Rattle.std.specs.Prelude.{if◌then◌else◌, ℕ, Bool, true, false, ◌&&◌, ◌||◌, List, [], ◌∷◌, eqb}
 use Rattle.rule.specs.Gives.{on_day}
 
 -- Only those that are excluded, or all of them.

@@ -1,5 +1,5 @@
 -- What the code keeps of an event stands for it: each rule is settled, and the overrides are the event's.
-use Rattle.std.specs.Prelude.{ℕ, ◌+◌, ◌*◌, ◌/◌, ◌%◌, ◌<◌, ◌≤◌, Bool, true, false, List, [], ◌∷◌, ◌≡◌, length, take, drop}
+use Rattle.std.specs.Prelude.{ℕ, ◌≤◌, Bool, true, false, List, [], ◌∷◌, ◌≡◌, take, drop}
 use Rattle.rule.specs.Written.{RecurrenceRule}
 use Rattle.rule.specs.Gives.{end_day}
 use Rattle.matcher.specs.Inner.Layout.{row_size}

@@ -1,5 +1,5 @@
 -- Several settled rules, each with its row of flags in one list.
-use Rattle.std.specs.Prelude.{ℕ, zero, suc, ◌+◌, ◌*◌, ◌<◌, ◌≤◌, Bool, true, false, ◌||◌, List, [], ◌∷◌, ◌≡◌, length, take, drop}
+use Rattle.std.specs.Prelude.{ℕ, ◌+◌, ◌*◌, ◌<◌, ◌≤◌, Bool, false, ◌||◌, List, [], ◌∷◌, length, take, drop}
 use Rattle.rule.specs.Gives.{end_day}
 use Rattle.matcher.specs.Inner.Layout.{row_size}
 use Rattle.track.specs.declared.Track.{Track}

@@ -1,32 +1,14 @@
--- `digits::legal_fraction` meets its contract: what is left to judge from i on, with the digit before it, is the same as at the start.
-use Prim.Native.Nat.{◌-◌}
-use borrow.Author.Tests.{not-true, not-false}
-use Rattle.digits.proofs.Laws.{judged-legal, judged-turn, judged-end}
+-- `digits::legal_fraction` meets its contract: a last digit that is not 0 decides.
+use mathlib.Core.Path.{sym, ◌∙◌}
+use borrow.Author.Tests.{eq-eqb}
+use Rattle.digits.proofs.Laws.{legal-none, legal-zero, legal-last}
 use Rattle.digits.proofs.legal_fraction.Goals as goal
 
-pub loop-i-init : goal.loop-i-init
-loop-i-init c = judged-legal _
+pub returns-in-empty : goal.returns-in-empty
+returns-in-empty c = legal-none _ c.in-empty.len_below
 
-pub returns-then-not-is_digit : goal.returns-then-not-is_digit
-returns-then-not-is_digit c = rw (
-  ← c.loop-i.invariant,
-  judged-turn _ _ _ c.loop-i-test.true,
-  ← c.byte-last.ensures.is,
-  ← c.is_digit.ensures,
-  not-true c.is_digit.result c.if-not-is_digit.true-raw,
-)
+pub returns-then-last-ne48 : goal.returns-then-last-ne48
+returns-then-last-ne48 c = c.all_digits.ensures ∙ legal-last _ c.in-len1-up.len_at_least c.if-last-ne48.true
 
-pub loop-i-preserved : goal.loop-i-preserved
-loop-i-preserved c = rw (
-  ← c.loop-i.invariant,
-  judged-turn _ _ _ c.loop-i-test.true,
-  ← c.byte-last.ensures.is,
-  ← c.is_digit.ensures,
-  not-false c.is_digit.result c.if-not-is_digit.false-raw,
-)
-
-pub returns : goal.returns
-returns c = rw (
-  ← c.loop-i.invariant,
-  judged-end _ _ _ c.loop-i-test.false,
-)
+pub returns-else-last-ne48 : goal.returns-else-last-ne48
+returns-else-last-ne48 c = rw (eq-eqb _ _ c.if-last-ne48.false) (sym (legal-zero _ c.in-len1-up.len_at_least c.if-last-ne48.false))

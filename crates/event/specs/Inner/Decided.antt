@@ -1,6 +1,5 @@
 -- What was read, with the fault of it that decides: what the code hands on.
-use Rattle.fault.specs.Fault.{first}
-use Rattle.fault.specs.declared.First.{First}
+use Rattle.fault.specs.Fault.{first, First}
 use Rattle.event.specs.Reading.{Judged}
 
 pub record Decided (A : Type 0) : Type 0 where

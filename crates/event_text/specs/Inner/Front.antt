@@ -1,8 +1,8 @@
 -- The definitions' event but for its lists: they stand as values of the tree, and are read apart.
 use Rattle.std.specs.Prelude.{ℕ, true, List, [], ◌∷◌, length}
 use Rattle.std.proofs.Math.Option.{Option, none, some}
-use Rattle.fault.specs.Fault.{Fault, all_of, first}
-use Rattle.fault.specs.declared.First.{First}
+use Rattle.fault.specs.declared.Fault.{Fault}
+use Rattle.fault.specs.Fault.{First, all_of, first}
 use Rattle.json_tree.specs.Tree.{Json, Fields, no_field, place_of, text_tree}
 use Rattle.keywords.specs.declared.Privacy.{Privacy}
 use Rattle.keywords.specs.declared.Privacy.TheVariants.{Public}

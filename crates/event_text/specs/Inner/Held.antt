@@ -1,39 +1,23 @@
 -- What the code holds of an event's own members, as the definitions' readings.
-use Rattle.std.specs.Prelude.{ℕ, Bool, List}
+use Rattle.std.specs.Prelude.{ℕ, List}
 use Rattle.std.proofs.Math.Option.{Option}
 use Rattle.keywords.specs.declared.Privacy.{Privacy}
 use Rattle.property.specs.Inner.From.{text_in, name_in, value_in}
 use Rattle.event.specs.Types
-use Rattle.event.specs.Types.{Text, Length}
 use Rattle.event.specs.Reading.{Reading}
 use Rattle.event.specs.Inner.Decided.{Decided}
-use Rattle.event_text.specs.declared.Moment.{Moment}
-use Rattle.event_text.specs.declared.Lasting.{Lasting}
-use Rattle.event_text.specs.declared.Mark.{Mark}
+use Rattle.override_text.specs.declared.Shown.{Shown}
 use Rattle.event_text.specs.declared.Access.{Access}
-use Rattle.event_text.specs.declared.Spot.{Spot}
 use Rattle.event_text.specs.declared.Details.{Details}
 use Rattle.event_text.specs.declared.Head.{Head}
 use Rattle.event_text.specs.Inner.Front.{Front}
 
-abbrev pub from_moment : Moment → Reading ℕ
-from_moment r = record { value = r.value; fault = r.fault }
-
-abbrev pub from_lasting : Lasting → Reading Length
-from_lasting r = record { value = record { days = r.days; seconds = r.seconds }; fault = r.fault }
-
-abbrev pub from_mark : Mark → Reading Bool
-from_mark r = record { value = r.value; fault = r.fault }
-
 abbrev pub from_access : Access → Reading Privacy
 from_access r = record { value = r.privacy; fault = r.fault }
 
--- A name, and a text, by its place.
-abbrev pub from_name : List ℕ → Spot → Reading (Option (List ℕ))
+-- A name by its place.
+abbrev pub from_name : List ℕ → Shown → Reading (Option (List ℕ))
 from_name s r = record { value = name_in s r.place; fault = r.fault }
-
-abbrev pub from_text : List ℕ → Spot → Reading (Option Text)
-from_text s r = record { value = text_in s r.place; fault = r.fault }
 
 -- The details of an occurrence.
 abbrev pub details_of : List ℕ → Details → Types.Details

@@ -1,8 +1,6 @@
 -- The front of an escape that may be that of a surrogate: a backslash, u and D. Only the code asks for it; what a surrogate
 -- and its partner are says `Surrogates`.
 use Rattle.std.specs.Prelude.{if◌then◌else◌, ℕ, ◌+◌, ◌≤◌, ◌<◌, Bool, true, false, List, ◌≡◌, eqb, get_or}
-use Rattle.json_text.specs.declared.Read.{Read}
-use Rattle.json_text.specs.declared.Read.TheVariants.{To, Bad, Deep}
 
 -- 0 where two bytes are the same, else 1; and 0 where a byte is a D, in either case, else 1.
 unfoldable pub differ : ℕ → ℕ → ℕ
@@ -26,9 +24,3 @@ front a b c = if eqb a 0x5C then (if eqb b 0x75 then is_d c else false) else fal
 -- None begins among the first bytes of a text.
 unfoldable pub NoFront : List ℕ → ℕ → Type 0
 NoFront s n = (k : ℕ) → k + 2 < n → front (get_or s k 0) (get_or s (k + 1) 0) (get_or s (k + 2) 0) ≡ false
-
--- Did a pass come to its end?
-abbrev pub is_to : Read → Bool
-is_to (To i) = true
-is_to Bad = false
-is_to Deep = false

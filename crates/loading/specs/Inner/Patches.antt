@@ -1,13 +1,12 @@
 -- The places of the patches of overrides that may be absent.
-use Rattle.std.specs.Prelude.{ℕ, ◌≤◌, List, [], ◌≡◌}
+use Rattle.std.specs.Prelude.{ℕ, ◌≤◌, List, [], ◌≡◌, Some, None}
 use Rattle.json_ends.specs.Inner.Ends.{Ends}
-use Rattle.property.specs.declared.Place.{Place}
-use Rattle.property.specs.declared.Place.TheVariants as place
+use Rattle.property.specs.Inner.Place.{Place}
 use Rattle.override_text.specs.Inner.Lists.{places_at}
 
 abbrev pub patches_in : List ℕ → Place → List ℕ
-patches_in s place.None = []
-patches_in s (place.At at) = places_at s at
+patches_in s None = []
+patches_in s (Some at) = places_at s at
 
 -- Each override has an id, a mark and the place of its patch.
 pub record Overridden (ids gone places : ℕ) : Type 0 where

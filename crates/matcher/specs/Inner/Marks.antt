@@ -1,5 +1,5 @@
 -- Marking a row of flags from a rule's by-lists, entry by entry.
-use Rattle.std.specs.Prelude.{if◌then◌else◌, ℕ, zero, suc, ◌+◌, ◌*◌, Bool, true, false, List, [], ◌∷◌, ltb, ℤ, set}
+use Rattle.std.specs.Prelude.{if◌then◌else◌, ℕ, zero, suc, ◌+◌, ◌*◌, Bool, true, List, [], ◌∷◌, ltb, ℤ, set}
 use Rattle.std.proofs.Math.Option.{Option, none, some}
 use Rattle.signed.specs.Parts.{pos_part, neg_part}
 use Rattle.rule.specs.declared.Day.{Day}

@@ -1,10 +1,10 @@
 -- Whether a rule has a day, its `count` apart, over its terms and its row of flags.
-use Rattle.std.specs.Prelude.{if◌then◌else◌, ℕ, ◌+◌, ◌-◌, ◌*◌, ◌/◌, ◌%◌, ◌<◌, ◌≤◌, Bool, true, false, not, ◌&&◌, List, ◌≡◌, eqb}
+use Rattle.std.specs.Prelude.{if◌then◌else◌, ℕ, ◌/◌, Bool, true, false, List, eqb}
 use Rattle.rule.specs.declared.Day.{Day}
 use Rattle.rule.specs.declared.End.{End}
 use Rattle.rule.specs.Day.{day_at}
 use Rattle.rule.specs.Lists.{not_after}
-use Rattle.rule.specs.Gives.{end_day, on_day}
+use Rattle.rule.specs.Gives.{on_day}
 use Rattle.rule.specs.Inner.Read.{until_from}
 use Rattle.matcher.specs.declared.Terms.{Terms}
 use Rattle.matcher.specs.Inner.Walk.{picks_by}

@@ -1,5 +1,5 @@
 -- What the code asks of a rule to know which values of the start it implies.
-use Rattle.std.specs.Prelude.{if◌then◌else◌, ℕ, ◌<◌, Bool, true, false, not, ◌≡◌}
+use Rattle.std.specs.Prelude.{if◌then◌else◌, ◌<◌, Bool, true, false, not, ◌≡◌}
 use Rattle.rule.specs.declared.Frequency.{Frequency}
 use Rattle.rule.specs.declared.Frequency.TheVariants.{Daily, Weekly, Monthly, Yearly}
 use Rattle.rule.specs.declared.Day.{Day}

@@ -1,5 +1,5 @@
 -- A rule from day to day, over its terms and its row of flags.
-use Rattle.std.specs.Prelude.{if◌then◌else◌, ℕ, zero, suc, ◌+◌, ◌-◌, ◌%◌, ◌<◌, ◌≤◌, Bool, true, false, List, ◌≡◌, eqb}
+use Rattle.std.specs.Prelude.{if◌then◌else◌, ℕ, ◌+◌, ◌-◌, ◌%◌, ◌<◌, ◌≤◌, Bool, true, false, List, ◌≡◌, eqb}
 use Rattle.rule.specs.declared.Day.{Day}
 use Rattle.rule.specs.Day.{day_at}
 use Rattle.rule.specs.Lists.{count_in}

@@ -1,8 +1,6 @@
 -- The names of a patch, by the members of the walk.
-use Rattle.std.specs.Prelude.{ℕ, Bool, true, false, List, [], ◌∷◌}
-use Rattle.fault.specs.Fault.{lower, first}
-use Rattle.fault.specs.declared.First.{First}
-use Rattle.fault.specs.declared.First.TheVariants.{None}
+use Rattle.std.specs.Prelude.{ℕ, Bool, true, false, List, [], ◌∷◌, None}
+use Rattle.fault.specs.Fault.{lower, first, First}
 use Rattle.json_walk.specs.Strings.{raw_at}
 use Rattle.json_walk.specs.declared.Member.{Member}
 use Rattle.event.specs.Overrides.{name_fault}

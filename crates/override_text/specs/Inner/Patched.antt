@@ -1,14 +1,21 @@
 -- The properties of the patch at a place of a text, and the whole patch. Its fields' values are trees so many levels deep.
-use Rattle.std.specs.Prelude.{ℕ, suc, Bool, true, false, List}
+use Rattle.std.specs.Prelude.{ℕ, suc, Bool, true, false, List, ◌≡◌, Some, None}
 use Rattle.std.proofs.Math.Option.{Option, none}
 use Rattle.json_tree.specs.Tree.{Json, place_of, tree_at}
 use Rattle.json_text.specs.Ascii.{ascii}
 use Rattle.event.specs.Types.{Text, Length, Details, Override}
-use Rattle.event.specs.Values.{member, object}
+use Rattle.event.specs.Values.{is_null, member, object}
 use Rattle.event.specs.Reading.{Reading, Judged, inside}
 use Rattle.event.specs.Properties.{no_length, read_length, read_busy, read_boolean, read_text}
 use Rattle.event.specs.Overrides.{patched, patched_start, patch_in}
 use Rattle.property.specs.Inner.From.{fields_in}
+use Rattle.property.specs.Inner.Place.{Place}
+
+-- What a patch makes of a property, by the place of its value, if there is one: the own, the default where null stands there, or what is read.
+abbrev pub Chosen : {T : Type 0} → ℕ → List ℕ → Place → T → T → (ℕ → T → Type 0) → T → Type 0
+Chosen l s None own default Reads r = r ≡ own
+Chosen l s (Some i) own default Reads r =
+    (is_null (tree_at l s i) ≡ true → r ≡ default) × (is_null (tree_at l s i) ≡ false → Reads i r)
 
 abbrev pub start_in : ℕ → ℕ → List ℕ → ℕ → Reading ℕ
 start_in l id s at = patched_start id (member (ascii "start") (fields_in l s at))

@@ -1,5 +1,5 @@
 -- What the readers' answers mean: the definitions' readings, with the texts that stand at the places.
-use Rattle.std.specs.Prelude.{ℕ, ◌+◌, Bool, false, List}
+use Rattle.std.specs.Prelude.{ℕ, ◌+◌, Bool, false, List, Some, None}
 use Rattle.std.proofs.Math.Option.{Option, none, some}
 use Rattle.json_walk.specs.Walk.{members_of}
 use Rattle.json_tree.specs.Tree.{Json, Fields, fields_of, tree_at}
@@ -16,8 +16,7 @@ use Rattle.property.specs.declared.Zone.{Zone}
 use Rattle.property.specs.declared.Zone.TheVariants as zone
 use Rattle.property.specs.declared.Passage.{Passage}
 use Rattle.property.specs.declared.Passage.TheVariants as passage
-use Rattle.property.specs.declared.Place.{Place}
-use Rattle.property.specs.declared.Place.TheVariants as place
+use Rattle.property.specs.Inner.Place.{Place}
 
 abbrev pub from_flag : Flag → Reading Bool
 from_flag (flag.Is b) = right b
@@ -38,16 +37,16 @@ text_at s i = record { at = i + 1; raw = word_at s i }
 
 -- What stands at a place that may be none: a text, a name, a value of the tree.
 abbrev pub text_in : List ℕ → Place → Option Text
-text_in s place.None = none
-text_in s (place.At i) = some (text_at s i)
+text_in s None = none
+text_in s (Some i) = some (text_at s i)
 
 abbrev pub name_in : List ℕ → Place → Option (List ℕ)
-name_in s place.None = none
-name_in s (place.At i) = some (word_at s i)
+name_in s None = none
+name_in s (Some i) = some (word_at s i)
 
 abbrev pub value_in : ℕ → List ℕ → Place → Option Json
-value_in l s place.None = none
-value_in l s (place.At i) = some (tree_at l s i)
+value_in l s None = none
+value_in l s (Some i) = some (tree_at l s i)
 
 abbrev pub from_passage : List ℕ → Passage → Reading (Option Text)
 from_passage s (passage.At i) = right (some (text_at s i))

@@ -1,22 +1,20 @@
 -- A row: the members of an object by the numbers of their names.
-use Rattle.std.specs.Prelude.{if◌then◌else◌, ℕ, zero, suc, ◌<◌, ◌≤◌, List, ◌≡◌, eqb, length, get_or, set}
+use Rattle.std.specs.Prelude.{if◌then◌else◌, ℕ, zero, suc, ◌<◌, ◌≤◌, List, ◌≡◌, eqb, length, get_or, set, Option, Some, None}
 use Rattle.json_walk.specs.Walk.{members_of}
 use Rattle.json_tree.specs.Inner.Members.{find_in}
-use Rattle.json_tree.specs.declared.Found.{Found}
-use Rattle.json_tree.specs.declared.Found.TheVariants.{Here, Missing}
+use Rattle.json_walk.specs.declared.Member.{Member}
 use Rattle.property.specs.Inner.Vocabulary.{word_of}
-use Rattle.property.specs.declared.Place.{Place}
-use Rattle.property.specs.declared.Place.TheVariants as place
+use Rattle.property.specs.Inner.Place.{Place}
 
 -- The place of the value of a member that was looked for.
-abbrev pub placed : Found → Place
-placed (Here m) = place.At m.value
-placed Missing = place.None
+abbrev pub placed : Option Member → Place
+placed (Some m) = Some m.value
+placed None = None
 
 -- What an entry of a row says: 0 is no place.
 abbrev pub spot : ℕ → Place
-spot zero = place.None
-spot (suc i) = place.At (suc i)
+spot zero = None
+spot (suc i) = Some (suc i)
 
 -- A row with nothing in it.
 unfoldable pub Blank : List ℕ → Type 0

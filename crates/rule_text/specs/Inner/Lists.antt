@@ -1,23 +1,20 @@
 -- The by-lists of a rule: where one stands, and its fault.
-use Rattle.std.specs.Prelude.{if◌then◌else◌, ℕ, ◌<◌, Bool, true, false, List, map, ◌≡◌, eqb, ltb, ℤ, pos, length}
+use Rattle.std.specs.Prelude.{if◌then◌else◌, ℕ, ◌<◌, Bool, true, false, List, map, ◌≡◌, eqb, ltb, ℤ, pos, length, Some, None}
 use Rattle.std.proofs.Math.Option.{Option, none, some}
 use Rattle.std.proofs.lemmas.List.Edits.{sets}
-use Rattle.fault.specs.Fault.{lower, first}
-use Rattle.fault.specs.declared.First.{First}
-use Rattle.fault.specs.declared.First.TheVariants as fault
+use Rattle.fault.specs.Fault.{lower, first, First, a_fault}
 use Rattle.json_text.specs.Bytes.{byte}
 use Rattle.rule.specs.Written.{NDay}
 use Rattle.event.specs.Reading.{Judged}
 use Rattle.event.specs.Rules.{any_nth}
-use Rattle.property.specs.declared.Place as property
-use Rattle.property.specs.declared.Place.TheVariants as place
+use Rattle.property.specs.Inner.Place as property
 use Rattle.rule_text.specs.declared.Place.{Place}
 use Rattle.rule_text.specs.declared.Place.TheVariants.{At, Absent, Wrong}
 
 -- The array that a member has, none where there is no such member, or another value, whose place is said too.
 unfoldable pub list_place : List ℕ → property.Place → Place
-list_place s place.None = Absent
-list_place s (place.At i) = if eqb (byte s i) 0x5B then At i else Wrong i
+list_place s None = Absent
+list_place s (Some i) = if eqb (byte s i) 0x5B then At i else Wrong i
 
 abbrev pub Within : ℕ → Place → Type 0
 Within n (At i) = i < n
@@ -31,8 +28,8 @@ pub record Placed (s : List ℕ) (found : property.Place) (r : Place) : Type 0 w
 -- The fault of a list with so many entries at a place, of whose entries' own n decides: 02, 4: "empty list 25"; 9: over "64 entries in a by-list".
 unfoldable pub list_fault : ℕ → ℕ → First → First
 list_fault m at n =
-    if eqb m 0 then fault.At 25 at else
-    if ltb 64 m then lower n (fault.At 9 at) else
+    if eqb m 0 then Some (a_fault 25 at) else
+    if ltb 64 m then lower n (Some (a_fault 9 at)) else
     n
 
 -- An `nthOfPeriod` as a number, 0 where there is none.

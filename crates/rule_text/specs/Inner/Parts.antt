@@ -1,9 +1,8 @@
 -- The parts of a rule that are read together: its head, what ends it, its lists. l is the depth of the values of its members.
-use Rattle.std.specs.Prelude.{if◌then◌else◌, ℕ, suc, ◌≤◌, Bool, true, List, [], ◌∷◌, ◌≡◌, ℤ, length, take}
+use Rattle.std.specs.Prelude.{if◌then◌else◌, ℕ, suc, ◌≤◌, Bool, true, List, [], ◌∷◌, ◌≡◌, ℤ, length, take, Some, None}
 use Rattle.std.proofs.Math.Option.{Option}
-use Rattle.fault.specs.Fault.{Fault, all_of, lower, first}
-use Rattle.fault.specs.declared.First.{First}
-use Rattle.fault.specs.declared.First.TheVariants.{None, At}
+use Rattle.fault.specs.declared.Fault.{Fault}
+use Rattle.fault.specs.Fault.{all_of, lower, first, First, a_fault}
 use Rattle.json_tree.specs.Tree.{tree_at}
 use Rattle.rule.specs.declared.Frequency.{Frequency}
 use Rattle.rule.specs.declared.Frequency.TheVariants.{Daily, Weekly, Monthly, Yearly}
@@ -78,8 +77,8 @@ pub record DaysCollected (tree : ℕ → Judged (List NDay)) (ws : List ℕ) (zs
 
 -- 7: "`nthOfPeriod` under weekly or daily", at the rule, by whether some entry has one.
 abbrev pub nth_fault : ℕ → Frequency → Bool → First
-nth_fault at Daily b = if b then At 7 at else None
-nth_fault at Weekly b = if b then At 7 at else None
+nth_fault at Daily b = if b then Some (a_fault 7 at) else None
+nth_fault at Weekly b = if b then Some (a_fault 7 at) else None
 nth_fault at Monthly b = None
 nth_fault at Yearly b = None
 

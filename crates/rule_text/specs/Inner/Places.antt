@@ -1,9 +1,7 @@
 -- The places of the rules of a list.
-use Rattle.std.specs.Prelude.{if◌then◌else◌, ℕ, List, [], map, ◌≡◌, eqb, ltb, length}
+use Rattle.std.specs.Prelude.{if◌then◌else◌, ℕ, List, [], map, ◌≡◌, eqb, ltb, length, Some}
 use Rattle.std.proofs.lemmas.List.Edits.{sets}
-use Rattle.fault.specs.Fault.{lower, first}
-use Rattle.fault.specs.declared.First.{First}
-use Rattle.fault.specs.declared.First.TheVariants.{At}
+use Rattle.fault.specs.Fault.{lower, first, First, a_fault}
 use Rattle.json_text.specs.Bytes.{byte}
 use Rattle.json_walk.specs.Walk.{elements_of}
 use Rattle.json_walk.specs.declared.Element.{Element}
@@ -32,4 +30,4 @@ pub record Tally {A : Type 0} (tree : ℕ → Judged (List A)) (m : ℕ) (n : Fi
 
 -- 9: "over 8 rules in either list", which stands at a place.
 unfoldable pub rules_fault : ℕ → ℕ → First → First
-rules_fault m at n = if ltb 8 m then lower n (At 9 at) else n
+rules_fault m at n = if ltb 8 m then lower n (Some (a_fault 9 at)) else n

@@ -2,8 +2,7 @@
 -- the number of its fault; of a list's faults the answer is the one that decides.
 use Rattle.std.specs.Prelude.{ℕ, List, ◌≡◌, length}
 use Rattle.std.proofs.lemmas.List.Edits.{sets}
-use Rattle.fault.specs.Fault.{first}
-use Rattle.fault.specs.declared.First.{First}
+use Rattle.fault.specs.Fault.{first, First}
 use Rattle.json_walk.specs.Walk.{elements_of}
 use Rattle.json_tree.specs.Tree.{Json, items_of, tree_at}
 use Rattle.json_tree.specs.Inner.Kinds.{kind_at}

@@ -1,20 +1,19 @@
 -- What the look-up's answers mean: the number and the place of the text, for every case.
 use Rattle.std.specs.Prelude.{if◌then◌else◌, ℕ, ◌+◌, ◌≤◌, Bool, true, false, ◌≡◌, eqb}
+use Rattle.std.specs.Prelude as std
 use Rattle.std.proofs.Math.Option.{Option}
 use Rattle.event.specs.Types.{Text, Details}
 use Rattle.call_definitions.specs.Call.{Shown, no_place}
 use Rattle.texts.specs.declared.Part.{Part}
 use Rattle.texts.specs.declared.Told.{Told}
-use Rattle.texts.specs.declared.Lookup.{Lookup}
-use Rattle.texts.specs.declared.Lookup.TheVariants.{Found, Missing}
 
 abbrev pub part_shown : Part → Shown
 part_shown p = record { answer = 0; start = p.start; length = p.length }
 
 -- 14: "words asked for a date that is no occurrence, or of a secret event".
-abbrev pub lookup_shown : Lookup → Shown
-lookup_shown (Found p) = part_shown p
-lookup_shown Missing = no_place 14
+abbrev pub lookup_shown : std.Option Part → Shown
+lookup_shown (std.Some p) = part_shown p
+lookup_shown std.None = no_place 14
 
 abbrev pub told_shown : Told → Shown
 told_shown t = record { answer = t.answer; start = t.start; length = t.length }

@@ -1,5 +1,5 @@
 -- The first day that is not a rule's own any more: its `until` and its `count` as a day.
-use Rattle.std.specs.Prelude.{if◌then◌else◌, ℕ, zero, suc, ◌+◌, ◌-◌, ◌*◌, ◌/◌, ◌%◌, ◌<◌, ◌≤◌, Bool, true, false, List, ◌≡◌, eqb, leb, ltb}
+use Rattle.std.specs.Prelude.{if◌then◌else◌, ℕ, zero, suc, ◌+◌, ◌-◌, ◌/◌, ◌%◌, ◌<◌, ◌≤◌, Bool, List, ◌≡◌, eqb, leb, ltb}
 use Rattle.rule.specs.declared.End.{End}
 use Rattle.rule.specs.declared.End.TheVariants.{Never, Until, Count}
 use Rattle.rule.specs.Day.{day_at}

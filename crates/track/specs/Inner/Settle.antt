@@ -1,5 +1,5 @@
 -- A rule that is settled: its row, its terms and its end, as the code makes them, and what they say of its days.
-use Rattle.std.specs.Prelude.{ℕ, ◌+◌, ◌*◌, ◌/◌, ◌%◌, ◌<◌, ◌≤◌, Bool, true, false, List, ◌≡◌, length, replicate}
+use Rattle.std.specs.Prelude.{ℕ, ◌/◌, ◌<◌, ◌≤◌, Bool, false, List, ◌≡◌, length, replicate}
 use Rattle.rule.specs.declared.Rule.{Rule}
 use Rattle.rule.specs.Day.{day_at}
 use Rattle.rule.specs.Written.{RecurrenceRule}

@@ -1,5 +1,5 @@
 -- A day with what a rule with set positions asks of its period: how many of its days before this one stay, and how many of all.
-use Rattle.std.specs.Prelude.{if◌then◌else◌, ℕ, ◌+◌, ◌-◌, ◌<◌, ◌≤◌, Bool, true, false, List, ◌≡◌, ltb}
+use Rattle.std.specs.Prelude.{if◌then◌else◌, ℕ, ◌-◌, ◌<◌, ◌≤◌, Bool, false, List, ◌≡◌, ltb}
 use Rattle.rule.specs.declared.Day.{Day}
 use Rattle.rule.specs.Day.{day_at}
 use Rattle.rule.specs.Lists.{count_in}

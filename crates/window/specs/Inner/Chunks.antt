@@ -1,6 +1,5 @@
 -- A window goes by in chunks of days.
-use Rattle.std.specs.Prelude.{ℕ, ◌+◌, ◌-◌, ◌*◌, ◌/◌, ◌<◌, ◌≤◌}
-use Rattle.rule.specs.Gives.{end_day}
+use Rattle.std.specs.Prelude.{ℕ, ◌+◌, ◌*◌, ◌/◌}
 use Rattle.window.specs.Inner.Next.{lower}
 
 -- The second after a chunk of k days, in a window to `to`.

@@ -1,5 +1,5 @@
 -- The details of an occurrence over the overrides' ids and the places of their patches, and its record.
-use Rattle.std.specs.Prelude.{if◌then◌else◌, ℕ, ◌<◌, ◌≤◌, Bool, List, [], ◌∷◌, ◌≡◌, eqb, ℤ, length, get_or}
+use Rattle.std.specs.Prelude.{if◌then◌else◌, ℕ, ◌<◌, ◌≤◌, Bool, List, [], ◌∷◌, Option, Some, None, ◌≡◌, eqb, ℤ, length, get_or}
 use Rattle.sheet.specs.Records.{Row}
 use Rattle.event.specs.Types.{Details}
 use Rattle.call_definitions.specs.Occurrence.{with_start}
@@ -19,6 +19,12 @@ details_by s own (i ∷ ids) [] x = with_start own x
 details_by s own (i ∷ ids) (p ∷ places) x =
     let rest = details_by s own ids places x in
     if eqb i x then patch_details own s p i else rest
+
+-- The place of the patch of the first override that names x.
+unfoldable pub patch_of : List ℕ → List ℕ → ℕ → Option ℕ
+patch_of [] places x = None
+patch_of (i ∷ ids) [] x = None
+patch_of (i ∷ ids) (p ∷ places) x = if eqb i x then Some p else patch_of ids places x
 
 -- None of the first r ids is x.
 pub record Passed (ids : List ℕ) (x r : ℕ) : Type 0 where

@@ -19,17 +19,17 @@ returns-then-still c =
     place-offset here c.requires _ (hint-place here c.requires _ _ c.still.ensures c.if-still.true) _
     c.before-then-still.type_inv c.before-then-still.ensures
 
-pub search-found-requires : goal.search-found-requires
-search-found-requires c =
+pub search-place-requires : goal.search-place-requires
+search-place-requires c =
     let here : Ranged c.args.initial c.args.instants.now c.args.offsets.now c.args.local = record { initial_fits = c.ranges.initial; local_fits = c.ranges.local; range = (valid-gives _ _ _ c.requires).ranges } in
     record { in_range = range-again here; instants_len_bound = (valid-gives _ _ _ c.requires).count }
 
 pub before-requires-2 : goal.before-requires-2
 before-requires-2 c =
     let here : Ranged c.args.initial c.args.instants.now c.args.offsets.now c.args.local = record { initial_fits = c.ranges.initial; local_fits = c.ranges.local; range = (valid-gives _ _ _ c.requires).ranges } in
-    place-fits here c.requires _ (search-place here c.requires _ c.search-found.ensures)
+    place-fits here c.requires _ (search-place here c.requires _ c.search-place.ensures)
 
 pub returns : goal.returns
 returns c =
     let here : Ranged c.args.initial c.args.instants.now c.args.offsets.now c.args.local = record { initial_fits = c.ranges.initial; local_fits = c.ranges.local; range = (valid-gives _ _ _ c.requires).ranges } in
-    place-offset here c.requires _ (search-place here c.requires _ c.search-found.ensures) _ c.before-2.type_inv c.before-2.ensures
+    place-offset here c.requires _ (search-place here c.requires _ c.search-place.ensures) _ c.before-2.type_inv c.before-2.ensures

@@ -1,94 +1,82 @@
 -- `zone::valid` meets its contract: the code asks the definition's conditions one by one. The order of the instants comes before their
 -- range, which is then told by the ends.
-use lib.IntN.{ℤ}
-use mathlib.Core.List.{List}
-use mir.Syntax.{w64}
-use mir.Val.{SFits}
-use mathlib.Core.Bool.{Bool, true, false, not}
-use mathlib.Core.Path.{◌≡◌, sym, ◌∙◌}
-use mir.Facts.{to_z-of_z}
-use Rattle.zone.proofs.PassLaws.{both, and-false}
-use Rattle.zone.proofs.Machine.{again}
-use Rattle.zone.specs.Table.{within, all_within, valid_table}
-use borrow.Author.Tests.{eq-eqb, le-leb, lt-leb, ne_eqb, not-false, not-true}
+use Rattle.std.proofs.Common.{◌≡◌, ◌∙◌, ◌&&◌, length, refl, sym, ap, Bool}
+use lib.Dec.{leb, eqb}
+use borrow.Author.Tests.{le-leb, lt-leb}
+use Rattle.signed.proofs.Parts.{passed, true-false}
+use Rattle.zone.specs.Table.{within, all_within, increasing}
+use Rattle.zone.proofs.PassLaws.{both, asked, and-then, and-else}
 use Rattle.zone.proofs.valid.Goals as goal
+use Rattle.zone.proofs.valid.Goals.{then-instants-le1024, else-instants-le1024, then-instants-offsets, else-instants-offsets, then-increasing, else-increasing, then-ends_within, else-ends_within}
 
--- what the calls answer of the initial offset as it is passed, they answer of it
-given-initial : (z : ℤ) → SFits w64 z → (r : Bool) → r ≡ within 86399 (again z) → r ≡ within 86399 z
-given-initial z f r e = rw (to_z-of_z f) at e
+module _ (c : goal.After-in_order) where
+  then-lengths : c.if-instants-le1024.t-8 ≡ leb (length c.args.instants.now) 1024 && eqb (length c.args.instants.now) (length c.args.offsets.now)
+  then-lengths = elim c.if-instants-le1024.branch [
+    | then-instants-le1024 w ↦ and-then (le-leb _ _ w.if-instants-le1024.true) w.t-8-is
+    | else-instants-le1024 w ↦ and-else _ (lt-leb _ _ w.if-instants-le1024.false) w.t-8-is
+  ]
 
-given_both : (z : ℤ) → SFits w64 z → (ys zs : List ℤ) (r : Bool) → r ≡ both (again z) ys zs → r ≡ both z ys zs
-given_both z f ys zs r e = rw (to_z-of_z f) at e
+  then-order : c.if-instants-offsets.value ≡ c.if-instants-le1024.t-8 && increasing c.args.instants.now
+  then-order = elim c.if-instants-offsets.branch [
+    | then-instants-offsets w ↦ and-then w.if-instants-offsets.true-raw (w.value-is ∙ w.increasing.ensures)
+    | else-instants-offsets w ↦ and-else _ w.if-instants-offsets.false-raw w.value-is
+  ]
 
--- a test that did not fail
-true-as : {r d : Bool} → r ≡ d → not r ≡ false → d ≡ true
-true-as {r} e t = sym e ∙ not-false r t
+  then-range : c.if-increasing.value ≡ c.if-instants-offsets.value && all_within 1099511627776 c.args.instants.now
+  then-range = elim c.if-increasing.branch [
+    | then-increasing w ↦ and-then w.if-increasing.true (w.value-is ∙ w.ends_within.ensures)
+    | else-increasing w ↦ and-else _ w.if-increasing.false w.value-is
+  ]
 
-pub returns-then-instants-gt1024 : goal.returns-then-instants-gt1024
-unfolding valid_table
-returns-then-instants-gt1024 c = rw (lt-leb _ _ c.if-instants-gt1024.true)
+  then-initial : c.if-ends_within.value ≡ c.if-increasing.value && within 86399 c.args.initial
+  then-initial = elim c.if-ends_within.branch [
+    | then-ends_within w ↦ and-then w.if-ends_within.true (w.value-is ∙ passed (within 86399) c.ranges.initial w.within.ensures)
+    | else-ends_within w ↦ and-else _ w.if-ends_within.false w.value-is
+  ]
 
-pub returns-then-instants-offsets : goal.returns-then-instants-offsets
-unfolding valid_table
-returns-then-instants-offsets c = rw (
-  le-leb _ _ c.if-instants-gt1024.false,
-  ne_eqb _ _ c.if-instants-offsets.true,
-)
+module _ (c : goal.Else-within) where
+  else-lengths : c.if-instants-le1024.t-8 ≡ leb (length c.args.instants.now) 1024 && eqb (length c.args.instants.now) (length c.args.offsets.now)
+  else-lengths = elim c.if-instants-le1024.branch [
+    | then-instants-le1024 w ↦ and-then (le-leb _ _ w.if-instants-le1024.true) w.t-8-is
+    | else-instants-le1024 w ↦ and-else _ (lt-leb _ _ w.if-instants-le1024.false) w.t-8-is
+  ]
 
-pub returns-then-not-increasing : goal.returns-then-not-increasing
-unfolding valid_table
-returns-then-not-increasing c = rw (
-  le-leb _ _ c.if-instants-gt1024.false,
-  eq-eqb _ _ c.if-instants-offsets.false,
-  ← c.increasing.ensures,
-  not-true c.increasing.result c.if-not-increasing.true-raw,
-  and-false (all_within 1099511627776 c.args.instants.now),
-)
+  else-order : c.if-instants-offsets.value ≡ c.if-instants-le1024.t-8 && increasing c.args.instants.now
+  else-order = elim c.if-instants-offsets.branch [
+    | then-instants-offsets w ↦ and-then w.if-instants-offsets.true-raw (w.value-is ∙ w.increasing.ensures)
+    | else-instants-offsets w ↦ and-else _ w.if-instants-offsets.false-raw w.value-is
+  ]
 
-pub ends_within-requires : goal.ends_within-requires
-ends_within-requires c = true-as c.increasing.ensures c.if-not-increasing.false-raw
+  else-range : c.if-increasing.value ≡ c.if-instants-offsets.value && all_within 1099511627776 c.args.instants.now
+  else-range = elim c.if-increasing.branch [
+    | then-increasing w ↦ and-then w.if-increasing.true (w.value-is ∙ w.ends_within.ensures)
+    | else-increasing w ↦ and-else _ w.if-increasing.false w.value-is
+  ]
 
-pub returns-then-not-ends_within : goal.returns-then-not-ends_within
-unfolding valid_table
-returns-then-not-ends_within c = rw (
-  le-leb _ _ c.if-instants-gt1024.false,
-  eq-eqb _ _ c.if-instants-offsets.false,
-  ← c.increasing.ensures,
-  not-false c.increasing.result c.if-not-increasing.false-raw,
-  ← c.ends_within.ensures,
-  not-true c.ends_within.result c.if-not-ends_within.true-raw,
-)
+  else-initial : c.if-ends_within.value ≡ c.if-increasing.value && within 86399 c.args.initial
+  else-initial = elim c.if-ends_within.branch [
+    | then-ends_within w ↦ and-then w.if-ends_within.true (w.value-is ∙ passed (within 86399) c.ranges.initial w.within.ensures)
+    | else-ends_within w ↦ and-else _ w.if-ends_within.false w.value-is
+  ]
 
-pub returns-then-not-within : goal.returns-then-not-within
-unfolding valid_table
-returns-then-not-within c = rw (
-  le-leb _ _ c.if-instants-gt1024.false,
-  eq-eqb _ _ c.if-instants-offsets.false,
-  ← c.increasing.ensures,
-  not-false c.increasing.result c.if-not-increasing.false-raw,
-  ← c.ends_within.ensures,
-  not-false c.ends_within.result c.if-not-ends_within.false-raw,
-  ← given-initial _ c.ranges.initial _ c.within.ensures,
-  not-true c.within.result c.if-not-within.true-raw,
-)
+pub returns-then-within : goal.returns-then-within
+returns-then-within c =
+    asked c.args.initial c.args.instants.now c.args.offsets.now c.if-ends_within.value c.in_order.result
+    (then-initial c
+    ∙ ap (λ (t : Bool). t && within 86399 c.args.initial)
+    (then-range c
+    ∙ ap (λ (t : Bool). t && all_within 1099511627776 c.args.instants.now)
+    (then-order c ∙ ap (λ (t : Bool). t && increasing c.args.instants.now) (then-lengths c))))
+    (λ t. passed (λ z. both z c.args.instants.now c.args.offsets.now) c.ranges.initial c.in_order.ensures)
+    (λ f. true-false (sym c.if-within.true ∙ f))
 
-pub in_order-requires : goal.in_order-requires
-in_order-requires c = record {
-  instants_len = c.if-instants-offsets.false;
-  instants_value = true-as c.ends_within.ensures c.if-not-ends_within.false-raw;
-  initial_value = rw (to_z-of_z c.ranges.initial) (true-as (given-initial _ c.ranges.initial _ c.within.ensures) c.if-not-within.false-raw);
-}
-
-pub returns : goal.returns
-unfolding valid_table
-returns c = rw (
-  le-leb _ _ c.if-instants-gt1024.false,
-  eq-eqb _ _ c.if-instants-offsets.false,
-  ← c.increasing.ensures,
-  not-false c.increasing.result c.if-not-increasing.false-raw,
-  ← c.ends_within.ensures,
-  not-false c.ends_within.result c.if-not-ends_within.false-raw,
-  ← given-initial _ c.ranges.initial _ c.within.ensures,
-  not-false c.within.result c.if-not-within.false-raw,
-  ← given_both _ c.ranges.initial _ _ _ c.in_order.ensures,
-)
+pub returns-else-within : goal.returns-else-within
+returns-else-within c =
+    asked c.args.initial c.args.instants.now c.args.offsets.now c.if-ends_within.value c.if-ends_within.value
+    (else-initial c
+    ∙ ap (λ (t : Bool). t && within 86399 c.args.initial)
+    (else-range c
+    ∙ ap (λ (t : Bool). t && all_within 1099511627776 c.args.instants.now)
+    (else-order c ∙ ap (λ (t : Bool). t && increasing c.args.instants.now) (else-lengths c))))
+    (λ t. true-false (sym t ∙ c.if-within.false))
+    (λ f. refl)

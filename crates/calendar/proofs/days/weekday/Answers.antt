@@ -1,7 +1,5 @@
 use Rattle.gregorian.specs.Days.{weekday_of}
 use borrow.Author.Rules.{rules}
-use Rattle.calendar.proofs.days.weekday.Reads as reads
-use Rattle.calendar.proofs.days.weekday.Lts as lts
 use Rattle.calendar.proofs.days.weekday.Goals as goal
 
 -- src/days.rt:12:1

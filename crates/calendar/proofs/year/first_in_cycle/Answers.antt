@@ -2,8 +2,6 @@
 use native.Mathlib.Omega.{arith}
 use Rattle.gregorian.specs.Year.{year_length, is_leap}
 use Rattle.gregorian.proofs.YearLaws.{table-rule}
-use Rattle.calendar.proofs.year.first_in_cycle.Reads as reads
-use Rattle.calendar.proofs.year.first_in_cycle.Lts as lts
 use Rattle.calendar.proofs.year.first_in_cycle.Goals as goal
 
 -- src/year.rt:433:1

@@ -4,9 +4,6 @@ use mathlib.Core.Path.{◌≡◌}
 use Prim.Native.Nat.{◌+◌, ◌*◌, ◌-◌, ◌/◌, ◌%◌}
 use Rattle.gregorian.specs.Year.{first_of_year}
 use Rattle.gregorian.proofs.YearLaws.{first-cycle, first-most}
-use Rattle.calendar.proofs.year.year_start.Reads as reads
-use Rattle.calendar.proofs.year.year_start.Lts as lts
-use Rattle.calendar.proofs.year.first_in_cycle.Reads as first-in-cycle-reads
 use Rattle.calendar.proofs.year.year_start.Goals as goal
 
 -- src/year.rt:446:5

@@ -15,8 +15,6 @@ pub returns-then-not-meets : goal.returns-then-not-meets
 returns-then-not-meets c = rw (
   ← c.loop-i.invariant.0,
   follows-turn _ _ _ c.loop-i-test.true c.loop-i.invariant.1,
-  ← c.byte.ensures.is,
-  ← c.byte-in-loop-i.ensures.is,
   ← c.meets.ensures,
   not-true c.meets.result c.if-not-meets.true-raw,
 )
@@ -26,8 +24,6 @@ loop-i-preserved c = (
   rw (
     ← c.loop-i.invariant.0,
     follows-turn _ _ _ c.loop-i-test.true c.loop-i.invariant.1,
-    ← c.byte.ensures.is,
-    ← c.byte-in-loop-i.ensures.is,
     ← c.meets.ensures,
     not-false c.meets.result c.if-not-meets.false-raw,
   ),

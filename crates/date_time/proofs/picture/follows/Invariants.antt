@@ -7,6 +7,3 @@ use Rattle.date_time.proofs.picture.follows.Given as goal
 
 abbrev pub invariant-loop-i : goal.invariant-loop-i
 invariant-loop-i l = (follows (drop l.i l.picture) (drop l.i l.raw) ≡ follows l.picture l.raw) × (length l.picture ≤ length l.raw)
-
-abbrev pub decreases-loop-i : goal.decreases-loop-i
-decreases-loop-i l = length l.picture - l.i

@@ -7,6 +7,7 @@ use native.Mathlib.Omega.{arith}
 use lib.ListN.{length, take, drop, length-drop}
 use lib.Seq.{length-take-le, take_all}
 use Rattle.matcher.specs.Inner.Layout.{list_size, lists_size}
+use Rattle.track.specs.Inner.Settle.{cleared}
 use Rattle.dates.specs.Inner.Tracked.{Tracked}
 use Rattle.dates.specs.Inner.Dates.{kept_dates}
 use Rattle.dates.proofs.FillLaws.{filled}
@@ -37,6 +38,7 @@ pub mark_ids-requires-2 : goal.mark_ids-requires-2
 mark_ids-requires-2 c = c.requires.0.overrides
 
 pub returns : goal.returns
+unfolding cleared
 returns c = filled (kept_dates c.args.dates c.args.rows.now c.args.ids.now c.args.gone.now) _ _ _ _ _ _ _ _
-    c.clear.ensures c.mark_tracks.ensures c.mark_date.ensures
+    (c.fill.ensures.after (λ y same. same)) c.mark_tracks.ensures c.mark_date.ensures
     (rw (rest-is c.args.rows.now c.requires.0.size) at c.mark_tracks-2.ensures) c.mark_ids.ensures c.mark_ids-2.ensures

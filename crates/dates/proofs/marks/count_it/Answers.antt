@@ -2,10 +2,10 @@
 use Rattle.dates.specs.Inner.Overrides.{counts}
 use Rattle.dates.proofs.marks.count_it.Goals as goal
 
-pub returns-then-only : goal.returns-then-only
+pub returns-then-not-only : goal.returns-then-not-only
 unfolding counts
-returns-then-only c = rw c.if-only.true
+returns-then-not-only c = rw c.if-not-only.true
 
-pub returns : goal.returns
+pub returns-else-not-only : goal.returns-else-not-only
 unfolding counts
-returns c = rw c.if-only.false
+returns-else-not-only c = rw c.if-not-only.false

@@ -1,13 +1,15 @@
 -- `dates::marks::mark_ids` meets its contract.
-use Rattle.dates.proofs.MarkLaws.{ids-start, ids-go-on, ids-end}
-use Prim.Native.Nat.{◌-◌}
+use Rattle.std.proofs.lemmas.Slice.Zip.{Zip-more}
+use Rattle.std.proofs.lemmas.Iterator.{empty_from_Zip}
+use Rattle.dates.proofs.MarkLaws.{ids-go-on, ids-end}
 use Rattle.dates.proofs.marks.mark_ids.Goals as goal
 
-pub loop-i-init : goal.loop-i-init
-loop-i-init c = ids-start _ _ _ _ _ _ _
-
-pub loop-i-preserved : goal.loop-i-preserved
-loop-i-preserved c = ids-go-on _ _ _ _ _ _ _ _ _ _ _ c.loop-i.invariant c.loop-i-test.true c.requires c.count_it-counted.ensures c.mark_date.ensures
+pub loop-id-preserved : goal.loop-id-preserved
+loop-id-preserved c =
+    let more = Zip-more c.loop-id.id-iterator c.next.new.self _ (c.in-Some.id, c.in-Some.gone) c.in-Some.is c.next.ensures.steps in
+    ids-go-on _ _ _ _ _ _ _ _ _ _ _ _ _ _ (rw (more.0, more.1) at c.loop-id.invariant) c.count_it.ensures c.mark_date.ensures
 
 pub returns : goal.returns
-returns c = ids-end _ _ _ _ _ _ _ _ _ c.loop-i.invariant c.loop-i-test.false
+returns c =
+    let spent = empty_from_Zip c.loop-id.id-iterator c.next.new.self _ c.in-None.is c.next.ensures.steps c.loop-id.invariant.sizes in
+    ids-end _ _ _ _ _ _ _ _ (rw (spent.0, spent.1) at c.loop-id.invariant)

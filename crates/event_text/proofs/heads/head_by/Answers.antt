@@ -8,41 +8,7 @@ use Rattle.event_text.specs.Inner.Front.{front_in}
 use Rattle.property.proofs.RowLaws.{value}
 use Rattle.property.specs.Inner.Vocabulary.{vocabulary, word_of}
 use Rattle.json_text.specs.Ascii.{ascii}
-use native.Mathlib.Omega.{arith}
 use Rattle.event_text.proofs.heads.head_by.Goals as goal
-
-pub own_details-own-requires : goal.own_details-own-requires
-own_details-own-requires c = c.requires
-
-pub place-rules-requires : goal.place-rules-requires
-place-rules-requires c = (c.requires.0, omega (arith, c.requires.1))
-
-pub place-excluded-requires : goal.place-excluded-requires
-place-excluded-requires c = (c.requires.0, omega (arith, c.requires.1))
-
-pub place-overrides-requires : goal.place-overrides-requires
-place-overrides-requires c = (c.requires.0, omega (arith, c.requires.1))
-
-pub uid_fault-requires : goal.uid_fault-requires
-uid_fault-requires c = c.requires
-
-pub fault_in-uid-requires : goal.fault_in-uid-requires
-fault_in-uid-requires c = (c.requires.0, omega (arith, c.requires.1))
-
-pub updated_fault-requires : goal.updated_fault-requires
-updated_fault-requires c = c.requires
-
-pub fault_in-updated-requires : goal.fault_in-updated-requires
-fault_in-updated-requires c = (c.requires.0, omega (arith, c.requires.1))
-
-pub fault_in-named-requires : goal.fault_in-named-requires
-fault_in-named-requires c = (c.requires.0, omega (arith, c.requires.1))
-
-pub fault_in-shown-requires : goal.fault_in-shown-requires
-fault_in-shown-requires c = (c.requires.0, omega (arith, c.requires.1))
-
-pub id_fault-requires : goal.id_fault-requires
-id_fault-requires c = c.requires
 
 pub returns : goal.returns
 unfolding front_in placed word_of vocabulary

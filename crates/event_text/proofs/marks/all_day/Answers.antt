@@ -5,9 +5,9 @@ use Rattle.property.specs.Inner.Vocabulary.{vocabulary, word_of}
 use Rattle.json_text.specs.Ascii.{ascii}
 use Rattle.event_text.proofs.marks.all_day.Goals as goal
 
-pub returns-in-At : goal.returns-in-At
+pub returns-in-Some : goal.returns-in-Some
 unfolding optional word_of vocabulary
-returns-in-At c = λ l. rw (here _ (ascii "showWithoutTime") _ _ c.place.ensures _ c.in-At.is l, ← (c.read_boolean.ensures l), ← c.mark.ensures)
+returns-in-Some c = λ l. rw (here _ (ascii "showWithoutTime") _ _ c.place.ensures _ c.in-Some.is l, ← (c.read_boolean.ensures l), ← c.mark.ensures)
 
 pub returns-in-None : goal.returns-in-None
 unfolding optional word_of vocabulary

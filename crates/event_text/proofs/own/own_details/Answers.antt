@@ -3,35 +3,7 @@ use Rattle.fault.proofs.Laws.{first-all}
 use Rattle.event.specs.Event.{details_in}
 use Rattle.event.specs.Reading.{placed}
 use Rattle.property.specs.Inner.Vocabulary.{vocabulary, word_of}
-use native.Mathlib.Omega.{arith}
 use Rattle.event_text.proofs.own.own_details.Goals as goal
-
-pub all_day-allday-requires : goal.all_day-allday-requires
-all_day-allday-requires c = c.requires
-
-pub words-title-requires : goal.words-title-requires
-words-title-requires c = (c.requires.0, omega (arith, c.requires.1))
-
-pub words-description-requires : goal.words-description-requires
-words-description-requires c = (c.requires.0, omega (arith, c.requires.1))
-
-pub fault_in-first-requires : goal.fault_in-first-requires
-fault_in-first-requires c = (c.requires.0, omega (arith, c.requires.1))
-
-pub fault_in-second-requires : goal.fault_in-second-requires
-fault_in-second-requires c = (c.requires.0, omega (arith, c.requires.1))
-
-pub fault_in-third-requires : goal.fault_in-third-requires
-fault_in-third-requires c = (c.requires.0, omega (arith, c.requires.1))
-
-pub fault_in-fourth-requires : goal.fault_in-fourth-requires
-fault_in-fourth-requires c = (c.requires.0, omega (arith, c.requires.1))
-
-pub fault_in-fifth-requires : goal.fault_in-fifth-requires
-fault_in-fifth-requires c = (c.requires.0, omega (arith, c.requires.1))
-
-pub fault_in-sixth-requires : goal.fault_in-sixth-requires
-fault_in-sixth-requires c = (c.requires.0, omega (arith, c.requires.1))
 
 pub returns : goal.returns
 unfolding details_in placed word_of vocabulary

@@ -3,9 +3,9 @@ use Rattle.event.specs.Reading.{optional}
 use Rattle.property.proofs.RowLaws.{here, missing}
 use Rattle.event_text.proofs.spots.words.Goals as goal
 
-pub returns-in-At : goal.returns-in-At
+pub returns-in-Some : goal.returns-in-Some
 unfolding optional
-returns-in-At c = λ l. rw (here _ _ _ _ c.place.ensures _ c.in-At.is l, ← (c.read_text.ensures l), ← c.passage.ensures)
+returns-in-Some c = λ l. rw (here _ _ _ _ c.place.ensures _ c.in-Some.is l, ← (c.read_text.ensures l), ← c.shown.ensures)
 
 pub returns-in-None : goal.returns-in-None
 unfolding optional

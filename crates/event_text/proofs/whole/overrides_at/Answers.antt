@@ -1,12 +1,13 @@
 -- `event_text::whole::overrides_at` meets its contract.
+use borrow.Author.Rules.{rules}
 use Rattle.fault.specs.Fault.{first}
 use Rattle.event.specs.Reading.{present}
 use Rattle.event_text.proofs.whole.overrides_at.Goals as goal
 
-pub returns-in-None : goal.returns-in-None
+pub returns-in_err-at : goal.returns-in_err-at
 unfolding present first
-returns-in-None c = rw c.in-None.is
+returns-in_err-at c = rw c.in_err-at.was (search rules)
 
-pub returns-in-At : goal.returns-in-At
+pub returns : goal.returns
 unfolding present
-returns-in-At c = rw (← (c.own_of-own.ensures c.args.text.now), c.in-At.is) (c.overrides_fault.ensures 13)
+returns c = rw (← (c.own_of.ensures c.args.text.now), c.in_ok-at.was) (c.overrides_fault.ensures 13)

@@ -1,10 +1,7 @@
--- `fetch::run::fill` meets its contract: the first i elements of each slice have their numbers.
-use Prim.Native.Nat.{◌-◌, ◌≤◌}
+-- `fetch::run::fill` meets its contract: the elements of the blocks that are done have their numbers.
+use Prim.Native.Nat.{◌*◌, min}
 use Rattle.fetch.specs.Inner.Filling.{Filled}
 use Rattle.fetch.proofs.run.fill.Given as goal
 
-abbrev pub invariant-loop-i : goal.invariant-loop-i
-invariant-loop-i l = (l.i ≤ l.n) × Filled l.sheet l.k l.i l.initial.ids l.initial.starts l.initial.ends l.initial.marks l.ids l.starts l.ends l.marks
-
-abbrev pub decreases-loop-i : goal.decreases-loop-i
-decreases-loop-i l = l.n - l.i
+abbrev pub invariant-loop-block : goal.invariant-loop-block
+invariant-loop-block l = Filled l.sheet l.k (min l.n (256 * l.block)) l.initial.ids l.initial.starts l.initial.ends l.initial.marks l.ids l.starts l.ends l.marks

@@ -1,7 +1,9 @@
 -- The cycle of readers: each reads as its definition says, and keeps the table of ends true.
-use Rattle.json_value.proofs.Laws.{array-none, array-step, elements-none, elements-step, members-none, members_step, object-none, object-step, value-step}
+use Rattle.json_value.proofs.Laws.{array-none, array-step, object-none, object-step, value-step}
 use Rattle.json_value.specs.Values.{array_of, object_of, value_of}
 use Rattle.json_value.specs.Inner.Groups.{array_at, object_at}
+use Rattle.std.proofs.Math.Nat.{sub-zero}
+use Rattle.json_ends.proofs.Laws.{elements-turn, elements-over, members-turn, members-over}
 use borrow.Author.Rules.{rules}
 use borrow.Author.Tests.{eq-eqb, ne_eqb}
 use Rattle.json_ends.proofs.reading.+array_object_value.Goals as goal
@@ -21,102 +23,84 @@ array-returns-in-Done t c = record {
   ends = search rules;
 }
 
-pub array-returns-in-Wrong : goal.array-returns-in-Wrong
+pub array-loop-init : goal.array-loop-init
 unfolding array_at array_of
-array-returns-in-Wrong t c = record {
-  is = rw (
-    array-step _ c.if-left-eq0.false,
-    ← c.first.ensures,
-    c.in-Wrong.is,
-  );
-  ends = search rules;
-}
-
-pub array-loop-n-init : goal.array-loop-n-init
-unfolding array_at array_of
-array-loop-n-init t c = (
-  rw (
+array-loop-init t c = record {
+  reads = rw (
+    sub-zero,
     array-step _ c.if-left-eq0.false,
     ← c.first.ensures,
     c.in-More.is,
-  ),
-  search rules,
-  search rules,
-)
-
-pub array-returns-in-Bad : goal.array-returns-in-Bad
-unfolding array_at array_of
-array-returns-in-Bad t c = record {
-  is = rw (
-    ← c.loop-n.invariant.0,
-    elements-step _ c.loop-n-test.true,
-    ← c.value.ensures.is,
-    c.in-Bad.is,
   );
+  size = search rules;
   ends = search rules;
 }
 
-pub array-returns-in-Deep : goal.array-returns-in-Deep
+pub array-returns-in_err-j : goal.array-returns-in_err-j
 unfolding array_at array_of
-array-returns-in-Deep t c = record {
+array-returns-in_err-j t c = record {
   is = rw (
-    ← c.loop-n.invariant.0,
-    elements-step _ c.loop-n-test.true,
+    ← c.loop.invariant.reads,
+    elements-turn _ _ c.loop-test.true,
     ← c.value.ensures.is,
-    c.in-Deep.is,
-  );
+    c.in_err-j.was,
+  )
+      (search rules);
   ends = search rules;
 }
 
-pub array-returns-in-Done-after : goal.array-returns-in-Done-after
+pub array-returns-in_err-k : goal.array-returns-in_err-k
 unfolding array_at array_of
-array-returns-in-Done-after t c = record {
+array-returns-in_err-k t c = record {
   is = rw (
-    ← c.loop-n.invariant.0,
-    elements-step _ c.loop-n-test.true,
+    ← c.loop.invariant.reads,
+    elements-turn _ _ c.loop-test.true,
     ← c.value.ensures.is,
-    c.in-To.is,
+    c.in_ok-j.was,
     ← c.after.ensures,
-    c.in-Done-after.is,
-  );
+    c.in_err-k.was,
+  )
+      (search rules);
   ends = search rules;
 }
 
-pub array-returns-in-Wrong-after : goal.array-returns-in-Wrong-after
+pub array-returns-in-Done-2 : goal.array-returns-in-Done-2
 unfolding array_at array_of
-array-returns-in-Wrong-after t c = record {
+array-returns-in-Done-2 t c = record {
   is = rw (
-    ← c.loop-n.invariant.0,
-    elements-step _ c.loop-n-test.true,
+    ← c.loop.invariant.reads,
+    elements-turn _ _ c.loop-test.true,
     ← c.value.ensures.is,
-    c.in-To.is,
+    c.in_ok-j.was,
     ← c.after.ensures,
-    c.in-Wrong-after.is,
+    c.in_ok-k.was,
+    c.in-Done-2.is,
   );
   ends = search rules;
 }
 
-pub array-loop-n-preserved : goal.array-loop-n-preserved
+pub array-loop-preserved : goal.array-loop-preserved
 unfolding array_at array_of
-array-loop-n-preserved t c = (
-  rw (
-    ← c.loop-n.invariant.0,
-    elements-step _ c.loop-n-test.true,
+array-loop-preserved t c = record {
+  reads = rw (
+    ← c.loop.invariant.reads,
+    elements-turn _ _ c.loop-test.true,
     ← c.value.ensures.is,
-    c.in-To.is,
+    c.in_ok-j.was,
     ← c.after.ensures,
-    c.in-More-after.is,
-  ),
-  search rules,
-  search rules,
-)
+    c.in_ok-k.was,
+    c.in-More-2.is,
+  );
+  size = search rules;
+  ends = search rules;
+}
 
 pub array-returns : goal.array-returns
 unfolding array_at array_of
 array-returns t c = record {
   is = rw (
-    ← c.loop-n.invariant.0,
-    elements-none _ c.loop-n-test.false,
+    ← c.loop.invariant.reads,
+    elements-over _ _ c.loop-test.false,
   );
   ends = search rules;
 }
@@ -136,136 +120,105 @@ object-returns-in-Done t c = record {
   ends = search rules;
 }
 
-pub object-returns-in-Wrong : goal.object-returns-in-Wrong
+pub object-loop-init : goal.object-loop-init
 unfolding object_at object_of
-object-returns-in-Wrong t c = record {
-  is = rw (
-    object-step _ c.if-left-eq0.false,
-    ← c.first.ensures,
-    c.in-Wrong.is,
-  );
-  ends = search rules;
-}
-
-pub object-loop-n-init : goal.object-loop-n-init
-unfolding object_at object_of
-object-loop-n-init t c = (
-  rw (
+object-loop-init t c = record {
+  reads = rw (
+    sub-zero,
     object-step _ c.if-left-eq0.false,
     ← c.first.ensures,
     c.in-More.is,
-  ),
-  search rules,
-  search rules,
-)
-
-pub object-returns-in-Bad : goal.object-returns-in-Bad
-unfolding object_at object_of
-object-returns-in-Bad t c = record {
-  is = rw (
-    ← c.loop-n.invariant.0,
-    members_step _ c.loop-n-test.true,
-    ← c.name.ensures.is,
-    c.in-Bad.is,
   );
+  size = search rules;
   ends = search rules;
 }
 
-pub object-returns-in-Deep : goal.object-returns-in-Deep
+pub object-returns-in_err-v : goal.object-returns-in_err-v
 unfolding object_at object_of
-object-returns-in-Deep t c = record {
+object-returns-in_err-v t c = record {
   is = rw (
-    ← c.loop-n.invariant.0,
-    members_step _ c.loop-n-test.true,
+    ← c.loop.invariant.reads,
+    members-turn _ _ c.loop-test.true,
     ← c.name.ensures.is,
-    c.in-Deep.is,
-  );
+    c.in_err-v.was,
+  )
+      (search rules);
   ends = search rules;
 }
 
-pub object-returns-in-Bad-value : goal.object-returns-in-Bad-value
+pub object-returns-in_err-j : goal.object-returns-in_err-j
 unfolding object_at object_of
-object-returns-in-Bad-value t c = record {
+object-returns-in_err-j t c = record {
   is = rw (
-    ← c.loop-n.invariant.0,
-    members_step _ c.loop-n-test.true,
+    ← c.loop.invariant.reads,
+    members-turn _ _ c.loop-test.true,
     ← c.name.ensures.is,
-    c.in-To.is,
+    c.in_ok-v.was,
     ← c.value.ensures.is,
-    c.in-Bad-value.is,
-  );
+    c.in_err-j.was,
+  )
+      (search rules);
   ends = search rules;
 }
 
-pub object-returns-in-Deep-value : goal.object-returns-in-Deep-value
+pub object-returns-in_err-k : goal.object-returns-in_err-k
 unfolding object_at object_of
-object-returns-in-Deep-value t c = record {
+object-returns-in_err-k t c = record {
   is = rw (
-    ← c.loop-n.invariant.0,
-    members_step _ c.loop-n-test.true,
+    ← c.loop.invariant.reads,
+    members-turn _ _ c.loop-test.true,
     ← c.name.ensures.is,
-    c.in-To.is,
+    c.in_ok-v.was,
     ← c.value.ensures.is,
-    c.in-Deep-value.is,
-  );
-  ends = search rules;
-}
-
-pub object-returns-in-Done-after : goal.object-returns-in-Done-after
-unfolding object_at object_of
-object-returns-in-Done-after t c = record {
-  is = rw (
-    ← c.loop-n.invariant.0,
-    members_step _ c.loop-n-test.true,
-    ← c.name.ensures.is,
-    c.in-To.is,
-    ← c.value.ensures.is,
-    c.in-To-value.is,
+    c.in_ok-j.was,
     ← c.after.ensures,
-    c.in-Done-after.is,
-  );
+    c.in_err-k.was,
+  )
+      (search rules);
   ends = search rules;
 }
 
-pub object-returns-in-Wrong-after : goal.object-returns-in-Wrong-after
+pub object-returns-in-Done-2 : goal.object-returns-in-Done-2
 unfolding object_at object_of
-object-returns-in-Wrong-after t c = record {
+object-returns-in-Done-2 t c = record {
   is = rw (
-    ← c.loop-n.invariant.0,
-    members_step _ c.loop-n-test.true,
+    ← c.loop.invariant.reads,
+    members-turn _ _ c.loop-test.true,
     ← c.name.ensures.is,
-    c.in-To.is,
+    c.in_ok-v.was,
     ← c.value.ensures.is,
-    c.in-To-value.is,
+    c.in_ok-j.was,
     ← c.after.ensures,
-    c.in-Wrong-after.is,
+    c.in_ok-k.was,
+    c.in-Done-2.is,
   );
   ends = search rules;
 }
 
-pub object-loop-n-preserved : goal.object-loop-n-preserved
+pub object-loop-preserved : goal.object-loop-preserved
 unfolding object_at object_of
-object-loop-n-preserved t c = (
-  rw (
-    ← c.loop-n.invariant.0,
-    members_step _ c.loop-n-test.true,
+object-loop-preserved t c = record {
+  reads = rw (
+    ← c.loop.invariant.reads,
+    members-turn _ _ c.loop-test.true,
     ← c.name.ensures.is,
-    c.in-To.is,
+    c.in_ok-v.was,
     ← c.value.ensures.is,
-    c.in-To-value.is,
+    c.in_ok-j.was,
     ← c.after.ensures,
-    c.in-More-after.is,
-  ),
-  search rules,
-  search rules,
-)
+    c.in_ok-k.was,
+    c.in-More-2.is,
+  );
+  size = search rules;
+  ends = search rules;
+}
 
 pub object-returns : goal.object-returns
 unfolding object_at object_of
 object-returns t c = record {
   is = rw (
-    ← c.loop-n.invariant.0,
-    members-none _ c.loop-n-test.false,
+    ← c.loop.invariant.reads,
+    members-over _ _ c.loop-test.false,
   );
   ends = search rules;
 }

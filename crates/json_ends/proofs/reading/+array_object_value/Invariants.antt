@@ -14,14 +14,16 @@ decreases-object l = 2 * l.left
 abbrev pub decreases-value : goal.decreases-value
 decreases-value l = 2 * l.left + 1
 
-abbrev pub invariant-array-loop-n : goal.invariant-array-loop-n
-invariant-array-loop-n l = (elements_at (λ v. value_at (l.left - 1) l.text v) l.n l.text l.i ≡ array_at l.left l.text l.at) × (length l.ends ≡ length l.initial.ends) × Ends l.text l.ends
+abbrev pub invariant-array-loop : goal.invariant-array-loop
+invariant-array-loop l = record {
+  reads : elements_at (λ v. value_at (l.left - 1) l.text v) (l.end - l.counter) l.text l.i ≡ array_at l.left l.text l.at;
+  size : length l.ends ≡ length l.initial.ends;
+  ends : Ends l.text l.ends;
+}
 
-abbrev pub decreases-array-loop-n : goal.decreases-array-loop-n
-decreases-array-loop-n l = l.n
-
-abbrev pub invariant-object-loop-n : goal.invariant-object-loop-n
-invariant-object-loop-n l = (members_at (λ v. value_at (l.left - 1) l.text v) l.n l.text l.i ≡ object_at l.left l.text l.at) × (length l.ends ≡ length l.initial.ends) × Ends l.text l.ends
-
-abbrev pub decreases-object-loop-n : goal.decreases-object-loop-n
-decreases-object-loop-n l = l.n
+abbrev pub invariant-object-loop : goal.invariant-object-loop
+invariant-object-loop l = record {
+  reads : members_at (λ v. value_at (l.left - 1) l.text v) (l.end - l.counter) l.text l.i ≡ object_at l.left l.text l.at;
+  size : length l.ends ≡ length l.initial.ends;
+  ends : Ends l.text l.ends;
+}

@@ -1,44 +1,39 @@
-use Rattle.json_walk.proofs.Walks.{members-one, members-end}
-use Rattle.json_walk.proofs.Walks.{members-none}
+use Rattle.json_walk.proofs.Walks.{members-turn, members-end, members-over}
 use Rattle.json_names.specs.Inner.Names.{named}
 use Rattle.json_names.proofs.names.among.Goals as goal
 
-pub loop-n-init : goal.loop-n-init
+pub returns-in_default : goal.returns-in_default
 unfolding named
-loop-n-init c = rw (← c.next_member-step.ensures)
+returns-in_default c = rw (
+  ← c.loop.invariant,
+  c.in_default.is,
+  members-end,
+)
 
 pub returns-then-same_raw : goal.returns-then-same_raw
 unfolding named
 returns-then-same_raw c = rw (
-  ← c.loop-n.invariant,
-  c.in-One.is,
-  members-one _ c.loop-n-test.true,
+  ← c.loop.invariant,
+  c.in-Some.is,
+  members-turn _ _ c.loop-test.true,
   ← c.same_raw.ensures,
   c.if-same_raw.true,
 )
 
-pub returns-in-End : goal.returns-in-End
+pub loop-preserved : goal.loop-preserved
 unfolding named
-returns-in-End c = rw (
-  ← c.loop-n.invariant,
-  c.in-End.is,
-  members-end,
-)
-
-pub loop-n-preserved : goal.loop-n-preserved
-unfolding named
-loop-n-preserved c = rw (
-  ← c.loop-n.invariant,
-  c.in-One.is,
-  members-one _ c.loop-n-test.true,
+loop-preserved c = rw (
+  ← c.loop.invariant,
+  c.in-Some.is,
+  members-turn _ _ c.loop-test.true,
   ← c.same_raw.ensures,
   c.if-same_raw.false,
-  ← c.next_member-step-in-One.ensures,
+  ← c.next_member-step-in-loop.ensures,
 )
 
 pub returns : goal.returns
 unfolding named
 returns c = rw (
-  ← c.loop-n.invariant,
-  members-none _ c.loop-n-test.false,
+  ← c.loop.invariant,
+  members-over _ _ c.loop-test.false,
 )

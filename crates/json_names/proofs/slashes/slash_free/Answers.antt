@@ -1,18 +1,11 @@
-use Rattle.std.proofs.Common.{◌-◌, true, false, rules}
-use Rattle.json_names.proofs.Clean.{clean-none, clean-more, clean_all, not-clean}
+use Rattle.json_names.proofs.Clean.{clean-none, clean-more, clean-known}
 use Rattle.json_names.proofs.slashes.slash_free.Goals as goal
 
-pub loop-i-init : goal.loop-i-init
-loop-i-init c = (search rules, λ e. clean-none _)
+pub loop-b-init : goal.loop-b-init
+loop-b-init c = λ e. clean-none _
 
-pub loop-i-preserved : goal.loop-i-preserved
-loop-i-preserved c = (
-  search rules,
-  λ e. clean-more _ _ (c.loop-i.invariant.1 (c.seen-any.ensures e).0) (c.seen-any.ensures e).1,
-)
-
-pub returns-then-any-eq0 : goal.returns-then-any-eq0
-returns-then-any-eq0 c = clean_all _ _ c.loop-i-test.false (c.loop-i.invariant.1 c.if-any-eq0.true)
+pub loop-b-preserved : goal.loop-b-preserved
+loop-b-preserved c = λ e. clean-more _ _ (c.loop-b.invariant (c.seen-any.ensures e).0) (c.seen-any.ensures e).1
 
 pub returns : goal.returns
-returns c = not-clean _
+returns c = clean-known _ _ _ c.loop-b-test.false c.loop-b.invariant

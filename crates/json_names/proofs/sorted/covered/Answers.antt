@@ -1,31 +1,19 @@
 use Rattle.std.proofs.Common.{sym, ◌∙◌}
-use Rattle.json_walk.proofs.Walks.{members-one, members-end, members-none}
-use Rattle.json_names.proofs.Sorting.{not-both}
+use Rattle.std.proofs.Math.Nat.{sub-zero}
+use Rattle.json_walk.proofs.Walks.{members-turn, members-end, members-over}
 use Rattle.json_walk.specs.Walk.{members_of}
 use Rattle.json_names.proofs.sorted.covered.Goals as goal
 
-pub loop-n-init : goal.loop-n-init
+pub loop-init : goal.loop-init
 unfolding members_of
-loop-n-init c = λ e. rw (← c.first_member-step.ensures) e
+loop-init c = λ e. rw (← c.first_member-step.ensures) (rw sub-zero at e)
 
-pub returns-then-m-last : goal.returns-then-m-last
-returns-then-m-last c = λ e. not-both e
+pub returns-in_default : goal.returns-in_default
+returns-in_default c = λ e. c.loop.invariant (rw (c.in_default.is, members-end) tt)
 
-pub returns-then-k-t : goal.returns-then-k-t
-returns-then-k-t c = λ e. not-both e
-
-pub returns-then-name_of-m : goal.returns-then-name_of-m
-returns-then-name_of-m c = λ e. not-both e
-
-pub returns-then-stop_of-m : goal.returns-then-stop_of-m
-returns-then-stop_of-m c = λ e. not-both e
-
-pub returns-in-End : goal.returns-in-End
-returns-in-End c = λ e. c.loop-n.invariant (rw (c.in-End.is, members-end) tt)
-
-pub loop-n-preserved : goal.loop-n-preserved
-loop-n-preserved c = λ e.
-    c.loop-n.invariant (rw (c.in-One.is, members-one _ c.loop-n-test.true) (
+pub loop-preserved : goal.loop-preserved
+loop-preserved c = λ e.
+    c.loop.invariant (rw (c.in-Some.is, members-turn _ _ c.loop-test.true) (
       c.if-m-last.false,
       (
         record {
@@ -39,4 +27,4 @@ loop-n-preserved c = λ e.
     ))
 
 pub returns : goal.returns
-returns c = λ e. c.loop-n.invariant (rw (members-none _ c.loop-n-test.false) tt)
+returns c = λ e. c.loop.invariant (rw (members-over _ _ c.loop-test.false) tt)

@@ -14,7 +14,7 @@ returns-then-not-paired c = record {
   is = rw (
     le-ltb _ _ c.if-text-gt-LIMIT.false,
     ← c.whole.ensures.is,
-    c.in-To.is,
+    c.in-Ok.is,
     paired-answer,
     ← c.paired.ensures,
     not-true c.paired.result c.if-not-paired.true-raw,
@@ -28,7 +28,7 @@ returns-then-text_fault c = record {
   is = rw (
     le-ltb _ _ c.if-text-gt-LIMIT.false,
     ← c.whole.ensures.is,
-    c.in-To.is,
+    c.in-Ok.is,
     paired-answer,
     ← c.paired.ensures,
     not-false c.paired.result c.if-not-paired.false-raw,
@@ -44,7 +44,7 @@ returns-else-text_fault c = record {
   is = rw (
     le-ltb _ _ c.if-text-gt-LIMIT.false,
     ← c.whole.ensures.is,
-    c.in-To.is,
+    c.in-Ok.is,
     paired-answer,
     ← c.paired.ensures,
     not-false c.paired.result c.if-not-paired.false-raw,
@@ -54,24 +54,26 @@ returns-else-text_fault c = record {
   ends = search rules;
 }
 
-pub returns-in-Bad : goal.returns-in-Bad
+pub returns-in-Err-Malformed : goal.returns-in-Err-Malformed
 unfolding answer_of read_answer
-returns-in-Bad c = record {
+returns-in-Err-Malformed c = record {
   is = rw (
     le-ltb _ _ c.if-text-gt-LIMIT.false,
     ← c.whole.ensures.is,
-    c.in-Bad.is,
+    c.in-Err-Malformed.is,
+    c.in-Err-Malformed.field-0-is,
   );
   ends = search rules;
 }
 
-pub returns-in-Deep : goal.returns-in-Deep
+pub returns-in-Err-TooDeep : goal.returns-in-Err-TooDeep
 unfolding answer_of read_answer
-returns-in-Deep c = record {
+returns-in-Err-TooDeep c = record {
   is = rw (
     le-ltb _ _ c.if-text-gt-LIMIT.false,
     ← c.whole.ensures.is,
-    c.in-Deep.is,
+    c.in-Err-TooDeep.is,
+    c.in-Err-TooDeep.field-0-is,
   );
   ends = search rules;
 }

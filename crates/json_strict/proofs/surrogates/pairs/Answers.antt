@@ -1,54 +1,40 @@
-use Rattle.json_strict.proofs.Laws.{pairs-none, pairs-step}
-use Rattle.json_strict.specs.Surrogates.{pairs_at}
+use Rattle.std.proofs.Math.Nat.{sub-zero}
+use Rattle.json_strict.proofs.Laws.{pairs-over, pairs-turn}
 use borrow.Author.Rules.{rules}
 use borrow.Author.Tests.{le-leb, lt-leb}
 use Rattle.json_strict.proofs.surrogates.pairs.Goals as goal
 
-pub loop-n-init : goal.loop-n-init
-unfolding pairs_at
-loop-n-init c = search rules
+pub loop-init : goal.loop-init
+loop-init c = rw sub-zero
 
 pub returns-then-text-i : goal.returns-then-text-i
-unfolding pairs_at
 returns-then-text-i c = rw (
-  ← c.loop-n.invariant,
-  pairs-step _ c.loop-n-test.true,
+  ← c.loop.invariant,
+  pairs-turn _ _ c.loop-test.true,
   le-leb _ _ c.if-text-i.true,
 )
 
-pub returns-in-Bad : goal.returns-in-Bad
-unfolding pairs_at
-returns-in-Bad c = rw (
-  ← c.loop-n.invariant,
-  pairs-step _ c.loop-n-test.true,
+pub returns-in_err-i : goal.returns-in_err-i
+returns-in_err-i c = rw (
+  ← c.loop.invariant,
+  pairs-turn _ _ c.loop-test.true,
   lt-leb _ _ c.if-text-i.false,
   ← c.escaped.ensures,
-  c.in-Bad.is,
+  c.in_err-i.was,
 )
+    (search rules)
 
-pub returns-in-Deep : goal.returns-in-Deep
-unfolding pairs_at
-returns-in-Deep c = rw (
-  ← c.loop-n.invariant,
-  pairs-step _ c.loop-n-test.true,
+pub loop-preserved : goal.loop-preserved
+loop-preserved c = rw (
+  ← c.loop.invariant,
+  pairs-turn _ _ c.loop-test.true,
   lt-leb _ _ c.if-text-i.false,
   ← c.escaped.ensures,
-  c.in-Deep.is,
-)
-
-pub loop-n-preserved : goal.loop-n-preserved
-unfolding pairs_at
-loop-n-preserved c = rw (
-  ← c.loop-n.invariant,
-  pairs-step _ c.loop-n-test.true,
-  lt-leb _ _ c.if-text-i.false,
-  ← c.escaped.ensures,
-  c.in-To.is,
+  c.in_ok-i.was,
 )
 
 pub returns : goal.returns
-unfolding pairs_at
 returns c = rw (
-  ← c.loop-n.invariant,
-  pairs-none _ c.loop-n-test.false,
+  ← c.loop.invariant,
+  pairs-over _ _ c.loop-test.false,
 )

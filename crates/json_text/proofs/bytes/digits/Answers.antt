@@ -1,4 +1,3 @@
-use Prim.Native.Nat.{◌-◌}
 use Rattle.json_text.proofs.Laws.{digits_more, digits-stop, some-digit}
 use native.Mathlib.Omega.{arith}
 use mathlib.Core.Path.{sym}

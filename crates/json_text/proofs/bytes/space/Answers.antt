@@ -1,4 +1,3 @@
-use Prim.Native.Nat.{◌-◌}
 use Rattle.json_text.proofs.Laws.{some-space, space-more, space-stop}
 use native.Mathlib.Omega.{arith}
 use mathlib.Core.Path.{sym}

@@ -1,19 +1,12 @@
-use Prim.Native.Nat.{◌-◌}
-use borrow.Author.Rules.{rules}
-use Rattle.json_text.proofs.Blocks.{run_none, run_more, run-all, not-both}
+use Rattle.std.proofs.Common.{◌<◌, ◌-◌, ◌+◌, arith}
+use Rattle.std.proofs.lemmas.List.{get_or-drop, get_or-take}
+use Rattle.json_text.proofs.Blocks.{run_none, run_more}
 use Rattle.json_text.proofs.plain.block.Goals as goal
 
-pub loop-i-init : goal.loop-i-init
-loop-i-init c = (search rules, λ e. run_none _ _)
+pub loop-b-init : goal.loop-b-init
+loop-b-init c = λ e. run_none _ _
 
-pub loop-i-preserved : goal.loop-i-preserved
-loop-i-preserved c = (
-  search rules,
-  λ e. run_more _ _ _ (c.loop-i.invariant.1 (c.mixed-any.ensures e).0) (c.mixed-any.ensures e).1,
-)
-
-pub returns-then-any-eq0 : goal.returns-then-any-eq0
-returns-then-any-eq0 c = λ e. run-all _ _ _ _ c.loop-i-test.false (c.loop-i.invariant.1 c.if-any-eq0.true)
-
-pub returns : goal.returns
-returns c = λ e. not-both e
+pub loop-b-preserved : goal.loop-b-preserved
+loop-b-preserved c = λ e.
+    let within : c.loop-b.b-index < c.args.at + 64 - c.args.at = omega arith in
+    run_more _ _ _ (c.loop-b.invariant (c.mixed-any.ensures e).0) (rw (get_or-take, get_or-drop) at (c.mixed-any.ensures e).1)

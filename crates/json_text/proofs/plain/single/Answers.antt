@@ -1,5 +1,4 @@
 -- `single` meets its contract: each turn passes one more byte of the run, so what is left of the text falls.
-use Prim.Native.Nat.{◌-◌}
 use mathlib.Core.Path.{sym}
 use native.Mathlib.Omega.{arith}
 use Rattle.json_text.proofs.Skip.{some-plain, plain_more, plain-stop}

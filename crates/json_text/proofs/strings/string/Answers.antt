@@ -1,13 +1,20 @@
--- `string` meets its contract: what is left to read, from here with n chars, stays what there was at the start. A turn is either
--- a run of plain bytes, which is stepped over at once, or one char.
-use Rattle.json_text.proofs.Laws.{chars-none, chars-step}
+-- `string` meets its contract: what is left to read, from here on, stays what there was at the start. A turn is either a run of
+-- plain bytes, which is stepped over at once, or one char.
+use Rattle.std.proofs.Common.{◌≡◌, ◌+◌, ◌-◌, true, length, get_or, sym, ◌∙◌, arith, rules, eq-eqb, ne_eqb}
+use Rattle.json_text.proofs.Ahead.{char-after, chars-enough, rest-run, rest-quote, rest-char, rest-wrong, rest-none}
 use Rattle.json_text.proofs.Blocks.{plain-front}
-use Rattle.json_text.proofs.Skip.{some-plain, plain-on, plain-some, chars-skip, chars-quote, chars-short}
+use Rattle.json_text.proofs.Skip.{plain-some}
+use Rattle.json_text.specs.Inner.Plain.{is_plain}
 use Rattle.json_text.specs.Strings.{string_at}
-use borrow.Author.Tests.{eq-eqb, ne_eqb}
-use mathlib.Core.Path.{sym}
-use native.Mathlib.Omega.{arith}
 use Rattle.json_text.proofs.strings.string.Goals as goal
+
+pub loop-i-init : goal.loop-i-init
+unfolding string_at
+loop-i-init c = rw (
+  ← c.byte.ensures.is,
+  eq-eqb _ _ c.if-byte-ne34.false,
+)
+    (chars-enough (length c.args.text.now - (c.args.at + 1)) (length c.args.text.now) c.args.text.now (c.args.at + 1) (omega arith) (omega arith))
 
 pub returns-then-byte-ne34 : goal.returns-then-byte-ne34
 unfolding string_at
@@ -16,77 +23,31 @@ returns-then-byte-ne34 c = rw (
   ne_eqb _ _ c.if-byte-ne34.true,
 )
 
-pub loop-n-init : goal.loop-n-init
-unfolding string_at
-loop-n-init c = rw (
-  ← c.byte.ensures.is,
-  eq-eqb _ _ c.if-byte-ne34.false,
+pub loop-i-smaller-then-is_plain : goal.loop-i-smaller-then-is_plain
+loop-i-smaller-then-is_plain c =
+    let here : is_plain (get_or c.args.text.now c.loop-i.i 0) ≡ true = rw (← c.byte-b.ensures.is, ← c.is_plain.ensures) c.if-is_plain.true in
+    omega (arith, plain-some _ _ _ (plain-front _ _ _ c.plain-i.ensures c.loop-i-test.true here) c.loop-i-test.true here)
+
+pub loop-i-preserved-then-is_plain : goal.loop-i-preserved-then-is_plain
+loop-i-preserved-then-is_plain c =
+    sym (rest-run _ _ _ c.loop-i-test.true (plain-front _ _ _ c.plain-i.ensures c.loop-i-test.true (rw (← c.byte-b.ensures.is, ← c.is_plain.ensures) c.if-is_plain.true)))
+    ∙ c.loop-i.invariant
+
+pub returns-then-b-eq34 : goal.returns-then-b-eq34
+returns-then-b-eq34 c = rw (← c.loop-i.invariant) (sym (rest-quote _ _ c.loop-i-test.true (rw (← c.byte-b.ensures.is) (eq-eqb _ _ c.if-b-eq34.true))))
+
+pub returns-in_err-i : goal.returns-in_err-i
+returns-in_err-i c = rw (
+  ← c.loop-i.invariant,
+  rest-wrong _ _ _ c.loop-i-test.true (rw (← c.byte-b.ensures.is) (ne_eqb _ _ c.if-b-eq34.false)) (sym c.character.ensures ∙ c.in_err-i.was),
 )
+    (search rules)
 
-pub overflow_add-i-then-is_plain : goal.overflow_add-i-then-is_plain
-overflow_add-i-then-is_plain c = omega (arith, some-plain _ _ c.is_plain.ensures c.if-is_plain.true)
+pub loop-i-smaller : goal.loop-i-smaller
+loop-i-smaller c = omega (arith, char-after _ _ _ (sym c.character.ensures ∙ c.in_ok-i.was))
 
-pub overflow_sub-k : goal.overflow_sub-k
-overflow_sub-k c = rw (plain-front _ _ _ c.plain-e.ensures (omega (arith, some-plain _ _ c.is_plain.ensures c.if-is_plain.true)) (rw (← c.byte-in-loop-n.ensures.is, ← c.is_plain.ensures) c.if-is_plain.true)) (plain-on _ _)
-
-pub returns-then-n-k : goal.returns-then-n-k
-returns-then-n-k c = rw (← c.loop-n.invariant) (sym (chars-short _ _ _ _ (plain-front _ _ _ c.plain-e.ensures (omega (arith, some-plain _ _ c.is_plain.ensures c.if-is_plain.true)) (rw (← c.byte-in-loop-n.ensures.is, ← c.is_plain.ensures) c.if-is_plain.true)) c.if-n-k.true))
-
-pub returns-then-byte-eq34 : goal.returns-then-byte-eq34
-returns-then-byte-eq34 c = rw (← c.loop-n.invariant)
-    (sym (chars-quote _ _ _ _ (plain-front _ _ _ c.plain-e.ensures (omega (arith, some-plain _ _ c.is_plain.ensures c.if-is_plain.true)) (rw (← c.byte-in-loop-n.ensures.is, ← c.is_plain.ensures) c.if-is_plain.true)) c.if-n-k.false (rw (← c.byte-then-is_plain.ensures.is) (eq-eqb _ _ c.if-byte-eq34.true))))
-
-pub loop-n-smaller-then-is_plain : goal.loop-n-smaller-then-is_plain
-loop-n-smaller-then-is_plain c = omega (
-  arith,
-  plain-some _ _ _ (plain-front _ _ _ c.plain-e.ensures (omega (arith, some-plain _ _ c.is_plain.ensures c.if-is_plain.true)) (rw (← c.byte-in-loop-n.ensures.is, ← c.is_plain.ensures) c.if-is_plain.true))
-      (omega (arith, some-plain _ _ c.is_plain.ensures c.if-is_plain.true))
-      (rw (← c.byte-in-loop-n.ensures.is, ← c.is_plain.ensures) c.if-is_plain.true),
-)
-
-pub loop-n-preserved-then-is_plain : goal.loop-n-preserved-then-is_plain
-loop-n-preserved-then-is_plain c = rw (← c.loop-n.invariant) (sym (chars-skip _ _ _ _ (plain-front _ _ _ c.plain-e.ensures (omega (arith, some-plain _ _ c.is_plain.ensures c.if-is_plain.true)) (rw (← c.byte-in-loop-n.ensures.is, ← c.is_plain.ensures) c.if-is_plain.true)) c.if-n-k.false))
-
-pub returns-then-byte-eq34-2 : goal.returns-then-byte-eq34-2
-returns-then-byte-eq34-2 c = rw (
-  ← c.loop-n.invariant,
-  chars-step _ c.loop-n-test.true,
-  ← c.byte-in-loop-n-2.ensures.is,
-  eq-eqb _ _ c.if-byte-eq34-2.true,
-)
-
-pub returns-in-Bad : goal.returns-in-Bad
-returns-in-Bad c = rw (
-  ← c.loop-n.invariant,
-  chars-step _ c.loop-n-test.true,
-  ← c.byte-in-loop-n-2.ensures.is,
-  ne_eqb _ _ c.if-byte-eq34-2.false,
-  ← c.character.ensures,
-  c.in-Bad.is,
-)
-
-pub returns-in-Deep : goal.returns-in-Deep
-returns-in-Deep c = rw (
-  ← c.loop-n.invariant,
-  chars-step _ c.loop-n-test.true,
-  ← c.byte-in-loop-n-2.ensures.is,
-  ne_eqb _ _ c.if-byte-eq34-2.false,
-  ← c.character.ensures,
-  c.in-Deep.is,
-)
-
-pub loop-n-preserved : goal.loop-n-preserved
-loop-n-preserved c = rw (
-  ← c.loop-n.invariant,
-  chars-step _ c.loop-n-test.true,
-  ← c.byte-in-loop-n-2.ensures.is,
-  ne_eqb _ _ c.if-byte-eq34-2.false,
-  ← c.character.ensures,
-  c.in-To.is,
-)
+pub loop-i-preserved : goal.loop-i-preserved
+loop-i-preserved c = sym (rest-char _ _ _ c.loop-i-test.true (rw (← c.byte-b.ensures.is) (ne_eqb _ _ c.if-b-eq34.false)) (sym c.character.ensures ∙ c.in_ok-i.was)) ∙ c.loop-i.invariant
 
 pub returns : goal.returns
-returns c = rw (
-  ← c.loop-n.invariant,
-  chars-none _ c.loop-n-test.false,
-)
+returns c = rw (← c.loop-i.invariant) (sym (rest-none _ _ c.loop-i-test.false))

@@ -2,7 +2,6 @@ use native.Mathlib.Omega.{arith}
 use mathlib.Core.Path.{sym, ◌∙◌}
 use Rattle.json_text.proofs.Laws.{some-digit}
 use Rattle.json_tree.proofs.Numbers.{capped, exact, decimal-more, decimal-stop}
-use Prim.Native.Nat.{◌-◌}
 use Rattle.json_tree.specs.Integers.{decimal}
 use borrow.Author.Rules.{rules}
 use Rattle.json_tree.proofs.integers.size.Goals as goal

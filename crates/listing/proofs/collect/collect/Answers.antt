@@ -1,6 +1,5 @@
 -- `listing::collect::collect` meets its contract. The invariant: the days of the hits so far stand in the list.
 use Rattle.listing.proofs.CollectLaws.{collect-starts, collect-room, collect-one, collect-ends}
-use Prim.Native.Nat.{◌-◌}
 use native.Mathlib.Omega.{arith}
 use Rattle.listing.proofs.collect.collect.Goals as goal
 

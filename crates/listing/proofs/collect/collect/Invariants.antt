@@ -1,11 +1,6 @@
 -- `listing::collect::collect` meets its contract. The invariant: the days of the hits so far stand in the list.
 use Rattle.listing.proofs.CollectLaws.{CollectAt}
-use Prim.Native.Nat.{◌-◌}
-use lib.ListN.{length}
 use Rattle.listing.proofs.collect.collect.Given as goal
 
 abbrev pub invariant-loop-k : goal.invariant-loop-k
 invariant-loop-k l = CollectAt l.hits l.first l.initial.days l.at l.days l.k l.found
-
-abbrev pub decreases-loop-k : goal.decreases-loop-k
-decreases-loop-k l = length l.hits - l.k

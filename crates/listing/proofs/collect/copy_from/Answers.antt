@@ -1,6 +1,7 @@
 -- `listing::collect::copy_from` meets its contract. The invariant: the entries so far stand in the list.
 use Rattle.listing.proofs.CollectLaws.{copy-starts, copy-room, copy-one, copy-ends}
-use Prim.Native.Nat.{◌-◌}
+use mathlib.Core.Path.{◌≡◌}
+use lib.ListN.{length}
 use native.Mathlib.Omega.{arith}
 use Rattle.listing.proofs.collect.copy_from.Goals as goal
 
@@ -21,4 +22,6 @@ pub shape_of-days : goal.shape_of-days
 shape_of-days c = c.loop-k.invariant.size
 
 pub returns : goal.returns
-returns c = copy-ends _ _ _ _ _ _ c.loop-k.invariant c.loop-k-test.false
+returns c =
+    let all : length c.args.list.now ≡ c.loop-k.k = omega (arith, c.loop-k.invariant.within, c.loop-k-test.false) in
+    rw all (copy-ends _ _ _ _ _ _ c.loop-k.invariant c.loop-k-test.false)

@@ -4,7 +4,6 @@ use Rattle.listing.proofs.PartLaws.{kinds-none, part-few}
 use Rattle.rule.specs.Day.{day_at}
 use Rattle.matcher.proofs.WalkLaws.{number_is, day-again}
 use Rattle.track.proofs.PlainLaws.{month-at}
-use Prim.Native.Nat.{◌-◌}
 use native.Mathlib.Omega.{arith}
 use mathlib.Core.Path.{sym, ap, ◌∙◌}
 use Rattle.listing.proofs.days.list_days.Goals as goal

@@ -1,19 +1,20 @@
--- `listing::whole::is_monthly` meets its contract: the tests of the definition in their order.
+-- `listing::whole::is_monthly` meets its contract.
+use Rattle.std.proofs.Common.{◌≡◌, false, refl}
+use Rattle.rule.specs.declared.Frequency.{Frequency}
+use Rattle.rule.specs.declared.Frequency.TheVariants.{Daily, Weekly, Monthly, Yearly}
 use Rattle.listing.specs.Inner.Parts.{is_monthly}
 use Rattle.listing.proofs.whole.is_monthly.Goals as goal
 
-pub returns-in-Daily : goal.returns-in-Daily
+other : (f : Frequency) → (f ≡ Monthly → ⊥) → false ≡ is_monthly f
 unfolding is_monthly
-returns-in-Daily c = rw c.in-Daily.is
-
-pub returns-in-Weekly : goal.returns-in-Weekly
-unfolding is_monthly
-returns-in-Weekly c = rw c.in-Weekly.is
+other Daily h = refl
+other Weekly h = refl
+other Monthly h = absurd (h refl)
+other Yearly h = refl
 
 pub returns-in-Monthly : goal.returns-in-Monthly
 unfolding is_monthly
 returns-in-Monthly c = rw c.in-Monthly.is
 
-pub returns-in-Yearly : goal.returns-in-Yearly
-unfolding is_monthly
-returns-in-Yearly c = rw c.in-Yearly.is
+pub returns-in_default : goal.returns-in_default
+returns-in_default c = other _ c.in_default.not-Monthly

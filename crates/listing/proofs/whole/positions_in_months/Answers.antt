@@ -1,7 +1,7 @@
 -- `listing::whole::positions_in_months` meets its contract.
-use mathlib.Core.Bool.{true, false≢true}
-use mathlib.Core.Path.{◌≡◌, refl, sym, ap, ◌∙◌}
-use borrow.Author.Tests.{not-true, not-false}
+use Rattle.std.proofs.Common.{◌≡◌, true, refl, sym, ap, ◌∙◌}
+use Rattle.std.proofs.lemmas.Bool.{false≢true}
+use borrow.Author.Tests.{not-false}
 use Rattle.rule.specs.declared.Frequency.{Frequency}
 use Rattle.rule.specs.declared.Frequency.TheVariants.{Daily, Weekly, Monthly, Yearly}
 use Rattle.listing.specs.Inner.Parts.{is_monthly}
@@ -18,11 +18,8 @@ is-monthly-of : (f : Frequency) → f ≡ Monthly → is_monthly f ≡ true
 unfolding is_monthly
 is-monthly-of f e = ap is_monthly e
 
-pub returns-then-not-placed : goal.returns-then-not-placed
-returns-then-not-placed c = (λ e is. absurd (false≢true (sym (not-true _ c.if-not-placed.true-raw) ∙ is)), λ all. refl)
-
-pub returns : goal.returns
-returns c = (
+pub returns-else-not-terms : goal.returns-else-not-terms
+returns-else-not-terms c = (
   λ e is. monthly-is _ (sym c.is_monthly.ensures ∙ e),
-  λ all. c.is_monthly.ensures ∙ is-monthly-of _ (all (not-false _ c.if-not-placed.false-raw)),
+  λ all. c.is_monthly.ensures ∙ is-monthly-of _ (all (not-false _ c.if-not-terms.false)),
 )

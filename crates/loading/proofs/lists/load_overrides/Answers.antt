@@ -5,5 +5,5 @@ use Rattle.loading.proofs.lists.load_overrides.Goals as goal
 pub returns-in-None : goal.returns-in-None
 returns-in-None c = overrides-none _ _ _ _ _ c.in-None.is
 
-pub returns-in-At : goal.returns-in-At
-returns-in-At c = λ own. overrides-at _ _ _ _ _ _ _ _ _ _ c.in-At.is own (c.overrides.ensures 13 own)
+pub returns-in-Some : goal.returns-in-Some
+returns-in-Some c = λ own. overrides-at _ _ _ _ _ _ _ _ _ _ c.in-Some.is own (c.overrides.ensures 13 own)

@@ -1,11 +1,6 @@
 -- `matcher::marks::mark_each` meets its contract: what is marked from here on is what is marked from the start on.
-use Prim.Native.Nat.{◌-◌}
-use lib.ListN.{length}
 use Rattle.matcher.proofs.MarkLaws.{EachAt}
 use Rattle.matcher.proofs.marks.mark_each.Given as goal
 
 abbrev pub invariant-loop-i : goal.invariant-loop-i
-invariant-loop-i l = EachAt l.initial.flags l.at l.limit l.list l.flags l.i
-
-abbrev pub decreases-loop-i : goal.decreases-loop-i
-decreases-loop-i l = length l.list - l.i
+invariant-loop-i l = EachAt l.initial.flags l.at l.limit l.list l.flags l.i-index

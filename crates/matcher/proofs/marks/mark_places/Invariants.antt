@@ -1,11 +1,6 @@
 -- `matcher::marks::mark_places` meets its contract: what is marked from here on is what is marked from the start on.
-use Prim.Native.Nat.{◌-◌}
-use lib.ListN.{length}
 use Rattle.matcher.proofs.MarkLaws.{PlacesAt}
 use Rattle.matcher.proofs.marks.mark_places.Given as goal
 
-abbrev pub invariant-loop-i : goal.invariant-loop-i
-invariant-loop-i l = PlacesAt l.initial.flags l.on l.back l.limit l.list l.flags l.i
-
-abbrev pub decreases-loop-i : goal.decreases-loop-i
-decreases-loop-i l = length l.list - l.i
+abbrev pub invariant-loop-z : goal.invariant-loop-z
+invariant-loop-z l = PlacesAt l.initial.flags l.on l.back l.limit l.list l.flags l.z-index

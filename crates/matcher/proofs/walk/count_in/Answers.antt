@@ -1,33 +1,20 @@
 -- `matcher::walk::count_in` meets its contract. The invariant: what was found, and what the days left hold, make the whole.
 use mathlib.Core.Path.{sym, ◌∙◌}
 use native.Mathlib.Omega.{arith}
-use Rattle.matcher.proofs.WalkLaws.{counting-starts, counting-yes, counting-no, counting-ends, in-calendar, stays_on}
+use Rattle.matcher.proofs.WalkLaws.{counting-yes, counting-no, counting-ends, in-calendar, stays_on}
 use Rattle.matcher.proofs.walk.count_in.Goals as goal
-
-pub loop-left-init : goal.loop-left-init
-loop-left-init c = counting-starts _ _ _ _ c.requires.1.0 c.requires.1.1
-
-pub next_day-x-requires : goal.next_day-x-requires
-next_day-x-requires c = let i = c.loop-left.invariant in
-    (i.day, omega (arith, i.fits, c.loop-left-test.true))
+use Rattle.matcher.proofs.walk.count_in.Goals.{then-stays, else-stays}
 
 pub stays-requires : goal.stays-requires
-stays-requires c = let i = c.loop-left.invariant in
+stays-requires c = let i = c.loop.invariant in
     (c.requires.0, in-calendar _ _ i.day (omega (arith, i.fits)))
 
-pub overflow_add-found : goal.overflow_add-found
-overflow_add-found c = let i = c.loop-left.invariant in
-    omega (arith, i.few, c.loop-left-test.true, c.ranges.n)
-
-pub loop-left-preserved-then-stays : goal.loop-left-preserved-then-stays
-loop-left-preserved-then-stays c = let i = c.loop-left.invariant in
-    counting-yes _ _ _ _ _ _ _ i c.loop-left-test.true c.next_day-x.ensures
-    (stays_on _ _ _ _ i.day (sym c.stays.ensures ∙ c.if-stays.true))
-
-pub loop-left-preserved : goal.loop-left-preserved
-loop-left-preserved c = let i = c.loop-left.invariant in
-    counting-no _ _ _ _ _ _ _ i c.loop-left-test.true c.next_day-x.ensures
-    (stays_on _ _ _ _ i.day (sym c.stays.ensures ∙ c.if-stays.false))
+pub loop-preserved : goal.loop-preserved
+loop-preserved c = let i = c.loop.invariant in
+    elim c.if-stays.branch [
+      | then-stays w ↦ rw w.found-is (counting-yes _ _ _ _ _ _ _ _ i (omega arith) c.next_day-x.ensures (stays_on _ _ _ _ i.day (sym c.stays.ensures ∙ w.if-stays.true)))
+      | else-stays w ↦ rw w.found-is (counting-no _ _ _ _ _ _ _ _ i (omega arith) c.next_day-x.ensures (stays_on _ _ _ _ i.day (sym c.stays.ensures ∙ w.if-stays.false)))
+    ]
 
 pub returns : goal.returns
-returns c = counting-ends _ _ _ _ _ _ c.loop-left.invariant c.loop-left-test.false
+returns c = counting-ends _ _ _ _ _ _ c.loop.invariant (omega arith)

@@ -2,12 +2,8 @@
 use Rattle.months.specs.Inner.Kinds.{chosen_in}
 use Rattle.months.specs.Inner.Rows.{answer_at, Wrote}
 use Rattle.rule.specs.Lists.{count_in}
-use Prim.Native.Nat.{◌-◌, ◌≤◌}
 use mathlib.Core.Path.{◌≡◌}
 use Rattle.months.proofs.rows.choose_days.Given as goal
 
 abbrev pub invariant-loop-k : goal.invariant-loop-k
-invariant-loop-k l = (l.k ≤ l.days) × ((l.seen ≡ count_in (answer_at l.initial.rows l.at) 0 l.k) × Wrote (chosen_in l.flags (answer_at l.initial.rows l.at) l.days) l.initial.rows l.at l.k l.rows)
-
-abbrev pub decreases-loop-k : goal.decreases-loop-k
-decreases-loop-k l = l.days - l.k
+invariant-loop-k l = ((l.seen ≡ count_in (answer_at l.initial.rows l.at) 0 l.k) × Wrote (chosen_in l.flags (answer_at l.initial.rows l.at) l.days) l.initial.rows l.at l.k l.rows)

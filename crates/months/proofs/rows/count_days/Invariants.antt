@@ -1,12 +1,8 @@
 -- `months::rows::count_days` meets its contract. The invariant: what was found is what the days so far hold.
 use Rattle.months.specs.Inner.Rows.{answer_at}
 use Rattle.rule.specs.Lists.{count_in}
-use Prim.Native.Nat.{◌-◌, ◌≤◌}
 use mathlib.Core.Path.{◌≡◌}
 use Rattle.months.proofs.rows.count_days.Given as goal
 
-abbrev pub invariant-loop-k : goal.invariant-loop-k
-invariant-loop-k l = (l.k ≤ l.days) × (l.found ≡ count_in (answer_at l.rows l.at) 0 l.k)
-
-abbrev pub decreases-loop-k : goal.decreases-loop-k
-decreases-loop-k l = l.days - l.k
+abbrev pub invariant-loop-yes : goal.invariant-loop-yes
+invariant-loop-yes l = (l.found ≡ count_in (answer_at l.rows l.at) 0 l.yes-index)

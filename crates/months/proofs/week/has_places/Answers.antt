@@ -4,8 +4,5 @@ use native.Mathlib.Omega.{arith}
 use borrow.Author.Tests.{ltb-false}
 use Rattle.months.proofs.week.has_places.Goals as goal
 
-pub count_days-requires : goal.count_days-requires
-count_days-requires c = (omega arith, omega (arith, c.requires))
-
 pub returns : goal.returns
 returns c = λ e. places-none _ (omega (arith, c.count_days.ensures, ltb-false 0 c.count_days.result e))

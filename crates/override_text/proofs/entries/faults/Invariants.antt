@@ -3,8 +3,5 @@ use Rattle.override_text.specs.Inner.Meaning.{details_in}
 use Rattle.override_text.proofs.EntryLaws.{Walk}
 use Rattle.override_text.proofs.entries.faults.Given as goal
 
-abbrev pub invariant-loop-n : goal.invariant-loop-n
-invariant-loop-n l = Walk (details_in l.text l.own) l.text l.at l.found l.next l.n
-
-abbrev pub decreases-loop-n : goal.decreases-loop-n
-decreases-loop-n l = l.n
+abbrev pub invariant-loop-count : goal.invariant-loop-count
+invariant-loop-count l = Walk (details_in l.text l.own) l.text l.at l.found l.next l.count

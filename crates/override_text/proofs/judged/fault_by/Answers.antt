@@ -4,41 +4,7 @@ use Rattle.event.specs.Reading.{placed}
 use Rattle.fault.proofs.Laws.{first-all}
 use Rattle.override_text.proofs.NameLaws.{alone-tree, names-tree}
 use Rattle.property.specs.Inner.Vocabulary.{vocabulary, word_of}
-use native.Mathlib.Omega.{arith}
 use Rattle.override_text.proofs.judged.fault_by.Goals as goal
-
-pub passage-description-requires : goal.passage-description-requires
-passage-description-requires c = (c.requires.1.0, omega (arith, c.requires.1.1))
-
-pub flag-excluded-requires : goal.flag-excluded-requires
-flag-excluded-requires c = (c.requires.1.0, omega (arith, c.requires.1.1))
-
-pub excluded_fault-requires : goal.excluded_fault-requires
-excluded_fault-requires c = c.requires.0
-
-pub names_fault-requires : goal.names_fault-requires
-names_fault-requires c = c.requires.0
-
-pub join_in-seventh-requires : goal.join_in-seventh-requires
-join_in-seventh-requires c = (c.requires.1.0, omega (arith, c.requires.1.1))
-
-pub join_in-sixth-requires : goal.join_in-sixth-requires
-join_in-sixth-requires c = (c.requires.1.0, omega (arith, c.requires.1.1))
-
-pub join_in-fifth-requires : goal.join_in-fifth-requires
-join_in-fifth-requires c = (c.requires.1.0, omega (arith, c.requires.1.1))
-
-pub join_in-fourth-requires : goal.join_in-fourth-requires
-join_in-fourth-requires c = (c.requires.1.0, omega (arith, c.requires.1.1))
-
-pub join_in-third-requires : goal.join_in-third-requires
-join_in-third-requires c = (c.requires.1.0, omega (arith, c.requires.1.1))
-
-pub join_in-second-requires : goal.join_in-second-requires
-join_in-second-requires c = (c.requires.1.0, omega (arith, c.requires.1.1))
-
-pub join_in-requires : goal.join_in-requires
-join_in-requires c = (c.requires.1.0, omega (arith, c.requires.1.1))
 
 pub returns : goal.returns
 unfolding patch_in placed excluded_fault word_of vocabulary

@@ -2,8 +2,5 @@
 use Rattle.override_text.proofs.ListLaws.{Filling}
 use Rattle.override_text.proofs.lists.fill.Given as goal
 
-abbrev pub invariant-loop-n : goal.invariant-loop-n
-invariant-loop-n l = Filling l.text l.at l.initial.ids l.initial.gone l.initial.places l.ids l.gone l.places l.next l.n l.k
-
-abbrev pub decreases-loop-n : goal.decreases-loop-n
-decreases-loop-n l = l.n
+abbrev pub invariant-loop-k : goal.invariant-loop-k
+invariant-loop-k l = Filling l.text l.at l.initial.ids l.initial.gone l.initial.places l.ids l.gone l.places l.next l.k

@@ -3,8 +3,5 @@ use Rattle.override_text.specs.Inner.Names.{of_name}
 use Rattle.override_text.proofs.WalkLaws.{Left}
 use Rattle.override_text.proofs.names.names_fault.Given as goal
 
-abbrev pub invariant-loop-n : goal.invariant-loop-n
-invariant-loop-n l = Left (of_name l.text) l.text l.at l.found l.next l.n
-
-abbrev pub decreases-loop-n : goal.decreases-loop-n
-decreases-loop-n l = l.n
+abbrev pub invariant-loop : goal.invariant-loop
+invariant-loop l = Left (of_name l.text) l.text l.at l.found l.next l.counter

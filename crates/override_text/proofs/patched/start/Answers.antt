@@ -5,11 +5,11 @@ use Rattle.property.proofs.RowLaws.{here, missing}
 use Rattle.property.specs.Inner.Vocabulary.{vocabulary, word_of}
 use Rattle.override_text.proofs.patched.start.Goals as goal
 
-pub returns-in-At : goal.returns-in-At
+pub returns-in-Some : goal.returns-in-Some
 unfolding word_of vocabulary
-returns-in-At c = λ l.
+returns-in-Some c = λ l.
     (c.when.ensures ∙ c.read_start.ensures l) ∙ start-read _ _ _
-    (here _ _ _ _ c.place.ensures _ c.in-At.is l)
+    (here _ _ _ _ c.place.ensures _ c.in-Some.is l)
 
 pub returns-in-None : goal.returns-in-None
 unfolding word_of vocabulary

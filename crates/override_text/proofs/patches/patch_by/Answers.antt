@@ -2,14 +2,7 @@
 use Rattle.event.specs.Overrides.{patch_in}
 use Rattle.event.specs.Reading.{placed}
 use Rattle.property.specs.Inner.Vocabulary.{vocabulary, word_of}
-use native.Mathlib.Omega.{arith}
 use Rattle.override_text.proofs.patches.patch_by.Goals as goal
-
-pub passage-description-requires : goal.passage-description-requires
-passage-description-requires c = (c.requires.0, omega (arith, c.requires.1))
-
-pub flag-excluded-requires : goal.flag-excluded-requires
-flag-excluded-requires c = (c.requires.0, omega (arith, c.requires.1))
 
 pub returns : goal.returns
 unfolding patch_in placed word_of vocabulary

@@ -7,19 +7,15 @@ use borrow.Author.Rules.{rules}
 use Rattle.property.proofs.strings.word.Goals as goal
 
 pub raw-requires : goal.raw-requires
-raw-requires c = string-end _ _ _ (sym c.string.ensures ∙ c.in-To.is)
+raw-requires c = string-end _ _ _ (sym c.string.ensures ∙ c.in-Ok.is)
 
-pub returns-in-To : goal.returns-in-To
+pub returns-in-Ok : goal.returns-in-Ok
 unfolding word_at
-returns-in-To c = rw (
+returns-in-Ok c = rw (
   ← c.string.ensures,
-  c.in-To.is,
+  c.in-Ok.is,
 ) (search rules)
 
-pub returns-in-Bad : goal.returns-in-Bad
+pub returns-in-Err : goal.returns-in-Err
 unfolding word_at
-returns-in-Bad c = rw (← c.string.ensures, c.in-Bad.is, raw-none)
-
-pub returns-in-Deep : goal.returns-in-Deep
-unfolding word_at
-returns-in-Deep c = rw (← c.string.ensures, c.in-Deep.is, raw-none)
+returns-in-Err c = rw (← c.string.ensures, c.in-Err.is, raw-none)

@@ -11,32 +11,34 @@ returns-then-byte-ne34 c = rw (
   ne_eqb _ _ c.if-byte-ne34.true,
 )
 
-pub returns-then-has_backslash : goal.returns-then-has_backslash
+pub returns-in-Ok : goal.returns-in-Ok
 unfolding word_at word_fault_at
-returns-then-has_backslash c = rw (
+returns-in-Ok c = rw (
   ← c.byte.ensures.is,
   eq-eqb _ _ c.if-byte-ne34.false,
   ← c.string.ensures,
-  c.in-To.is,
+  c.in-Ok.is,
   ← c.has_backslash.ensures,
   c.if-has_backslash.true,
 )
 
-pub returns-else-has_backslash : goal.returns-else-has_backslash
+pub returns-in_default : goal.returns-in_default
 unfolding word_at word_fault_at
-returns-else-has_backslash c = rw (
+returns-in_default c = rw (
   ← c.byte.ensures.is,
   eq-eqb _ _ c.if-byte-ne34.false,
   ← c.string.ensures,
-  c.in-To.is,
+  c.in-Ok.is,
   ← c.has_backslash.ensures,
   c.if-has_backslash.false,
 )
 
-pub returns-in-Bad : goal.returns-in-Bad
+pub returns-in_default-2 : goal.returns-in_default-2
 unfolding word_at word_fault_at
-returns-in-Bad c = rw (← c.byte.ensures.is, eq-eqb _ _ c.if-byte-ne34.false, ← c.string.ensures, c.in-Bad.is, slashed-nothing)
-
-pub returns-in-Deep : goal.returns-in-Deep
-unfolding word_at word_fault_at
-returns-in-Deep c = rw (← c.byte.ensures.is, eq-eqb _ _ c.if-byte-ne34.false, ← c.string.ensures, c.in-Deep.is, slashed-nothing)
+returns-in_default-2 c = rw (
+  ← c.byte.ensures.is,
+  eq-eqb _ _ c.if-byte-ne34.false,
+  ← c.string.ensures,
+  c.in_default.is,
+  slashed-nothing,
+)

@@ -4,8 +4,8 @@ use Rattle.record.proofs.RowLaws.{row-steps}
 use Rattle.record.proofs.rows.put_record.Goals as goal
 
 pub returns : goal.returns
-returns c = row-steps _ _ _ c.ranges.id c.ranges.start c.ranges.end _ (omega arith) _ _ _ _ _ _
+returns c = row-steps _ _ _ c.ranges.id c.ranges.start c.ranges.end c.args.marks (omega arith) _ _ _ _ _ _
     c.put_i64.ensures
     c.put_i64-2.ensures
     c.put_i64-3.ensures
-    c.put_u32.ensures
+    (rw c.from.ensures at c.put_u32.ensures)

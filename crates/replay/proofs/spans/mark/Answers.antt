@@ -1,7 +1,6 @@
 -- `replay::spans::mark` meets its contract: the span is that of the record's two instants.
-use Prim.Native.Nat.{◌-◌}
 use Rattle.signed.proofs.Parts.{back}
-use Rattle.weeks.specs.Inner.Marks.{span_of, span_at, raise}
+use Rattle.weeks.specs.Inner.Marks.{span_of, span_at}
 use Rattle.sheet.specs.Records.{row_at}
 use Rattle.replay.proofs.spans.mark.Goals as goal
 

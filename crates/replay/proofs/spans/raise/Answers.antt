@@ -1,38 +1,26 @@
 -- `replay::spans::raise` meets its contract: the place of the first week holds the farthest end, which fits.
-use native.Mathlib.Omega.{arith}
-use Prim.Native.Nat.{◌-◌, ◌<◌, ◌^◌}
-use mathlib.Core.Path.{◌≡◌, sym}
+use mathlib.Core.Path.{◌≡◌, sym, ap, ◌∙◌}
 use lib.IntN.{pos}
-use lib.ListN.{get_or}
+use lib.ListN.{get_or, set}
 use lib.Seq.{set_out}
 use mir.Syntax.{w64}
 use mir.Val.{SFits}
-use mir.Facts.{to_z_pos}
-use Rattle.signed.specs.Parts.{pos_part}
-use Rattle.signed.proofs.Parts.{passed, fit-pos}
-use Rattle.weeks.specs.Inner.Marks.{raise, larger}
-use Rattle.weeks.proofs.SweepLaws.{larger-max}
+use mir.Facts.{to_z-of_z, to_z_pos}
+use borrow.Author.Rules.{rules}
+use Rattle.std.specs.Int.{int_max}
+use Rattle.signed.proofs.Parts.{back}
+use Rattle.weeks.specs.Inner.Marks.{raise}
+use Rattle.replay.proofs.SpanLaws.{raised}
 use Rattle.replay.proofs.spans.raise.Goals as goal
 
-pub overflow_cast-p : goal.overflow_cast-p
-overflow_cast-p c = let z = get_or c.args.p.now c.args.first (pos 0) in
-    let f : SFits w64 z = record { sfits = c.positive_part-arg-1.given } in
-    let o : c.positive_part-old.result ≡ pos_part z = passed pos_part f c.positive_part-old.ensures in
-    let b = fit-pos z f in
-    let m = larger-max c.positive_part-old.result c.args.after in
-    let small : c.larger.result < 2 ^ 63 = omega (arith, c.larger.ensures, m, o, b, c.requires) in
-    record { sfits = small }
-
-pub returns-then-first-p : goal.returns-then-first-p
+pub returns-then-at-p : goal.returns-then-at-p
 unfolding raise
-returns-then-first-p c = let z = get_or c.args.p.now c.args.first (pos 0) in
-    let f : SFits w64 z = record { sfits = c.positive_part-arg-1.given } in
-    let o : c.positive_part-old.result ≡ pos_part z = passed pos_part f c.positive_part-old.ensures in
-    let b = fit-pos z f in
-    let m = larger-max c.positive_part-old.result c.args.after in
-    let small : c.larger.result < 2 ^ 63 = omega (arith, c.larger.ensures, m, o, b, c.requires) in
-    rw (to_z_pos w64 {n = c.larger.result} small, c.larger.ensures, o)
+returns-then-at-p c =
+    let z = get_or c.args.p.now c.args.first (pos 0) in
+    let f : SFits w64 z = search rules in
+    let most : c.max.result ≡ int_max z (pos c.args.after) = rw (to_z-of_z f, to_z_pos w64 {n = c.args.after} c.requires) at c.max.ensures.value in
+    ap (set c.args.p.now c.args.first) (back c.max.result c.max.type_inv ∙ raised z _ _ most)
 
-pub returns-else-first-p : goal.returns-else-first-p
+pub returns-else-at-p : goal.returns-else-at-p
 unfolding raise
-returns-else-first-p c = sym (set_out _ _ _ c.if-first-p.false)
+returns-else-at-p c = sym (set_out _ _ _ c.if-at-p.false)

@@ -1,39 +1,27 @@
 -- `replay::uploads::upload_all` meets its contract: the uploads from here on are still to be counted, and no place holds more than those before.
-use borrow.Author.Rules.{rules}
-use native.Mathlib.Omega.{arith}
-use Prim.Native.Nat.{◌+◌, ◌-◌}
-use mathlib.Core.Path.{◌≡◌, refl, sym, ap, ◌∙◌}
+use Prim.Native.Nat.{◌+◌}
+use mathlib.Core.Path.{◌≡◌, sym, ap, ◌∙◌}
 use mathlib.Core.List.{List}
 use lib.IntN.{ℤ, pos}
 use lib.ListN.{get_or, drop}
 use mir.Syntax.{w64}
 use mir.Val.{SFits}
+use borrow.Author.Rules.{rules}
 use Rattle.signed.proofs.Parts.{passed}
 use Rattle.weeks.specs.Inner.Places.{upload, upload_all}
 use Rattle.replay.proofs.UploadLoops.{uploads-turn, uploads-done, upload-below}
 use Rattle.replay.proofs.uploads.upload_all.Goals as goal
 
-pub loop-j-init : goal.loop-j-init
-loop-j-init c = (refl, (omega arith, (c.requires, refl)))
-
-pub upload-requires : goal.upload-requires
-upload-requires c = let l = c.loop-j in λ i. let h = l.invariant.1.1.0 i in omega (arith, h)
-
-pub loop-j-preserved : goal.loop-j-preserved
-loop-j-preserved c = let l = c.loop-j in
+pub loop-t-preserved : goal.loop-t-preserved
+loop-t-preserved c =
+    let l = c.loop-t in
     let a = c.args in
-    let t = get_or a.log.now l.j (pos 0) in
-    let f : SFits w64 t = record { sfits = c.upload-arg-in-loop-j-1.given } in
+    let t = get_or a.log.now l.t-index (pos 0) in
+    let f : SFits w64 t = search rules in
     let u : c.upload.new.p ≡ upload a.b l.p t = passed (upload a.b l.p) f c.upload.ensures in (
-      search rules,
-      (
-        omega arith,
-        (
-          rw u (upload-below l.j a.b l.p t l.invariant.1.1.0),
-          ap (λ (q : List ℤ). upload_all a.b (drop (l.j + 1) a.log.now) q) u ∙ (uploads-turn a.b a.log.now l.j l.p c.loop-j-test.true ∙ l.invariant.1.1.1),
-        ),
-      ),
+      rw u (upload-below l.t-index a.b l.p t l.invariant.0),
+      ap (λ (q : List ℤ). upload_all a.b (drop (l.t-index + 1) a.log.now) q) u ∙ (uploads-turn a.b a.log.now l.t-index l.p c.loop-t-test.true ∙ l.invariant.1),
     )
 
 pub returns : goal.returns
-returns c = let l = c.loop-j in let a = c.args in sym (uploads-done a.b a.log.now l.j l.p c.loop-j-test.false) ∙ l.invariant.1.1.1
+returns c = let l = c.loop-t in sym (uploads-done c.args.b c.args.log.now l.t-index l.p c.loop-t-test.false) ∙ l.invariant.1

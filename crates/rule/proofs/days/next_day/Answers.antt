@@ -6,24 +6,24 @@ use Rattle.rule.proofs.days.next_day.Goals as goal
 pub next_weekday-weekday-requires : goal.next_weekday-weekday-requires
 next_weekday-weekday-requires c = (of-day _ c.requires.0 c.requires.1).weekday
 
-pub overflow_add-result-then-monthday-x : goal.overflow_add-result-then-monthday-x
-overflow_add-result-then-monthday-x c = let at = c.requires in
+pub overflow_add-result-then-x : goal.overflow_add-result-then-x
+overflow_add-result-then-x c = let at = c.requires in
     let facts = of-day _ at.0 at.1 in
     omega (arith, facts.yearday, facts.yeardays)
 
-pub returns-then-monthday-x : goal.returns-then-monthday-x
-returns-then-monthday-x c = let at = c.requires in
-    rw c.next_weekday-weekday.ensures (step-month _ at.0 at.1 c.if-monthday-x.true)
+pub returns-then-x : goal.returns-then-x
+returns-then-x c = let at = c.requires in
+    rw c.next_weekday-weekday.ensures (step-month _ at.0 at.1 c.if-x.true)
 
-pub overflow_add-result-then-month-lt12-2 : goal.overflow_add-result-then-month-lt12-2
-overflow_add-result-then-month-lt12-2 c = let at = c.requires in
+pub overflow_add-result-then-x-lt12-2 : goal.overflow_add-result-then-x-lt12-2
+overflow_add-result-then-x-lt12-2 c = let at = c.requires in
     let facts = of-day _ at.0 at.1 in
     omega (arith, facts.yearday, facts.yeardays)
 
-pub returns-then-month-lt12 : goal.returns-then-month-lt12
-returns-then-month-lt12 c = let at = c.requires in
-    rw (c.next_weekday-weekday.ensures, c.month_length-monthdays.ensures)
-    (step-year _ at.0 at.1 c.if-monthday-x.false c.if-month-lt12.true)
+pub returns-then-x-lt12 : goal.returns-then-x-lt12
+returns-then-x-lt12 c = let at = c.requires in
+    rw (c.next_weekday-weekday.ensures, c.month_length.ensures)
+    (step-year _ at.0 at.1 c.if-x.false c.if-x-lt12.true)
 
 pub overflow_add-year : goal.overflow_add-year
 overflow_add-year c = let at = c.requires in
@@ -31,5 +31,5 @@ overflow_add-year c = let at = c.requires in
 
 pub returns : goal.returns
 returns c = let at = c.requires in
-    rw (c.next_weekday-weekday.ensures, c.year_length-yeardays.ensures)
-    (step-next-year _ at.0 at.1 c.if-monthday-x.false c.if-month-lt12.false)
+    rw (c.next_weekday-weekday.ensures, c.year_length.ensures)
+    (step-next-year _ at.0 at.1 c.if-x.false c.if-x-lt12.false)

@@ -9,11 +9,8 @@ use Prim.Native.Nat.{suc}
 use Rattle.rule_text.specs.Inner.Reads.{entries_at}
 use Rattle.rule_text.proofs.days.day_entries.Given as goal
 
-abbrev pub invariant-loop-n : goal.invariant-loop-n
-invariant-loop-n l = Counting read_nday (λ level v. tree_at (suc level) l.text v) l.text (λ level. entries_at read_nday (suc level) l.text l.at) l.step l.n l.count l.fault
-    × (Storing day_of read_nday (λ level v. tree_at (suc level) l.text v) l.text (λ level. entries_at read_nday (suc level) l.text l.at) l.initial.weekdays l.weekdays l.step l.n l.count
-    × (Storing nth_of read_nday (λ level v. tree_at (suc level) l.text v) l.text (λ level. entries_at read_nday (suc level) l.text l.at) l.initial.nths l.nths l.step l.n l.count
-    × Flagging (λ level v. tree_at (suc level) l.text v) l.text (λ level. entries_at read_nday (suc level) l.text l.at) l.step l.n l.nth))
-
-abbrev pub decreases-loop-n : goal.decreases-loop-n
-decreases-loop-n l = l.n
+abbrev pub invariant-loop-count : goal.invariant-loop-count
+invariant-loop-count l = Counting read_nday (λ level v. tree_at (suc level) l.text v) l.text (λ level. entries_at read_nday (suc level) l.text l.at) l.step l.count l.fault
+    × (Storing day_of read_nday (λ level v. tree_at (suc level) l.text v) l.text (λ level. entries_at read_nday (suc level) l.text l.at) l.initial.weekdays l.weekdays l.step l.count
+    × (Storing nth_of read_nday (λ level v. tree_at (suc level) l.text v) l.text (λ level. entries_at read_nday (suc level) l.text l.at) l.initial.nths l.nths l.step l.count
+    × Flagging (λ level v. tree_at (suc level) l.text v) l.text (λ level. entries_at read_nday (suc level) l.text l.at) l.step l.count l.nth))

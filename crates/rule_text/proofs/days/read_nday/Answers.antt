@@ -1,4 +1,5 @@
 -- `rule_text::days::read_nday` meets its contract.
+use Rattle.fault.proofs.Laws.{fault-here}
 use Rattle.rule_text.proofs.DayLaws.{nday-read, nday-wrong, number-from}
 use Rattle.rule_text.specs.Inner.Lists.{nth_number}
 use Prim.Native.Nat.{ℕ}
@@ -9,13 +10,13 @@ use Rattle.fault.proofs.Laws.{first-all}
 use Rattle.property.specs.Inner.Vocabulary.{vocabulary, word_of}
 use Rattle.signed.proofs.Parts.{back}
 use borrow.Author.Tests.{eq-eqb, ne_eqb}
-use mathlib.Core.Path.{ap, sym, ◌∙◌}
+use mathlib.Core.Path.{refl, ap, sym, ◌∙◌}
 use Rattle.property.proofs.RowLaws.{zeros}
 use borrow.Author.Rules.{rules}
 use Rattle.rule_text.proofs.days.read_nday.Goals as goal
 
 pub returns-then-byte-ne123 : goal.returns-then-byte-ne123
-returns-then-byte-ne123 c = nday-wrong c.args.text.now c.args.at (rw (← c.byte.ensures.is) (ne_eqb _ _ c.if-byte-ne123.true))
+returns-then-byte-ne123 c = rw (c.fault_at.ensures, fault-here 20 _ refl) (nday-wrong c.args.text.now c.args.at (rw (← c.byte.ensures.is) (ne_eqb _ _ c.if-byte-ne123.true)))
 
 pub fill-requires : goal.fill-requires
 fill-requires c = (c.requires, (zeros 3, search rules))

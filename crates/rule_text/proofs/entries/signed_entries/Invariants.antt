@@ -6,9 +6,6 @@ use Rattle.json_tree.specs.Tree.{tree_at}
 use Rattle.rule_text.specs.Inner.Reads.{entries_at}
 use Rattle.rule_text.proofs.entries.signed_entries.Given as goal
 
-abbrev pub invariant-loop-n : goal.invariant-loop-n
-invariant-loop-n l = Counting (entry (read_signed l.most)) (λ level v. tree_at level l.text v) l.text (λ level. entries_at (entry (read_signed l.most)) level l.text l.at) l.step l.n l.count l.fault
-    × Storing (λ z. z) (entry (read_signed l.most)) (λ level v. tree_at level l.text v) l.text (λ level. entries_at (entry (read_signed l.most)) level l.text l.at) l.initial.list l.list l.step l.n l.count
-
-abbrev pub decreases-loop-n : goal.decreases-loop-n
-decreases-loop-n l = l.n
+abbrev pub invariant-loop-count : goal.invariant-loop-count
+invariant-loop-count l = Counting (entry (read_signed l.most)) (λ level v. tree_at level l.text v) l.text (λ level. entries_at (entry (read_signed l.most)) level l.text l.at) l.step l.count l.fault
+    × Storing (λ z. z) (entry (read_signed l.most)) (λ level v. tree_at level l.text v) l.text (λ level. entries_at (entry (read_signed l.most)) level l.text l.at) l.initial.list l.list l.step l.count

@@ -1,4 +1,6 @@
 -- `rule_text::lists::day_list` meets its contract.
+use mathlib.Core.Path.{refl}
+use Rattle.fault.proofs.Laws.{fault-here}
 use Rattle.rule_text.proofs.DayLaws.{days-same, days-limited, days-absent, days-wrong, weekdays-length, nths-length}
 use Rattle.rule_text.proofs.ListLaws.{by_place, at-within}
 use Rattle.property.specs.Inner.Vocabulary.{vocabulary, word_of}
@@ -24,4 +26,4 @@ returns-in-Absent c = days-same days-absent (λ l. rw (by_place _ _ _ _ (ascii "
 
 pub returns-in-Wrong : goal.returns-in-Wrong
 unfolding word_of vocabulary
-returns-in-Wrong c = days-same days-wrong (λ l. rw (by_place _ _ _ _ (ascii "byDay"), ← c.list_in.ensures.is, c.in-Wrong.is))
+returns-in-Wrong c = rw (c.fault_at.ensures, fault-here 20 _ refl) (days-same days-wrong (λ l. rw (by_place _ _ _ _ (ascii "byDay"), ← c.list_in.ensures.is, c.in-Wrong.is)))

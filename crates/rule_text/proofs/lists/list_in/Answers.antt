@@ -7,11 +7,11 @@ use Rattle.rule_text.proofs.lists.list_in.Goals as goal
 
 pub returns-then-byte-eq91 : goal.returns-then-byte-eq91
 unfolding list_place
-returns-then-byte-eq91 c = record { is = rw (← c.place.ensures, c.in-At.is, ← c.byte.ensures.is, eq-eqb _ _ c.if-byte-eq91.true); within = search rules }
+returns-then-byte-eq91 c = record { is = rw (← c.place.ensures, c.in-Some.is, ← c.byte.ensures.is, eq-eqb _ _ c.if-byte-eq91.true); within = search rules }
 
 pub returns-else-byte-eq91 : goal.returns-else-byte-eq91
 unfolding list_place
-returns-else-byte-eq91 c = record { is = rw (← c.place.ensures, c.in-At.is, ← c.byte.ensures.is, ne_eqb _ _ c.if-byte-eq91.false); within = refl }
+returns-else-byte-eq91 c = record { is = rw (← c.place.ensures, c.in-Some.is, ← c.byte.ensures.is, ne_eqb _ _ c.if-byte-eq91.false); within = refl }
 
 pub returns-in-None : goal.returns-in-None
 unfolding list_place

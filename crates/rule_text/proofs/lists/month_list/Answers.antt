@@ -1,4 +1,6 @@
 -- `rule_text::lists::month_list` meets its contract.
+use mathlib.Core.Path.{refl}
+use Rattle.fault.proofs.Laws.{fault-here}
 use Rattle.rule_text.proofs.ListLaws.{by_place, at-within, entries-same, entries-limited, entries-absent, entries-wrong, entries-length}
 use Rattle.property.specs.Inner.Vocabulary.{vocabulary, word_of}
 use Rattle.json_text.specs.Ascii.{ascii}
@@ -20,4 +22,4 @@ returns-in-Absent c = entries-same entries-absent (λ l. rw (by_place _ _ _ _ (a
 
 pub returns-in-Wrong : goal.returns-in-Wrong
 unfolding word_of vocabulary
-returns-in-Wrong c = entries-same entries-wrong (λ l. rw (by_place _ _ _ _ (ascii "byMonth"), ← c.list_in.ensures.is, c.in-Wrong.is))
+returns-in-Wrong c = rw (c.fault_at.ensures, fault-here 20 _ refl) (entries-same entries-wrong (λ l. rw (by_place _ _ _ _ (ascii "byMonth"), ← c.list_in.ensures.is, c.in-Wrong.is)))

@@ -1,4 +1,6 @@
 -- `rule_text::lists::signed_list` meets its contract.
+use mathlib.Core.Path.{refl}
+use Rattle.fault.proofs.Laws.{fault-here}
 use Rattle.rule_text.proofs.ListLaws.{by_place, at-within, entries-same, entries-limited, entries-absent, entries-wrong, entries-length}
 use Rattle.rule_text.proofs.lists.signed_list.Goals as goal
 
@@ -15,4 +17,4 @@ pub returns-in-Absent : goal.returns-in-Absent
 returns-in-Absent c = entries-same entries-absent (λ l. rw (by_place _ _ _ _ _, ← c.list_in.ensures.is, c.in-Absent.is))
 
 pub returns-in-Wrong : goal.returns-in-Wrong
-returns-in-Wrong c = entries-same entries-wrong (λ l. rw (by_place _ _ _ _ _, ← c.list_in.ensures.is, c.in-Wrong.is))
+returns-in-Wrong c = rw (c.fault_at.ensures, fault-here 20 _ refl) (entries-same entries-wrong (λ l. rw (by_place _ _ _ _ _, ← c.list_in.ensures.is, c.in-Wrong.is)))

@@ -5,9 +5,9 @@ use Rattle.property.specs.Inner.Vocabulary.{vocabulary, word_of}
 use Rattle.json_text.specs.Ascii.{ascii}
 use Rattle.rule_text.proofs.members.interval_in.Goals as goal
 
-pub returns-in-At : goal.returns-in-At
+pub returns-in-Some : goal.returns-in-Some
 unfolding optional word_of vocabulary
-returns-in-At c = record { value = λ l. rw (here _ (ascii "interval") _ _ c.place.ensures _ c.in-At.is l) (c.count.ensures.value l); fault = λ l. rw (here _ (ascii "interval") _ _ c.place.ensures _ c.in-At.is l) (c.count.ensures.fault l) }
+returns-in-Some c = record { value = λ l. rw (here _ (ascii "interval") _ _ c.place.ensures _ c.in-Some.is l) (c.count.ensures.value l); fault = λ l. rw (here _ (ascii "interval") _ _ c.place.ensures _ c.in-Some.is l) (c.count.ensures.fault l) }
 
 pub returns-in-None : goal.returns-in-None
 unfolding optional word_of vocabulary

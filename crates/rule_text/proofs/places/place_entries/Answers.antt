@@ -1,32 +1,33 @@
 -- `rule_text::places::place_entries` meets its contract.
+use Rattle.std.specs.Prelude.{◌≡◌, length, None}
+use native.Mathlib.Omega.{arith}
 use Rattle.rule_text.proofs.EntryLaws.{rest-stop, rest-none, counting-goes-on, storing-goes-on, counting-starts, storing-starts, entries-end}
 use Rattle.json_tree.proofs.Trees.{place-tree}
 use Rattle.fault.specs.Fault.{first}
-use Rattle.fault.specs.declared.First.TheVariants.{None}
 use Rattle.fault.proofs.Laws.{none-lower}
 use mathlib.Core.Path.{refl, sym}
 use Rattle.json_walk.specs.Walk.{elements_of}
 use Rattle.rule_text.proofs.places.place_entries.Goals as goal
 
-pub loop-n-init : goal.loop-n-init
+pub loop-count-init : goal.loop-count-init
 unfolding elements_of
-loop-n-init c = rw c.first_element-step.ensures (counting-starts _ _ _ _, storing-starts _ _ _ _ _ _)
+loop-count-init c = rw c.first_element-step.ensures (counting-starts _ _ _ _, storing-starts _ _ _ _ _ _)
 
-pub shape_of-list-in-Stop : goal.shape_of-list-in-Stop
-shape_of-list-in-Stop c = c.loop-n.invariant.1.same
+pub shape_of-list-in_default : goal.shape_of-list-in_default
+shape_of-list-in_default c = c.loop-count.invariant.1.same
 
-pub returns-in-Stop : goal.returns-in-Stop
-returns-in-Stop c = entries-end _ _ _ _ _ _ _ _ _ _ c.loop-n.invariant.0 c.loop-n.invariant.1 (rest-stop _ _ _ _ c.in-Stop.is)
+pub returns-in_default : goal.returns-in_default
+returns-in_default c = entries-end _ _ _ _ _ _ _ _ _ c.loop-count.invariant.0 c.loop-count.invariant.1 (rest-stop _ _ _ _ c.in_default.is)
 
-pub loop-n-preserved : goal.loop-n-preserved
+pub loop-count-preserved : goal.loop-count-preserved
 unfolding first
-loop-n-preserved c = (
-  counting-goes-on _ _ _ _ c.in-Next.is c.loop-n-test.true c.loop-n.invariant.0 c.next_element-step.ensures (sym (none-lower None)) (λ l. refl),
-  storing-goes-on _ _ _ _ _ c.in-Next.is c.loop-n-test.true c.loop-n.invariant.1 c.next_element-step.ensures c.put_place.ensures (λ l. sym (place-tree l _ _)),
+loop-count-preserved c = (
+  counting-goes-on _ _ _ _ c.in-Some.is c.loop-count-test.true c.loop-count.invariant.0 c.next_element-step.ensures (sym (none-lower None)) (λ l. refl),
+  storing-goes-on _ _ _ _ _ c.in-Some.is c.loop-count-test.true c.loop-count.invariant.1 c.next_element-step.ensures c.put.ensures (λ l. sym (place-tree l _ _)),
 )
 
 pub shape_of-list : goal.shape_of-list
-shape_of-list c = c.loop-n.invariant.1.same
+shape_of-list c = c.loop-count.invariant.1.same
 
 pub returns : goal.returns
-returns c = entries-end _ _ _ _ _ _ _ _ _ _ c.loop-n.invariant.0 c.loop-n.invariant.1 (rest-none _ _ _ _ c.loop-n-test.false _)
+returns c = let e : length c.args.text.now ≡ c.loop-count.count = omega arith in rw e (entries-end _ _ _ _ _ _ _ _ _ c.loop-count.invariant.0 c.loop-count.invariant.1 (rest-none _ _ _ _ c.loop-count-test.false _))

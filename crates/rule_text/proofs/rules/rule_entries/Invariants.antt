@@ -7,8 +7,5 @@ use Prim.Native.Nat.{suc}
 use Rattle.rule_text.specs.Inner.Reads.{entries_at}
 use Rattle.rule_text.proofs.rules.rule_entries.Given as goal
 
-abbrev pub invariant-loop-n : goal.invariant-loop-n
-invariant-loop-n l = Counting read_rule (λ level v. tree_at (suc (suc (suc level))) l.text v) l.text (λ level. entries_at read_rule (suc (suc (suc level))) l.text l.at) l.step l.n l.count l.fault
-
-abbrev pub decreases-loop-n : goal.decreases-loop-n
-decreases-loop-n l = l.n
+abbrev pub invariant-loop-count : goal.invariant-loop-count
+invariant-loop-count l = Counting read_rule (λ level v. tree_at (suc (suc (suc level))) l.text v) l.text (λ level. entries_at read_rule (suc (suc (suc level))) l.text l.at) l.step l.count l.fault

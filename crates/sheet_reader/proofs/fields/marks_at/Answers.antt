@@ -5,4 +5,4 @@ use Rattle.sheet_reader.proofs.fields.marks_at.Goals as goal
 
 pub returns : goal.returns
 unfolding marks_at number_at
-returns c = rw (← c.get_u8.ensures.is)
+returns c = rw (← c.get.ensures.is)

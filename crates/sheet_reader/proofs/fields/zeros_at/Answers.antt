@@ -5,4 +5,4 @@ use Rattle.sheet_reader.proofs.fields.zeros_at.Goals as goal
 
 pub returns : goal.returns
 unfolding number_at zeros_at
-returns c = rw (← c.get_u24.ensures.is)
+returns c = rw (← c.get.ensures.is)

@@ -1,35 +1,13 @@
--- `sheet_reader::records::all_marked` meets its contract: the records from here on are marked if all are.
-use native.Mathlib.Omega.{arith}
-use Prim.Native.Nat.{◌-◌}
-use mathlib.Core.Path.{refl, sym, ◌∙◌}
-use borrow.Author.Tests.{not-true, not-false}
-use Rattle.sheet.proofs.RunLaws.{every_more, every-fails, every-none}
+-- `sheet_reader::records::all_marked` meets its contract: the library's `all` over the records.
+use Rattle.std.proofs.Common.{◌≡◌, true, false, refl, rules, arith}
+use Rattle.std.proofs.lemmas.Iterator.{cases_from_all, YieldsList-from_range}
+use Rattle.sheet.specs.Reading.{marked_at}
+use Rattle.sheet_reader.proofs.EveryLaws.{every-answer}
 use Rattle.sheet_reader.proofs.records.all_marked.Goals as goal
 
-pub loop-left-init : goal.loop-left-init
-loop-left-init c = (omega arith, refl)
-
-pub marked-requires : goal.marked-requires
-marked-requires c = omega arith
-
-pub returns-then-not-marked : goal.returns-then-not-marked
-returns-then-not-marked c = let l = c.loop-left in
-    let t = c.loop-left-test.true in
-    every-fails _ l.k l.left (omega arith) (sym c.marked.ensures ∙ not-true _ c.if-not-marked.true-raw) ∙ l.invariant.1
-
-pub overflow_add-k : goal.overflow_add-k
-overflow_add-k c = omega arith
-
-pub overflow_sub-left : goal.overflow_sub-left
-overflow_sub-left c = omega arith
-
-pub loop-left-smaller : goal.loop-left-smaller
-loop-left-smaller c = omega arith
-
-pub loop-left-preserved : goal.loop-left-preserved
-loop-left-preserved c = let l = c.loop-left in
-    let t = c.loop-left-test.true in
-    (omega arith, every_more _ l.k l.left (omega arith) (sym c.marked.ensures ∙ not-false _ c.if-not-marked.false-raw) ∙ l.invariant.1)
-
 pub returns : goal.returns
-returns c = let l = c.loop-left in every-none _ l.k l.left (omega arith) ∙ l.invariant.1
+returns c =
+    let p = marked_at c.args.most c.args.s.now in
+    every-answer p c.args.n _
+    (cases_from_all _ _ _ (λ k. p k ≡ true) (λ k. p k ≡ false) c.all.ensures.ran
+    (YieldsList-from_range 0 c.args.n c.args.n refl (omega arith)) (λ x q k. search rules) (λ x q k. search rules))

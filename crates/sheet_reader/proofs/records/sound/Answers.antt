@@ -4,4 +4,4 @@ use Rattle.sheet_reader.proofs.records.sound.Goals as goal
 
 pub returns : goal.returns
 unfolding number_at
-returns c = rw (← c.get_u32.ensures.is)
+returns c = rw (← c.get.ensures.is)

@@ -4,4 +4,4 @@ use Rattle.sheet_reader.proofs.trailer.count.Goals as goal
 
 pub returns : goal.returns
 unfolding count_of
-returns c = c.get_u32.ensures.is
+returns c = c.get.ensures.is

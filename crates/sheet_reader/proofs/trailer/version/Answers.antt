@@ -5,4 +5,4 @@ use Rattle.sheet_reader.proofs.trailer.version.Goals as goal
 
 pub returns : goal.returns
 unfolding number_at version_of
-returns c = rw (← c.get_u16.ensures.is)
+returns c = rw (← c.get.ensures.is)

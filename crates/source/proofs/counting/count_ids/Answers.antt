@@ -1,5 +1,4 @@
 -- `source::counting::count_ids` meets its contract: each turn counts the ids of one chunk.
-use Prim.Native.Nat.{◌-◌}
 use mathlib.Core.Path.{refl, sym, ◌∙◌}
 use native.Mathlib.Omega.{arith}
 use Rattle.source.proofs.CountLaws.{count-starts, count-few, count-more, count-ends}

@@ -3,10 +3,10 @@ use Rattle.source.specs.Inner.Listed.{goes_on}
 use borrow.Author.Tests.{lt-ltb, le-ltb}
 use Rattle.source.proofs.listed.goes_on.Goals as goal
 
-pub returns-then-next-end : goal.returns-then-next-end
+pub returns-then-next-day_from : goal.returns-then-next-day_from
 unfolding goes_on
-returns-then-next-end c = rw (← c.day_from-end.ensures, lt-ltb _ _ c.if-next-end.true)
+returns-then-next-day_from c = rw (← c.from-next.ensures, ← c.day_from.ensures, lt-ltb _ _ c.if-next-day_from.true)
 
-pub returns : goal.returns
+pub returns-else-next-day_from : goal.returns-else-next-day_from
 unfolding goes_on
-returns c = rw (← c.day_from-end.ensures, le-ltb _ _ c.if-next-end.false)
+returns-else-next-day_from c = rw (← c.from-next.ensures, ← c.day_from.ensures, le-ltb _ _ c.if-next-day_from.false)

@@ -31,4 +31,4 @@ pub returns : goal.returns
 unfolding shown_by
 returns c = let l = c.load-kept.ensures in
     rw (sym (occurs _ _ _ _ c.requires _ _ _ _ _ l) ∙ (sym c.is_id.ensures ∙ not-false c.is_id.result c.if-not-is_id.false-raw))
-    (visible-placed _ _ _ (placed_same _ _ _ (ap place_of c.text_by-place.ensures ∙ place_same _ _ _ _ c.requires _ _ _ _ _ l c.args.title) _ c.part_at.ensures) c.args.public _ c.visible-part.ensures)
+    (visible-placed _ _ _ (placed_same _ _ _ (ap place_of c.text_by-place.ensures ∙ place_same _ _ _ _ c.requires _ _ _ _ _ l c.args.title) _ c.part_at.ensures) c.args.public _ c.visible.ensures)

@@ -8,6 +8,6 @@ pub returns-in-None : goal.returns-in-None
 unfolding place_of
 returns-in-None c = rw c.in-None.is (none-placed _ _ _ c.between.ensures refl)
 
-pub returns-in-At : goal.returns-in-At
+pub returns-in-Some : goal.returns-in-Some
 unfolding place_of
-returns-in-At c = rw c.in-At.is c.part_from.ensures
+returns-in-Some c = rw c.in-Some.is c.part_from.ensures

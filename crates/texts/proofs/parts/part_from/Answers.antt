@@ -9,31 +9,26 @@ use borrow.Author.Rules.{rules}
 use Rattle.texts.proofs.parts.part_from.Goals as goal
 
 pub overflow_add-at : goal.overflow_add-at
-overflow_add-at c = let e = string-end _ _ _ (sym c.string.ensures ∙ c.in-To.is) in
+overflow_add-at c = let e = string-end _ _ _ (sym c.string.ensures ∙ c.in-Ok.is) in
     search rules
 
 pub overflow_sub-stop : goal.overflow_sub-stop
-overflow_sub-stop c = let e = string-end _ _ _ (sym c.string.ensures ∙ c.in-To.is) in
+overflow_sub-stop c = let e = string-end _ _ _ (sym c.string.ensures ∙ c.in-Ok.is) in
     omega arith
 
 pub between-requires : goal.between-requires
-between-requires c = let e = string-end _ _ _ (sym c.string.ensures ∙ c.in-To.is) in
+between-requires c = let e = string-end _ _ _ (sym c.string.ensures ∙ c.in-Ok.is) in
     omega arith
 
-pub returns-in-To : goal.returns-in-To
+pub returns-in-Ok : goal.returns-in-Ok
 unfolding word_at
-returns-in-To c = let e = string-end _ _ _ (sym c.string.ensures ∙ c.in-To.is) in
+returns-in-Ok c = let e = string-end _ _ _ (sym c.string.ensures ∙ c.in-Ok.is) in
     rw (
       ← c.string.ensures,
-      c.in-To.is,
+      c.in-Ok.is,
     ) (raw-placed _ _ _ e.0 e.1 _ c.between.ensures)
 
-pub returns-in-Bad : goal.returns-in-Bad
+pub returns-in-Err : goal.returns-in-Err
 unfolding word_at
-returns-in-Bad c = rw (← c.string.ensures, c.in-Bad.is, raw-none)
-    (none-placed _ _ _ c.between-in-Bad.ensures (no_bytes _))
-
-pub returns-in-Deep : goal.returns-in-Deep
-unfolding word_at
-returns-in-Deep c = rw (← c.string.ensures, c.in-Deep.is, raw-none)
-    (none-placed _ _ _ c.between-in-Deep.ensures (no_bytes _))
+returns-in-Err c = rw (← c.string.ensures, c.in-Err.is, raw-none)
+    (none-placed _ _ _ c.between-in-Err.ensures (no_bytes _))

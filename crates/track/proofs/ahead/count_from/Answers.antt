@@ -12,14 +12,14 @@ pub pass_far-far-requires : goal.pass_far-far-requires
 pass_far-far-requires c = let p = c.requires in
     (p.0.1, resting-begins _ _ _ _ p.0.0 p.1 _ c.day_of.ensures _)
 
-pub returns-then-placed : goal.returns-then-placed
-returns-then-placed c = let p = c.requires in
+pub returns-then-terms : goal.returns-then-terms
+returns-then-terms c = let p = c.requires in
     let e = c.day_of.ensures in
     ahead-joins _ _ _ _ _ _ (record { day = day-again _ _ e; walk = end-starts _ _ _ _ _ (number_is _ _ e) p.1 }) c.pass_far-far.ensures
 
 pub pass_months-requires : goal.pass_months-requires
 pass_months-requires c = let p = c.requires in
-    (c.if-placed.false, resting-on _ _ _ _ _ _ (resting-begins _ _ _ _ p.0.0 p.1 _ c.day_of.ensures _) c.pass_far-far.ensures)
+    (c.if-terms.false, resting-on _ _ _ _ _ _ (resting-begins _ _ _ _ p.0.0 p.1 _ c.day_of.ensures _) c.pass_far-far.ensures)
 
 pub returns : goal.returns
 returns c = let p = c.requires in

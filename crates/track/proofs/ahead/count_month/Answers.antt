@@ -4,10 +4,10 @@ use Rattle.track.proofs.PlainLaws.{month-asked}
 use Rattle.track.proofs.SkipLaws.{month-reaches}
 use Rattle.matcher.specs.Inner.Member.{falls_on_by}
 use Rattle.matcher.proofs.WalkLaws.{number_is}
-use Prim.Native.Nat.{◌-◌}
 use native.Mathlib.Omega.{arith}
 use mathlib.Core.Path.{sym, ap, ◌∙◌}
 use Rattle.track.proofs.ahead.count_month.Goals as goal
+use Rattle.track.proofs.ahead.count_month.Goals.{then-falls_plain, else-falls_plain}
 
 pub loop-k-init : goal.loop-k-init
 loop-k-init c = count-starts _ _ _
@@ -23,15 +23,13 @@ falls_plain-requires c = let p = c.requires in
 pub overflow_add-found : goal.overflow_add-found
 overflow_add-found c = omega (arith, c.loop-k.invariant.few, c.loop-k-test.true, c.requires.1.0.1.known)
 
-pub loop-k-preserved-then-falls_plain : goal.loop-k-preserved-then-falls_plain
-loop-k-preserved-then-falls_plain c = let a = c.args in
-    count_yes _ _ _ _ _ c.loop-k.invariant c.loop-k-test.true
-    (ap (falls_on_by a.excluded a.end a.terms a.flags.now a.start) (sym (number_is _ _ c.in_month-y.ensures)) ∙ (sym c.falls_plain.ensures ∙ c.if-falls_plain.true))
-
 pub loop-k-preserved : goal.loop-k-preserved
 loop-k-preserved c = let a = c.args in
-    count_no _ _ _ _ _ c.loop-k.invariant c.loop-k-test.true
-    (ap (falls_on_by a.excluded a.end a.terms a.flags.now a.start) (sym (number_is _ _ c.in_month-y.ensures)) ∙ (sym c.falls_plain.ensures ∙ c.if-falls_plain.false))
+    let on = ap (falls_on_by a.excluded a.end a.terms a.flags.now a.start) (sym (number_is _ _ c.in_month-y.ensures)) in
+    elim c.if-falls_plain.branch [
+      | then-falls_plain w ↦ rw w.found-is (count_yes _ _ _ _ _ c.loop-k.invariant c.loop-k-test.true (on ∙ (sym c.falls_plain.ensures ∙ w.if-falls_plain.true)))
+      | else-falls_plain w ↦ rw w.found-is (count_no _ _ _ _ _ c.loop-k.invariant c.loop-k-test.true (on ∙ (sym c.falls_plain.ensures ∙ w.if-falls_plain.false)))
+    ]
 
 pub returns : goal.returns
 returns c = count-ends _ _ _ _ _ c.loop-k.invariant c.loop-k-test.false

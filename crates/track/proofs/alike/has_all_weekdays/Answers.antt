@@ -1,24 +1,14 @@
--- `track::alike::has_all_weekdays` meets its contract. The invariant: the weekdays so far are set.
-use Rattle.track.proofs.AlikeLaws.{weekdays-none, weekdays-more}
-use Rattle.track.specs.Inner.Alike.{WeekdaysSet}
-use Prim.Native.Nat.{ℕ, ◌-◌}
-use mathlib.Core.Bool.{false≢true}
-use mathlib.Core.Path.{◌≡◌, refl, sym, ◌∙◌, subst}
-use native.Mathlib.Omega.{arith}
-use borrow.Author.Tests.{not-true, not-false}
+-- `track::alike::has_all_weekdays` meets its contract.
+use borrow.Author.Rules.{rules}
+use borrow.Author.Tests.{tests}
+use mathlib.Core.Bool.{Bool}
+use lib.ListN.{take, drop}
+use Rattle.std.proofs.lemmas.Iterator.{YieldsList-from_slice}
+use Rattle.std.proofs.lemmas.Iterator.Search.{all_from_yields_List}
+use Rattle.track.proofs.AlikeLaws.{weekdays-said, weekdays-all}
 use Rattle.track.proofs.alike.has_all_weekdays.Goals as goal
 
-pub loop-k-init : goal.loop-k-init
-loop-k-init c = (omega arith, weekdays-none _)
-
-pub returns-then-not-flags-k : goal.returns-then-not-flags-k
-returns-then-not-flags-k c = (λ e. absurd (false≢true e), λ w. sym (not-true _ c.if-not-flags-k.true-raw) ∙ w.each _ c.loop-k-test.true)
-
-pub loop-k-preserved : goal.loop-k-preserved
-loop-k-preserved c = let i = c.loop-k.invariant in
-    (omega (arith, c.loop-k-test.true), weekdays-more _ _ i.1 (not-false _ c.if-not-flags-k.false-raw))
-
 pub returns : goal.returns
-returns c = let i = c.loop-k.invariant in
-    let all : c.loop-k.k ≡ 7 = omega (arith, i.0, c.loop-k-test.false) in
-    (λ e. subst (λ (n : ℕ). WeekdaysSet c.args.flags.now n) all i.1, λ w. refl)
+returns c =
+    let is = all_from_yields_List (λ (b : Bool). b) _ _ c.all.result c.all.ensures.ran (YieldsList-from_slice (take 7 (drop 77 c.args.flags.now)) cc) (λ x b q k. search (rules, tests)) in
+    (weekdays-said _ c.requires _ is, weekdays-all _ c.requires _ is)

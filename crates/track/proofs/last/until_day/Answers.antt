@@ -1,22 +1,11 @@
 -- `track::last::until_day` meets its contract.
-use Rattle.track.specs.Inner.Last.{until_day}
-use borrow.Author.Tests.{le-leb, le-ltb, lt-leb, lt-ltb}
+use native.Mathlib.Omega.{arith}
+use mathlib.Core.Path.{◌∙◌}
+use Rattle.track.proofs.LastLaws.{until-some, until-none}
 use Rattle.track.proofs.last.until_day.Goals as goal
 
-pub returns-then-until-time : goal.returns-then-until-time
-unfolding until_day
-returns-then-until-time c = rw (lt-ltb _ _ c.if-until-time.true)
+pub returns-in-Some : goal.returns-in-Some
+returns-in-Some c = c.min.ensures ∙ until-some _ _ _ c.in-Some.ensures.0 c.in-Some.ensures.1
 
-pub returns-then-day-ge3067672 : goal.returns-then-day-ge3067672
-unfolding until_day
-returns-then-day-ge3067672 c = rw (
-  le-ltb _ _ c.if-until-time.false,
-  le-leb _ _ c.if-day-ge3067672.true,
-)
-
-pub returns : goal.returns
-unfolding until_day
-returns c = rw (
-  le-ltb _ _ c.if-until-time.false,
-  lt-leb _ _ c.if-day-ge3067672.false,
-)
+pub returns-in-None : goal.returns-in-None
+returns-in-None c = until-none _ _ (omega (arith, c.in-None.ensures))

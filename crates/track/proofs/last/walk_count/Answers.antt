@@ -3,7 +3,6 @@ use Rattle.track.proofs.LastLaws.{end-found, end-over, end-goes-on, end-leaps, e
 use Rattle.track.proofs.StepLaws.{cursor-at-day, at-number, at_again, held-here}
 use Rattle.track.proofs.AheadLaws.{end-moves}
 use Rattle.track.proofs.SkipLaws.{between-all}
-use Prim.Native.Nat.{◌-◌}
 use native.Mathlib.Omega.{arith}
 use mathlib.Core.Path.{sym, ◌∙◌}
 use Rattle.track.proofs.last.walk_count.Goals as goal

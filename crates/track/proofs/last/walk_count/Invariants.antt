@@ -2,7 +2,7 @@
 use Rattle.track.specs.Inner.Steps.{cursor_at}
 use Rattle.track.specs.Inner.Ahead.{EndAt}
 use Rattle.matcher.specs.Inner.Member.{falls_on_by}
-use Prim.Native.Nat.{◌/◌, ◌-◌}
+use Prim.Native.Nat.{◌/◌}
 use mathlib.Core.Path.{◌≡◌}
 use Rattle.track.proofs.last.walk_count.Given as goal
 

@@ -15,4 +15,4 @@ overflow_add-result-2 c = let p = c.requires in
 
 pub returns : goal.returns
 returns c = let p = c.requires in
-    rw (c.month_start.ensures, c.month_length-monthdays.ensures) (year-later _ p.0 _ _ p.1.0 c.month_from-month.ensures)
+    rw (c.month_start.ensures, c.month_length.ensures) (year-later _ p.0 _ _ p.1.0 c.month_from-month.ensures)

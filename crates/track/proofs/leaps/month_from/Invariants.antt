@@ -1,10 +1,7 @@
 -- `track::leaps::month_from` meets its contract. The invariant: the month begins no later.
 use Rattle.gregorian.specs.Month.{month_start}
-use Prim.Native.Nat.{◌-◌, ◌≤◌}
+use Prim.Native.Nat.{◌≤◌}
 use Rattle.track.proofs.leaps.month_from.Given as goal
 
 abbrev pub invariant-loop-m : goal.invariant-loop-m
-invariant-loop-m l = ((1 ≤ l.m) × (l.m ≤ 12)) × (month_start l.year l.m ≤ l.r)
-
-abbrev pub decreases-loop-m : goal.decreases-loop-m
-decreases-loop-m l = 13 - l.m
+invariant-loop-m l = month_start l.year l.m ≤ l.r

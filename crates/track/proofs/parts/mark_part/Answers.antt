@@ -9,5 +9,5 @@ pub mark_each-requires : goal.mark_each-requires
 mark_each-requires c = let p = c.requires in
     (p.0.plain c.if-alike.false, p.1.1)
 
-pub returns : goal.returns
-returns c = record { marks = c.mark_each.ensures; kept = c.requires.1.0 }
+pub returns-else-alike : goal.returns-else-alike
+returns-else-alike c = record { marks = c.mark_each.ensures; kept = c.requires.1.0 }

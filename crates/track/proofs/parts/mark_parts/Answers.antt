@@ -4,7 +4,6 @@ use Rattle.track.proofs.RunLaws.{mark-starts, mark-goes-by, mark-rests, mark-end
 use Rattle.rule.specs.Day.{day_at}
 use Rattle.matcher.proofs.WalkLaws.{number_is, day-again}
 use Rattle.months.proofs.RowLaws.{kept-none}
-use Prim.Native.Nat.{◌-◌}
 use native.Mathlib.Omega.{arith}
 use mathlib.Core.Path.{sym, ap, ◌∙◌}
 use Rattle.track.proofs.parts.mark_parts.Goals as goal

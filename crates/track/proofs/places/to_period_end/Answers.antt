@@ -1,5 +1,5 @@
 -- `track::places::to_period_end` meets its contract.
-use Rattle.matcher.proofs.WalkLaws.{known, asked-day, asked-before}
+use Rattle.matcher.proofs.WalkLaws.{asked-before, asked-day, known}
 use native.Mathlib.Omega.{arith}
 use Rattle.track.proofs.places.to_period_end.Goals as goal
 
@@ -10,27 +10,13 @@ since_first-before-requires c = let a = c.requires in
 pub overflow_sub-rest : goal.overflow_sub-rest
 overflow_sub-rest c = omega (arith, c.days_of.ensures, c.since_first-before.ensures, asked-before _ _ _ c.requires)
 
-pub overflow_sub-known : goal.overflow_sub-known
-overflow_sub-known c = omega (arith, c.requires.high)
-
-pub returns-then-known-rest : goal.returns-then-known-rest
-returns-then-known-rest c = let a = c.requires in
-    let all = c.days_of.ensures in
-    let before = c.since_first-before.ensures in
-    let less = c.if-known-rest.true in
-    record {
-      more = omega (arith, a.high);
-      known = omega (arith, a.high);
-      within = omega (arith, all, before, less, asked-before _ _ _ a);
-    }
-
 pub returns : goal.returns
 returns c = let a = c.requires in
     let all = c.days_of.ensures in
     let before = c.since_first-before.ensures in
-    let less = c.if-known-rest.false in
+    let least = c.min.ensures in
     record {
-      more = omega (arith, all, before, asked-before _ _ _ a);
-      known = omega (arith, less, a.high);
-      within = omega (arith, all, before, asked-before _ _ _ a);
+      more = omega (arith, a.high, all, before, least, asked-before _ _ _ a);
+      known = omega (arith, a.high, least);
+      within = omega (arith, all, before, least, asked-before _ _ _ a);
     }

@@ -6,14 +6,11 @@ use Rattle.track.proofs.runs.mark_days.Goals as goal
 pub mark_positions-requires : goal.mark_positions-requires
 mark_positions-requires c = c.requires
 
-pub returns-then-placed : goal.returns-then-placed
-returns-then-placed c = c.mark_positions.ensures
-
 pub is_alike-alike-requires : goal.is_alike-alike-requires
 is_alike-alike-requires c = c.requires.row_length
 
 pub mark_parts-requires : goal.mark_parts-requires
-mark_parts-requires c = let plain = c.if-placed.false in (
+mark_parts-requires c = let plain = c.if-terms.false in (
   record {
     months = c.is_alike-alike.ensures.0;
     positions = λ e placed. absurd (false≢true (sym plain ∙ placed));
@@ -21,6 +18,3 @@ mark_parts-requires c = let plain = c.if-placed.false in (
   },
   c.requires,
 )
-
-pub returns : goal.returns
-returns c = c.mark_parts.ensures

@@ -5,7 +5,7 @@ use Rattle.track.proofs.SkipLaws.{between-all}
 use Rattle.track.specs.Inner.Steps.{cursor_at}
 use Rattle.matcher.specs.Inner.Walk.{picks_on_by}
 use lib.ListN.{length-set}
-use Prim.Native.Nat.{◌+◌, ◌-◌}
+use Prim.Native.Nat.{◌+◌}
 use native.Mathlib.Omega.{arith}
 use mathlib.Core.Path.{◌≡◌, sym, ap, ◌∙◌}
 use Rattle.track.proofs.runs.mark_placed.Goals as goal

@@ -1,7 +1,8 @@
 -- `track::skips::next_month` meets its contract. The invariant: the months before the next one are not set.
 use Rattle.track.proofs.SkipLaws.{unset-none, unset-more}
+use mathlib.Core.Path.{◌≡◌, subst}
+use Rattle.track.specs.Inner.Skips.{MonthsUnset}
 use native.Mathlib.Omega.{arith}
-use Prim.Native.Nat.{◌-◌}
 use Rattle.track.proofs.skips.next_month.Goals as goal
 
 pub loop-next-init : goal.loop-next-init
@@ -17,4 +18,6 @@ pub loop-next-preserved : goal.loop-next-preserved
 loop-next-preserved c = unset-more _ _ _ c.loop-next.invariant c.loop-next-test.true c.if-flags-next.false
 
 pub returns : goal.returns
-returns c = c.loop-next.invariant
+returns c =
+    let last : c.loop-next.next ≡ 13 = omega (arith, c.loop-next-test.false, c.loop-next.auto.next-end, c.requires.1) in
+    subst (MonthsUnset c.args.flags.now c.args.month) last c.loop-next.invariant

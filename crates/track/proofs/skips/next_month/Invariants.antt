@@ -1,10 +1,6 @@
 -- `track::skips::next_month` meets its contract. The invariant: the months before the next one are not set.
 use Rattle.track.specs.Inner.Skips.{MonthsUnset}
-use Prim.Native.Nat.{◌-◌}
 use Rattle.track.proofs.skips.next_month.Given as goal
 
 abbrev pub invariant-loop-next : goal.invariant-loop-next
 invariant-loop-next l = MonthsUnset l.flags l.month l.next
-
-abbrev pub decreases-loop-next : goal.decreases-loop-next
-decreases-loop-next l = 13 - l.next

@@ -16,8 +16,6 @@ pub overflow_sub-left : goal.overflow_sub-left
 overflow_sub-left c = let less = over-less c.args.terms c.args.period c.if-interval-le1.false c.if-period-start.false in
     omega (arith, less)
 
-pub returns-then-left-ge3067672 : goal.returns-then-left-ge3067672
-returns-then-left-ge3067672 c = (periods-without c.args.terms c.args.period c.if-interval-le1.false c.if-period-start.false c.if-over-eq0.false 3067672 c.if-left-ge3067672.true (omega arith), omega arith)
-
 pub returns : goal.returns
-returns c = (periods-without c.args.terms c.args.period c.if-interval-le1.false c.if-period-start.false c.if-over-eq0.false _ (omega arith) (omega (arith, c.if-left-ge3067672.false)), omega (arith, c.if-left-ge3067672.false))
+returns c = let least = c.min.ensures in
+    (periods-without c.args.terms c.args.period c.if-interval-le1.false c.if-period-start.false c.if-over-eq0.false _ (omega (arith, least)) (omega (arith, least)), omega (arith, least))

@@ -1,9 +1,12 @@
 -- `track::skips::to_next` meets its contract. The invariant: no day between this one and the k-th after it is picked.
 use Rattle.track.proofs.SkipLaws.{between-one, between_more, not-staying, month-few, month-reaches}
 use Rattle.matcher.proofs.WalkLaws.{in-calendar}
+use mathlib.Core.Path.{◌≡◌, subst}
+use Rattle.track.specs.Inner.Skips.{Between}
+use Rattle.matcher.specs.Inner.Walk.{picks_on_by}
+use Rattle.track.proofs.PlainLaws.{month-some}
 use native.Mathlib.Omega.{arith}
 use mathlib.Core.Path.{sym, ◌∙◌}
-use Prim.Native.Nat.{◌-◌}
 use Rattle.track.proofs.skips.to_next.Goals as goal
 
 pub loop-k-init : goal.loop-k-init
@@ -28,4 +31,7 @@ loop-k-preserved c = let a = c.requires in
     (omega (arith, c.to_month_end-end.ensures, c.loop-k-test.true, month-few _ a.day a.high))
 
 pub returns : goal.returns
-returns c = c.loop-k.invariant
+returns c =
+    let a = c.requires in
+    let last : c.loop-k.k ≡ c.to_month_end-end.result = omega (arith, c.loop-k-test.false, c.loop-k.auto.k-end, c.to_month_end-end.ensures, month-some _ a.day a.high) in
+    subst (Between (picks_on_by c.args.terms c.args.flags.now) c.args.x.number) last c.loop-k.invariant

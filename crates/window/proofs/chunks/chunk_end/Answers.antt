@@ -1,13 +1,9 @@
 -- `window::chunks::chunk_end` meets its contract.
+use Rattle.std.proofs.Common.{◌+◌, ◌*◌, ◌/◌}
 use Rattle.window.specs.Inner.Chunks.{chunk_end}
-use Rattle.window.specs.Inner.Next.{lower}
-use borrow.Author.Tests.{le-ltb, lt-ltb}
+use Rattle.window.proofs.NextLaws.{lower-min}
 use Rattle.window.proofs.chunks.chunk_end.Goals as goal
 
-pub returns-then-end-to : goal.returns-then-end-to
-unfolding chunk_end lower
-returns-then-end-to c = rw (lt-ltb _ _ c.if-end-to.true)
-
 pub returns : goal.returns
-unfolding chunk_end lower
-returns c = rw (le-ltb _ _ c.if-end-to.false)
+unfolding chunk_end
+returns c = cc (lower-min c.args.to (86400 * (c.args.at / 86400 + c.args.k)))

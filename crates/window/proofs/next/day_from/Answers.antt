@@ -7,6 +7,6 @@ pub returns-then-at-start : goal.returns-then-at-start
 unfolding day_from
 returns-then-at-start c = rw (le-leb _ _ c.if-at-start.true)
 
-pub returns : goal.returns
+pub returns-else-at-start : goal.returns-else-at-start
 unfolding day_from
-returns c = rw (lt-leb _ _ c.if-at-start.false)
+returns-else-at-start c = rw (lt-leb _ _ c.if-at-start.false)

@@ -1,19 +1,15 @@
 -- `window::next::is_named` meets its contract.
-use Rattle.window.proofs.OverrideLaws.{named-starts, named_here, named_other, named-not-counted, named_none}
-use Prim.Native.Nat.{◌-◌}
+use Rattle.std.proofs.Common.{ℕ, Bool, ◌&&◌, eqb, rules, ◌∙◌}
+use borrow.Author.Tests.{tests}
+use Rattle.std.proofs.lemmas.Iterator.{YieldsList-from_slice, YieldsList-from_zip}
+use Rattle.std.proofs.lemmas.Iterator.Search.{any_from_yields_List}
+use Rattle.dates.specs.Inner.Overrides.{counts}
+use Rattle.window.proofs.OverrideLaws.{named-any}
 use Rattle.window.proofs.next.is_named.Goals as goal
 
-pub loop-i-init : goal.loop-i-init
-loop-i-init c = named-starts _ _ _ _
-
-pub returns-then-ids-here : goal.returns-then-ids-here
-returns-then-ids-here c = named_here _ _ _ _ _ c.loop-i.invariant c.loop-i-test.true c.requires _ c.count_it.ensures c.if-count_it.true c.if-ids-here.true
-
-pub loop-i-preserved-else-ids-here : goal.loop-i-preserved-else-ids-here
-loop-i-preserved-else-ids-here c = named_other _ _ _ _ _ c.loop-i.invariant c.loop-i-test.true c.requires _ c.count_it.ensures c.if-ids-here.false
-
-pub loop-i-preserved : goal.loop-i-preserved
-loop-i-preserved c = named-not-counted _ _ _ _ _ c.loop-i.invariant c.loop-i-test.true c.requires _ c.count_it.ensures c.if-count_it.false
-
 pub returns : goal.returns
-returns c = named_none _ _ _ _ _ c.loop-i.invariant c.loop-i-test.false
+returns c =
+    let a = c.args in
+    any_from_yields_List (λ (p : ℕ × Bool). counts a.only p.1 && eqb p.0 a.x) c.any.new.self _ _ c.any.ensures.ran
+    (YieldsList-from_zip {s = c.zip.result} (YieldsList-from_slice a.ids.now (search rules)) (YieldsList-from_slice a.gone.now (search rules))) (λ p b f k. search (rules, tests))
+    ∙ named-any _ _ _ _

@@ -1,6 +1,5 @@
 -- `window::next::next_true` meets its contract.
 use Rattle.window.proofs.HitLaws.{true-starts, true-here, true-goes-on, true-then, true-none}
-use Prim.Native.Nat.{◌-◌}
 use Rattle.window.proofs.next.next_true.Goals as goal
 
 pub loop-i-init : goal.loop-i-init

@@ -2,7 +2,6 @@
 use Rattle.window.proofs.OverrideLaws.{kept-starts, kept-ends, kept-later, kept-none, kept_here, kept-goes-on}
 use native.Mathlib.Omega.{arith}
 use mathlib.Core.Path.{sym, ◌∙◌}
-use Prim.Native.Nat.{◌-◌}
 use borrow.Author.Tests.{not-true, not-false}
 use Rattle.window.proofs.next.next_unsorted.Goals as goal
 

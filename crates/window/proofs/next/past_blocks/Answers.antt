@@ -1,5 +1,4 @@
 -- `window::next::past_blocks` meets its contract.
-use Prim.Native.Nat.{◌-◌}
 use native.Mathlib.Omega.{arith}
 use Rattle.window.proofs.HitLaws.{true-starts, true-then, true-passed}
 use Rattle.window.proofs.next.past_blocks.Goals as goal

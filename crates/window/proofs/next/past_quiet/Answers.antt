@@ -1,6 +1,6 @@
 -- `window::next::past_quiet` meets its contract.
+use Rattle.std.proofs.Common.{arith}
 use Rattle.window.proofs.HitLaws.{true-then, true-passed}
-use native.Mathlib.Omega.{arith}
 use Rattle.window.proofs.next.past_quiet.Goals as goal
 
 pub returns-then-none_in : goal.returns-then-none_in

@@ -1,11 +1,6 @@
 -- `window::sorted::next_sorted` meets its contract.
-use Prim.Native.Nat.{◌-◌}
-use lib.ListN.{length}
 use Rattle.window.proofs.SortedLaws.{SortedAt}
 use Rattle.window.proofs.sorted.next_sorted.Given as goal
 
 abbrev pub invariant-loop-i : goal.invariant-loop-i
 invariant-loop-i l = SortedAt l.ids l.gone l.at l.i
-
-abbrev pub decreases-loop-i : goal.decreases-loop-i
-decreases-loop-i l = length l.ids - l.i

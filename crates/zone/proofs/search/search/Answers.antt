@@ -1,5 +1,4 @@
 -- `zone::search::search` meets its contract: each turn is a step, and eleven are enough for 1,024 marks.
-use Prim.Native.Nat.{◌-◌}
 use native.Mathlib.Omega.{arith}
 use Rattle.zone.proofs.SearchLaws.{going_start, going_next}
 use Rattle.zone.proofs.Machine.{Ranged, range-again, search-end}

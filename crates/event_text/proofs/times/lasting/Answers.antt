@@ -1,8 +1,0 @@
--- `event_text::times::lasting` meets its contract.
-use Rattle.event_text.proofs.times.lasting.Goals as goal
-
-pub returns-in-Of : goal.returns-in-Of
-returns-in-Of c = rw c.in-Of.is
-
-pub returns-in-Fault : goal.returns-in-Fault
-returns-in-Fault c = rw c.in-Fault.is

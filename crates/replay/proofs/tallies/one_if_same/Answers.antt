@@ -1,9 +1,0 @@
--- `replay::tallies::one_if_same` meets its contract: by cases.
-use borrow.Author.Tests.{eq-eqb, ne_eqb}
-use Rattle.replay.proofs.tallies.one_if_same.Goals as goal
-
-pub returns-then-a-b : goal.returns-then-a-b
-returns-then-a-b c = rw (eq-eqb _ _ c.if-a-b.true)
-
-pub returns : goal.returns
-returns c = rw (ne_eqb _ _ c.if-a-b.false)

@@ -1,7 +1,0 @@
--- `rule_text::entries::put` meets its contract.
-use lib.Seq.{set_out}
-use mathlib.Core.Path.{sym}
-use Rattle.rule_text.proofs.entries.put.Goals as goal
-
-pub returns : goal.returns
-returns c = sym (set_out _ _ _ c.if-at-list.false)
