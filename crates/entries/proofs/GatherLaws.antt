@@ -42,6 +42,11 @@ take-lesser ys = by (ltb 1025 (length ys)) refl
 pub lesser-number : (ys : List Transition) → lesser (length ys) 1025 ≡ length (gathered ys)
 lesser-number ys = sym (length-take-le (lesser (length ys) 1025) ys (lesser-le (length ys) 1025)) ∙ ap length (take-lesser ys)
 
+-- A place of the entries that count is a place of a run that has room for all that may count.
+pub in-run : (i n room now : ℕ) (ys : List Transition) → n ≡ lesser (length ys) 1025 → i < length (take n ys) → now ≡ room → 1025 ≤ room → i < now
+in-run i n room now ys e h same r =
+    omega (arith, e, lesser-most (length ys) 1025, length-take-le n ys (rw e (lesser-le (length ys) 1025)), h, same, r)
+
 -- A run after the stores that are left: from i on, one number of each entry from the i-th on.
 abbrev pub stores : (Transition → ℤ) → List ℤ → ℕ → List Transition → List ℤ
 stores f l i ys = sets l i (map f (drop i ys))

@@ -8,7 +8,7 @@ use Rattle.entries.specs.declared.Transition.{Transition}
 use Rattle.entries.specs.Gather.{instants_of, offsets_of}
 use mir.Syntax.{w64}
 use mir.Facts.{to_z-of_z}
-use Rattle.entries.proofs.GatherLaws.{stores, stores-next, stores-end, lesser-le, lesser-most, lesser-number, take-lesser}
+use Rattle.entries.proofs.GatherLaws.{stores, stores-next, stores-end, lesser-le, in-run, lesser-number, take-lesser}
 use Rattle.entries.proofs.gather.Goals as goal
 
 pub slice_bounds-entry-items-end : goal.slice_bounds-entry-items-end
@@ -16,26 +16,10 @@ slice_bounds-entry-items-end c =
     sym (length-take-le c.limit-n.result c.args.entries.now (rw c.limit-n.ensures (lesser-le (length c.args.entries.now) 1025)))
 
 pub bounds-instants-i : goal.bounds-instants-i
-bounds-instants-i c = omega (
-  arith,
-  c.limit-n.ensures,
-  lesser-most (length c.args.entries.now) 1025,
-  length-take-le c.limit-n.result c.args.entries.now (rw c.limit-n.ensures (lesser-le (length c.args.entries.now) 1025)),
-  c.loop-i-test.true,
-  c.loop-i.auto.instants,
-  c.requires.0,
-)
+bounds-instants-i c = in-run _ _ _ _ _ c.limit-n.ensures c.loop-i-test.true c.loop-i.auto.instants c.requires.0
 
 pub bounds-offsets-i : goal.bounds-offsets-i
-bounds-offsets-i c = omega (
-  arith,
-  c.limit-n.ensures,
-  lesser-most (length c.args.entries.now) 1025,
-  length-take-le c.limit-n.result c.args.entries.now (rw c.limit-n.ensures (lesser-le (length c.args.entries.now) 1025)),
-  c.loop-i-test.true,
-  c.loop-i.auto.offsets,
-  c.requires.1,
-)
+bounds-offsets-i c = in-run _ _ _ _ _ c.limit-n.ensures c.loop-i-test.true c.loop-i.auto.offsets c.requires.1
 
 pub loop-i-preserved : goal.loop-i-preserved
 loop-i-preserved c =
