@@ -32,9 +32,9 @@ again z = to_z w64 (of_z w64 z)
 
 -- ---- the larger of two
 
-pub max-larger : (a b : ℤ) → int_max a b ≡ larger a b
+pub max_larger : (a b : ℤ) → int_max a b ≡ larger a b
 unfolding larger
-max-larger a b = by (le_z a b) refl
+max_larger a b = by (le_z a b) refl
   where
     by : (t : Bool) → le_z a b ≡ t → cond (lt_z b a) a b ≡ (if t then b else a)
     by true e = rw (le_not_lt b a e)
@@ -58,13 +58,13 @@ module _ (a b : ℤ) (f : SFits w64 a) (g : SFits w64 b) (p : nat_abs a ≤ 2 ^ 
 -- ---- the mark, from what the calls in `mark::at` give: B the offset before, L the larger of it and the one after
 
 module _ (b : ℤ) (ns : List ℤ) (i : ℕ) (f : SFits w64 b) (g : SFits w64 (get_or ns i (pos 0))) where
-  pub larger-is : (B L : ℤ) → mag B < 2 ^ 63 → B ≡ get_or (again b ∷ ns) i (pos 0) → L ≡ int_max (again B) (again (get_or ns i (pos 0)))
+  pub larger-is : (B L : ℤ) → mag B < 2 ^ 63 → B ≡ get_or (again b ∷ ns) i (pos 0) → L ≡ larger (again B) (again (get_or ns i (pos 0)))
       → L ≡ larger (get_or (b ∷ ns) i (pos 0)) (get_or ns i (pos 0))
   larger-is B L k e h =
       let same : B ≡ get_or (b ∷ ns) i (pos 0) = rw (to_z-of_z f) at e in
-      (rw (back B k, to_z-of_z g, same) at h) ∙ max-larger _ _
+      rw (back B k, to_z-of_z g, same) at h
 
--- ---- `mark::in_order`: r is what `within` answers of the offset at i, L the larger as `max` gives it. The initial offset is as it is
+-- ---- `mark::in_order`: r is what `within` answers of the offset at i, L the larger as `larger` gives it. The initial offset is as it is
 -- read back.
 
 -- what a turn gives once the offset is judged: the mark fits, and as it is compared the pass stops or goes on
@@ -93,12 +93,12 @@ module _ (b : ℤ) (ts ns : List ℤ) (f : SFits w64 b) where
       turn-wide t = as-given false (pass-wide (again b) ts ns even before last i h w (sym offset-answer ∙ t))
 
       module _ (t : r ≡ true) (near : all_within (2 ^ 40) ts ≡ true) (j : SFits w64 (get_or ts i (pos 0)))
-          (L : ℤ) (k : mag L < 2 ^ 63) (l : L ≡ int_max before (again (get_or ns i (pos 0)))) where
+          (L : ℤ) (k : mag L < 2 ^ 63) (l : L ≡ larger before (again (get_or ns i (pos 0)))) where
         offset-in : within 86399 (get_or ns i (pos 0)) ≡ true
         offset-in = sym offset-answer ∙ t
 
         added : L ≡ larger before (get_or ns i (pos 0))
-        added = (rw (to_z-of_z g) at l) ∙ max-larger before (get_or ns i (pos 0))
+        added = rw (to_z-of_z g) at l
 
         added-near : nat_abs L ≤ 86399
         added-near = rw added (added-small (again b) ts ns even before last i h w offset-in)

@@ -11,13 +11,20 @@ pub(crate) fn before(initial: i64, offsets: &[i64], i: usize) -> i64
     if i == 0 { initial } else { offsets[i - 1] }
 }
 
+#[tactic(auto, using(crate::proofs::Machine::max_larger))]
+fn larger(a: i64, b: i64) -> i64
+    ensures { result ≡ Table.larger a b }
+{
+    a.max(b)
+}
+
 // The mark of the transition at i.
 pub(crate) fn at(initial: i64, instants: &[i64], offsets: &[i64], i: usize) -> i64
     requires in_range { InRange initial instants.now offsets.now }
     requires i_in_bounds { i < length instants.now }
     ensures { result ≡ mark_at initial instants.now offsets.now i }
 {
-    instants[i] + before(initial, offsets, i).max(offsets[i])
+    instants[i] + larger(before(initial, offsets, i), offsets[i])
 }
 
 // Is each offset within ±86,399, and each mark below the next? One pass for both: an offset is judged before it is added, and the offset
@@ -34,7 +41,7 @@ pub(crate) fn in_order(initial: i64, instants: &[i64], offsets: &[i64]) -> bool
         if !super::range::within(*after, 86399) {
             return false;
         }
-        let next = *instant + before.max(*after);
+        let next = *instant + larger(before, *after);
         if next <= last {
             return false;
         }

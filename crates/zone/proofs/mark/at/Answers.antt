@@ -10,7 +10,7 @@ use Rattle.zone.proofs.Machine.{sum_fits, sum_is, larger-is}
 use Rattle.zone.proofs.mark.at.Goals as goal
 
 -- what is added is the larger of the offsets before and after
-module _ (c : goal.After-max) where
+module _ (c : goal.After-larger) where
   abbrev after : ℤ
   after = get_or c.args.offsets.now c.args.i (pos 0)
 
@@ -23,15 +23,15 @@ module _ (c : goal.After-max) where
   instant-fits : SFits w64 instant
   instant-fits = search rules
 
-  added : c.max.result ≡ larger (get_or (c.args.initial ∷ c.args.offsets.now) c.args.i (pos 0)) after
+  added : c.larger.result ≡ larger (get_or (c.args.initial ∷ c.args.offsets.now) c.args.i (pos 0)) after
   added =
       larger-is _ c.args.offsets.now c.args.i c.ranges.initial after-fits
-      c.before-2.result c.max.result c.before-2.type_inv c.before-2.ensures c.max.ensures.value
+      c.before-2.result c.larger.result c.before-2.type_inv c.before-2.ensures c.larger.ensures
 
   instant-small : nat_abs instant ≤ 2 ^ 62
   instant-small = omega (arith, range_at (2 ^ 40) c.args.instants.now c.requires.in_range.instants_in c.args.i)
 
-  added-small : nat_abs c.max.result ≤ 86399
+  added-small : nat_abs c.larger.result ≤ 86399
   added-small =
       rw added
       (larger-abs 86399 _ _
@@ -39,9 +39,9 @@ module _ (c : goal.After-max) where
       (range_at 86399 c.args.offsets.now c.requires.in_range.offsets_in c.args.i))
 
 pub overflow_add-result : goal.overflow_add-result
-overflow_add-result c = sum_fits (instant c) c.max.result (instant-fits c) (record { sfits = c.max.type_inv }) (instant-small c) (added-small c)
+overflow_add-result c = sum_fits (instant c) c.larger.result (instant-fits c) (record { sfits = c.larger.type_inv }) (instant-small c) (added-small c)
 
 pub returns : goal.returns
 unfolding mark mark_at
-returns c = sum_is (instant c) c.max.result (instant-fits c) (record { sfits = c.max.type_inv }) (instant-small c) (added-small c)
+returns c = sum_is (instant c) c.larger.result (instant-fits c) (record { sfits = c.larger.type_inv }) (instant-small c) (added-small c)
     ∙ ap (λ (z : ℤ). instant c +ℤ z) (added c)

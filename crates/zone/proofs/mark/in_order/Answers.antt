@@ -21,7 +21,7 @@ returns-then-not-within c =
     here.0 fits _ (rw (here.3 (pos 0)) at c.within.ensures) c.if-not-within.true
 
 -- the turn, once the larger offset is found
-module _ (c : goal.After-max) where
+module _ (c : goal.After-larger) where
   abbrev i : ℕ
   i = length c.loop-instant.yielded
 
@@ -38,11 +38,11 @@ module _ (c : goal.After-max) where
   instant-fits : SFits w64 (get_or c.args.instants.now i (pos 0))
   instant-fits = let at-i = here in search rules
 
-  turned : Turn c.args.initial c.args.instants.now c.args.offsets.now (to_z w64 c.loop-instant.before-bits) (to_z w64 c.loop-instant.last-bits) i c.max.result
+  turned : Turn c.args.initial c.args.instants.now c.args.offsets.now (to_z w64 c.loop-instant.before-bits) (to_z w64 c.loop-instant.last-bits) i c.larger.result
   turned =
       turn _ c.args.instants.now c.args.offsets.now c.ranges.initial c.requires.instants_len _ _ _ c.loop-instant.invariant
       here.0 after-fits _ (rw (here.3 (pos 0)) at c.within.ensures) c.if-not-within.false c.requires.instants_value instant-fits
-      _ c.max.type_inv (rw (here.3 (pos 0)) at c.max.ensures.value)
+      _ c.larger.type_inv (rw (here.3 (pos 0)) at c.larger.ensures)
 
   longer : {b before last : ℤ} {ts ns : List ℤ} → Pass b ts ns before last (i + 1)
       → Pass b ts ns before last (length (c.loop-instant.yielded ++ (c.in-Some.instant, c.in-Some.after) ∷ []))
