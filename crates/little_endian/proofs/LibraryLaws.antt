@@ -11,7 +11,9 @@ use borrow.Rule.Slice.PartMut.{put_mid}
 use lib.Dec.{ltb}
 use lib.ListN.{length-append, length-drop}
 use lib.Seq.{take-length}
-use mir.Val.{of_z, to_z}
+use lib.Signed.{mag}
+use mir.Val.{SFits, of_z, to_z}
+use Rattle.signed.proofs.Parts.{back, passed}
 use Rattle.little_endian.specs.Bytes.{bytes_of, twos, value_of, number_at, signed_of, AllBytes}
 use Rattle.little_endian.specs.Inner.Reads.{Reads}
 use Rattle.little_endian.proofs.BackLaws.{part_length, number-below}
@@ -43,6 +45,11 @@ pub twos-is : (z : ℤ) → of_z w64 z ≡ twos z
 unfolding twos
 twos-is (pos n) = refl
 twos-is (negsuc k) = refl
+
+-- the bytes of u, which is the two's complement of z as it is read back, stored
+pub stored_twos : (z : ℤ) (u at : ℕ) (l new bytes : List ℕ) → SFits w64 z → new ≡ sets l at bytes → bytes ≡ bytes_low_first 0 8 u
+    → u ≡ of_z w64 (to_z w64 (of_z w64 z)) → new ≡ sets l at (bytes_of 8 (twos z))
+stored_twos z u at l new bytes f e g h = rw (← (passed (of_z w64) f h ∙ twos-is z)) (stored 8 u at l new bytes e g)
 
 -- a part of a list that is written at once is as its bytes set one after the other
 pub overwritten : (at n : ℕ) (l new bytes : List ℕ) → new ≡ bytes → n ≡ length bytes → at + n ≤ length l → put_mid at (at + n - at) l new ≡ sets l at bytes
@@ -96,3 +103,7 @@ signed-is v h = by (ltb v (2 ^ 63)) refl
     by : (t : Bool) → ltb v (2 ^ 63) ≡ t → to_z w64 v ≡ (if t then pos v else negsuc (2 ^ 64 - 1 - v))
     by true e = rw e refl
     by false e = let g : 2 ^ 64 - suc v ≡ 2 ^ 64 - 1 - v = omega arith in rw (e, g) refl
+
+-- the signed number of v, as it is read back from its bits
+pub signed_back : (v n : ℕ) (z : ℤ) → v < 2 ^ 64 → v ≡ n → mag z < 2 ^ 63 → z ≡ to_z w64 v → to_z w64 (of_z w64 z) ≡ signed_of n
+signed_back v n z h e m f = back z m ∙ f ∙ signed-is v h ∙ ap signed_of e

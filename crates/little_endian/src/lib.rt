@@ -38,7 +38,7 @@ pub fn put_i64(buf: &mut [u8], at: usize, v: i64)
 }
 
 // The bytes of a number of N bytes.
-#[tactic(auto, using(crate::proofs::LibraryLaws::overwritten))]
+#[tactic(auto, using(crate::proofs::LibraryLaws::overwritten, crate::proofs::WidthLaws::stored_by_bytes))]
 fn put<const N: usize>(buf: &mut [u8], at: usize, bytes: [u8; N])
     requires { at + N ≤ length buf.old }
     ensures { buf.new ≡ sets buf.old at bytes.entry }
