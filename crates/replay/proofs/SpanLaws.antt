@@ -9,19 +9,11 @@ use native.Mathlib.Numerals.{add-one}
 use lib.Dec.{ltb}
 use lib.IntN.{ℤ, pos, negsuc}
 use lib.ListN.{length, get_or, set, take, drop, drop_of_length-le}
-use Rattle.std.specs.Int.{int_max}
-use Rattle.std.proofs.lemmas.Int.{ints, clamps}
-use Rattle.weeks.proofs.SweepLaws.{larger-max}
 use lib.Seq.{take-suc-set, drop-set-lt, drop-cons, append_snoc, take_all}
 use Rattle.signed.specs.Parts.{pos_part}
 use Rattle.sheet.specs.Runs.{tabulate}
 use Rattle.weeks.specs.Inner.Marks.{Span, raise, raise_all, larger, sweep}
 use Rattle.weeks.specs.Inner.Places.{Below}
-
--- what a place holds after a span
-pub raised : (z m : ℤ) (after : ℕ) → m ≡ int_max z (pos after) → m ≡ pos (larger (pos_part z) after)
-raised (pos n) m after e = rw (larger-max n after) (omega (arith, ints, clamps))
-raised (negsuc n) m after e = rw (larger-max 0 after) (omega (arith, ints, clamps))
 
 -- a turn of the loop over the records
 pub raise-turn : (f : ℕ → Span) (k n : ℕ) (p : List ℤ) → k < n → raise_all (tabulate f (k + 1) (n - (k + 1))) (raise p (f k)) ≡ raise_all (tabulate f k (n - k)) p

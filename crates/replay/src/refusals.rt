@@ -1,5 +1,6 @@
 // The refusals 30 to 33, in their order.
 ghost use Rattle.std.specs.Prelude.{◌≡◌, ◌%◌, eqb};
+ghost use Rattle.std.specs.Int.Signed.{le_z};
 ghost use Rattle.weeks.specs.Weeks.{weeks_in};
 ghost use Rattle.weeks.specs.Replay.{ordered, is_range, refusal as replay_refusal};
 ghost use Rattle.replay.specs.Inner.Numbers.{reason_number, answer_of};
@@ -29,11 +30,17 @@ impl From<Reason> for u32 {
     }
 }
 
+fn not_after(t: i64, u: i64) -> bool
+    ensures { result ≡ le_z t u }
+{
+    t <= u
+}
+
 // No instant of the log is before the one that it follows.
 fn in_order(log: &[i64]) -> bool
     ensures { result ≡ ordered log.now }
 {
-    log.is_sorted()
+    log.is_sorted_by(|t, u| not_after(*t, *u))
 }
 
 // Monday 00:00 UTC, 2^63 more than the signed instant: 345,600 and 2^63 leave 55,808.

@@ -1,10 +1,18 @@
 // The spans of a sheet's records: each span's end at the place of its first week, the farthest of them.
 ghost use Rattle.std.specs.Prelude.{◌≡◌, ◌+◌, ◌*◌, ◌≤◌, ◌<◌, ◌^◌, length};
 ghost use Rattle.sheet.specs.Runs.{tabulate};
-ghost use Rattle.weeks.specs.Inner.Marks.{Span, after_of, span_at, raise_all, raise as marks_raise};
+ghost use Rattle.weeks.specs.Inner.Marks.{Span, after_of, span_at, raise_all, raise as marks_raise, larger as marks_larger};
 
 use crate::instants::{first_of, up};
 use sheet_reader::fields::{end_at, start_at};
+use signed::positive_part;
+
+#[tactic(auto, unfolding(weeks::specs::Inner::Marks::larger))]
+pub(crate) fn larger(a: u64, b: u64) -> u64
+    ensures { result ≡ marks_larger a b }
+{
+    a.max(b)
+}
 
 // The week after the last one that the span from x to y touches.
 fn after_of(b: u64, x: u64, y: u64) -> u64
@@ -26,7 +34,8 @@ fn raise(p: &mut [i64], first: u64, after: u64)
 {
     let at = first as usize;
     if at < p.len() {
-        p[at] = p[at].max(after as i64);
+        let held = positive_part(p[at]);
+        p[at] = larger(held, after) as i64;
     }
 }
 

@@ -2,6 +2,7 @@
 ghost use Rattle.std.specs.Prelude.{◌≡◌};
 ghost use Rattle.weeks.specs.Inner.Marks.{sweep as marks_sweep};
 
+use crate::spans::larger;
 use signed::positive_part;
 
 // -1 for a week that is shut, -2 for one that is missing.
@@ -10,7 +11,7 @@ pub(crate) fn sweep(p: &mut [i64])
 {
     let mut reach: u64 = 0;
     for (i, z) in p.iter_mut().enumerate() {
-        reach = reach.max(positive_part(*z));
+        reach = larger(reach, positive_part(*z));
         *z = if (i as u64) < reach { -1 } else { -2 };
     }
 }

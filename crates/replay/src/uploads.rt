@@ -6,6 +6,7 @@ ghost use Rattle.weeks.specs.Inner.Places.{upload_all, Below, bump as places_bum
 use crate::instants::{first_of, up};
 
 // One upload more: the first where the week had none.
+#[tactic(auto, unfolding(weeks::specs::Inner::Places::bump))]
 fn bump(z: i64) -> i64
     requires { pos_part z < 2 ^ 62 }
     ensures { result ≡ places_bump z }

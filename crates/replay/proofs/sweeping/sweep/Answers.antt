@@ -12,7 +12,6 @@ use borrow.Author.Tests.{le-ltb, lt-ltb}
 use Rattle.signed.specs.Parts.{pos_part}
 use Rattle.signed.proofs.Parts.{passed}
 use Rattle.weeks.specs.Inner.Marks.{larger}
-use Rattle.weeks.proofs.SweepLaws.{larger-max}
 use Rattle.replay.proofs.SpanLaws.{sweep-turn, sweep-done}
 use Rattle.replay.proofs.sweeping.sweep.Goals as goal
 use Rattle.replay.proofs.sweeping.sweep.Goals.{then-i-reach, else-i-reach}
@@ -23,8 +22,8 @@ loop-i-preserved c =
     let z = get_or l.p l.i (pos 0) in
     let f : SFits w64 z = search rules in
     let part : c.positive_part.result ≡ pos_part z = passed pos_part f c.positive_part.ensures in
-    let reach : c.max-reach.result ≡ larger l.reach (pos_part z) = c.max-reach.ensures ∙ (sym (larger-max l.reach _) ∙ ap (larger l.reach) part) in
-    let place : to_z w64 c.if-i-reach.z-bits ≡ (if ltb l.i c.max-reach.result then negsuc 0 else negsuc 1) = elim c.if-i-reach.branch [
+    let reach : c.larger-reach.result ≡ larger l.reach (pos_part z) = c.larger-reach.ensures ∙ ap (larger l.reach) part in
+    let place : to_z w64 c.if-i-reach.z-bits ≡ (if ltb l.i c.larger-reach.result then negsuc 0 else negsuc 1) = elim c.if-i-reach.branch [
       | then-i-reach w ↦ rw (lt-ltb _ _ w.if-i-reach.true) w.z-is
       | else-i-reach w ↦ rw (le-ltb _ _ w.if-i-reach.false) w.z-is
     ] in
