@@ -1,12 +1,15 @@
 -- One turn of the loop that counts places, and the class of a place.
 use Rattle.std.specs.Prelude.{if◌then◌else◌}
-use Prim.Native.Nat.{ℕ, zero, suc, ◌+◌, ◌-◌, ◌^◌}
+use Prim.Native.Nat.{ℕ, zero, suc, ◌+◌, ◌-◌, ◌^◌, ◌<◌, ◌≤◌}
 use mathlib.Core.List.{List}
 use mathlib.Core.Bool.{Bool, true, false, cond}
 use Rattle.std.specs.List.{count_by}
 use Rattle.std.proofs.lemmas.List.Recursion.{is_count_by}
 use mathlib.Core.Path.{◌≡◌, refl}
 use native.Mathlib.Omega.{arith}
+use native.Mathlib.Numerals.{add-one}
+use lib.ListN.{length, get_or, drop, drop_of_length-le}
+use lib.Seq.{drop-cons}
 use lib.IntN.{ℤ, pos, negsuc}
 use lib.Signed.{lt_z}
 use mir.Syntax.{w64}
@@ -25,6 +28,18 @@ pick false n = omega arith
 pub counted : (f : ℤ → Bool) (p : List ℤ) → count f p ≡ count_by f p
 unfolding count
 counted f p = is_count_by (count f) f refl (λ z l. pick (f z) (count f l)) p
+
+pub count_turn : (f : ℤ → Bool) (p : List ℤ) (i : ℕ) → i < length p → (if f (get_or p i (pos 0)) then 1 else 0) + count f (drop (i + 1) p) ≡ count f (drop i p)
+unfolding count
+count_turn f p i h = rw (add-one i, drop-cons p i (pos 0) h)
+
+pub count-done : (f : ℤ → Bool) (p : List ℤ) (i : ℕ) → length p ≤ i → count f (drop i p) ≡ 0
+unfolding count
+count-done f p i h = rw (drop_of_length-le p {i = i} h)
+
+pub one-most : (b : Bool) → (if b then 1 else 0) ≤ 1
+one-most true = omega arith
+one-most false = omega arith
 
 -- ---- the class of a place
 

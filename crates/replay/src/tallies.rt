@@ -22,9 +22,14 @@ fn class_of(z: i64) -> Class
     }
 }
 
-// The number of places of a class.
+// The number of places of a class. The test is added as a number: with `filter` and `count` the machine has to guess each, and a million weeks took half as
+// long again.
 pub(crate) fn tally(p: &[i64], class: Class) -> u64
     ensures { result ≡ count (in_class (class_number class)) p.now }
 {
-    p.iter().filter(|z| class_of(**z) == class).count() as u64
+    let mut n: u64 = 0;
+    for z in p {
+        n += u64::from(class_of(*z) == class);
+    }
+    n
 }

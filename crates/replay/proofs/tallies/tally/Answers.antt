@@ -1,20 +1,20 @@
--- `replay::tallies::tally` meets its contract.
-use mathlib.Core.Path.{◌≡◌, sym, ◌∙◌}
-use native.Mathlib.Omega.{arith}
-use Rattle.std.proofs.Common.{rules, tests}
-use Rattle.std.proofs.lemmas.Iterator.{YieldsList-from_slice}
-use Rattle.std.proofs.lemmas.Iterator.Consumers.{count_from_yields_List, YieldsList-from_filter}
-use Rattle.std.proofs.lemmas.List.Sums.{length-filter}
-use Rattle.weeks.specs.Weeks.{count}
+-- `replay::tallies::tally` meets its contract: what is counted, and what is to come, is the whole.
+use Rattle.std.specs.Prelude.{if◌then◌else◌}
+use Rattle.std.proofs.Common.{rules, tests, arith, sym, ◌≡◌, get_or, pos}
 use Rattle.weeks.specs.Inner.Places.{in_class}
 use Rattle.replay.specs.Inner.Numbers.{class_number}
-use Rattle.replay.proofs.TallyLaws.{counted}
+use Rattle.replay.proofs.TallyLaws.{count_turn, count-done, one-most}
 use Rattle.replay.proofs.tallies.tally.Goals as goal
 
-pub returns : goal.returns
-returns c =
+pub loop-z-preserved : goal.loop-z-preserved
+loop-z-preserved c =
+    let l = c.loop-z in
     let test = in_class (class_number c.args.class) in
-    let found : c.count.result ≡ count test c.args.p.now =
-    count_from_yields_List c.filter.result _ c.count.ensures.ran (YieldsList-from_filter _ test (YieldsList-from_slice c.args.p.now cc) c.filter.ensures.closure (λ x b q k. search (rules, tests)))
-    ∙ (length-filter test c.args.p.now ∙ sym (counted test c.args.p.now)) in
-    omega (arith, found)
+    let z = get_or c.args.p.now l.z-index (pos 0) in
+    let same : c.eq.result ≡ test z = search (rules, tests) in
+    let one : c.from-n.result ≡ (if test z then 1 else 0) = rw (sym same) (search rules) in
+    let turn = count_turn test c.args.p.now l.z-index c.loop-z-test.true in
+    (omega (arith, one, one-most (test z), l.invariant.0), omega (arith, one, turn, l.invariant.1))
+
+pub returns : goal.returns
+returns c = let l = c.loop-z in omega (arith, count-done (in_class (class_number c.args.class)) c.args.p.now l.z-index c.loop-z-test.false, l.invariant.1)
