@@ -10,4 +10,4 @@ returns g c =
     (λ k. (c.type_inv.s k).fits)
     (ap (λ (l : List ℕ). l ++ drop g.row.N (replicate 8 0)) (search rules))
     _
-    c.from_le_bytes.ensures
+    (search rules)
