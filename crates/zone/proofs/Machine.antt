@@ -24,7 +24,7 @@ use Rattle.zone.specs.declared.search.Found.{Found}
 use Rattle.zone.specs.Search.{middle, halve, Halved, search_by}
 use Rattle.zone.specs.Inner.Hint.{begun_at, ahead_at, still_at}
 use Rattle.zone.proofs.LookupLaws.{Halves, halves-end}
-use Rattle.zone.proofs.HintLaws.{still-gives}
+use Rattle.zone.proofs.HintLaws.{still-gives, still-asked, not-begun, not-there}
 use Rattle.zone.proofs.SearchLaws.{halved, Going, going_end, search-finds}
 
 abbrev pub again : ℤ → ℤ
@@ -164,6 +164,23 @@ module _ {b : ℤ} {ts ns : List ℤ} {x : ℤ} (a : Ranged b ts ns x) where
       → record { place = low; steps = steps } ≡ search_by 11 (mark_at b ts ns) x 0 (length ts)
   search-end low high steps w h =
       rw (to_z-of_z a.initial_fits, to_z-of_z a.local_fits) at (going_end (length ts) (mark_at (again b) ts ns) (again x) low high steps w h)
+
+-- ---- `hint::still`: p is what `begun` says, and r what is answered
+
+module _ (b x : ℤ) (ts ns : List ℤ) (i : ℕ) (p r : Bool) where
+  pub still_asked : SFits w64 b → SFits w64 x → i ≤ length ts → p ≡ begun_at (mark_at (again b) ts ns) (again x) i → p ≡ true
+      → r ≡ ahead_at (mark_at (again b) ts ns) (length ts) (again x) i → r ≡ still_at (mark_at b ts ns) (length ts) x i
+  still_asked f g h e q a =
+      (rw (to_z-of_z f, to_z-of_z g) at a) ∙ still-asked (mark_at b ts ns) (length ts) x i h (sym (rw (to_z-of_z f, to_z-of_z g) at e) ∙ q)
+
+  pub still_not : SFits w64 b → SFits w64 x → i ≤ length ts → p ≡ begun_at (mark_at (again b) ts ns) (again x) i → p ≡ false
+      → r ≡ false → r ≡ still_at (mark_at b ts ns) (length ts) x i
+  still_not f g h e q a = a ∙ not-begun (mark_at b ts ns) (length ts) x i h (sym (rw (to_z-of_z f, to_z-of_z g) at e) ∙ q)
+
+pub still_past : (f : ℕ → ℤ) (n : ℕ) (x : ℤ) (i : ℕ) (r : Bool) → n < i → r ≡ false → r ≡ still_at f n x i
+still_past f n x i r h e = e ∙ not-there f n x i h
+
+pub ruleset still_by_tests = (still_asked, still_not, still_past)
 
 -- ---- `offset`: R is the offset as `mark::before` gives it
 

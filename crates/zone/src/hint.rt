@@ -19,6 +19,7 @@ fn ahead(initial: i64, instants: &[i64], offsets: &[i64], local: i64, i: usize) 
     i == instants.len() || local < super::mark::at(initial, instants, offsets, i)
 }
 
+#[tactic(auto, using(crate::proofs::Machine::still_by_tests))]
 pub(crate) fn still(initial: i64, instants: &[i64], offsets: &[i64], local: i64, i: usize) -> bool
     requires { InRange initial instants.now offsets.now }
     ensures { result ≡ still_at (mark_at initial instants.now offsets.now) (length instants.now) local i }
