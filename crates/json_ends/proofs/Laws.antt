@@ -18,6 +18,9 @@ use Rattle.json_value.specs.Values.{value_at, value_of, name_at, next_item, afte
 use Rattle.json_value.proofs.Laws.{value-step, elements-step, elements-none, members_step, members-none}
 use Rattle.json_value.proofs.Levels.{more-levels}
 use Rattle.json_ends.specs.Inner.Ends.{Ends}
+use Rattle.json_ends.specs.Inner.Told.{told}
+use Rattle.json_ends.specs.declared.read.Reading.{Reading}
+use Rattle.json_ends.specs.declared.read.Reading.TheVariants.{To, Bad, Deep}
 
 -- What the table says of a place holds where more levels may be opened.
 pub ends-say : (s t : List ℕ) → Ends s t → (i l e j m : ℕ) → e ≡ get_or t i 0 → j ≡ e / 32 → m ≡ e % 32 → 32 ≤ e → m ≤ l → Ok j ≡ value_at l s i
@@ -105,3 +108,9 @@ elements-over n k h = elements-none (n - k) (omega arith)
 
 pub members-over : (n k : ℕ) → n ≤ k → (value : ℕ → Result ℕ SyntaxError) (s : List ℕ) (i : ℕ) → members_at value (n - k) s i ≡ Err Malformed
 members-over n k h = members-none (n - k) (omega arith)
+
+-- A reading that is no end is handed on as it is.
+pub wrong-stays : (r : Reading) → ((e : ℕ) → r ≡ To e → ⊥) → (f : ℕ → Result ℕ SyntaxError) → told r ≡ next (told r) f
+wrong-stays (To e) h f = absurd (h e refl)
+wrong-stays Bad h f = refl
+wrong-stays Deep h f = refl

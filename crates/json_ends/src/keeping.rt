@@ -4,7 +4,9 @@ ghost use Rattle.json_text.specs.Strings.{string_at};
 ghost use Rattle.json_value.specs.Values.{name_at, value_at};
 ghost use Rattle.json_ends.specs.Inner.Ends.{Ends};
 ghost use Rattle.json_ends.specs.Inner.Found.{Found};
+ghost use Rattle.json_ends.specs.Inner.Told.{told};
 
+use crate::read::Reading;
 use json_text::SyntaxError;
 use json_text::strings::string;
 use json_value::items::colon;
@@ -23,19 +25,14 @@ fn keep(text: &[u8], ends: &mut [u32], at: usize, left: usize, end: usize)
 }
 
 // Keeps what was read as the value at a place.
-pub(crate) fn note(
-    text: &[u8],
-    ends: &mut [u32],
-    at: usize,
-    left: usize,
-    found: Result<usize, SyntaxError>,
-) -> Result<usize, SyntaxError>
-    requires { (found ≡ value_at left text.now at) × Ends text.now ends.old }
-    ensures { Found (value_at left text.now at) text.now ends.new result }
+pub(crate) fn note(text: &[u8], ends: &mut [u32], at: usize, left: usize, found: Reading) -> Reading
+    requires { (told found ≡ value_at left text.now at) × Ends text.now ends.old }
+    ensures { Found (value_at left text.now at) text.now ends.new (told result) }
 {
-    let end = found?;
-    keep(text, ends, at, left, end);
-    Ok(end)
+    if let Reading::To(end) = found {
+        keep(text, ends, at, left, end);
+    }
+    found
 }
 
 // Reads a name and keeps its end: the string is a value too, which opens no level.

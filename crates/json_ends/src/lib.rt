@@ -6,6 +6,7 @@
 pub mod arrays;
 mod keeping;
 pub mod objects;
+mod read;
 mod reading;
 mod table;
 pub mod whole;

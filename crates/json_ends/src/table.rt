@@ -5,6 +5,7 @@ ghost use Rattle.json_value.specs.Values.{value_at};
 ghost use Rattle.json_ends.specs.Inner.Ends.{Ends};
 
 use crate::keeping::STEP;
+use crate::read::result_of;
 use crate::reading::value;
 use json_text::SyntaxError;
 use json_text::bytes::byte;
@@ -35,7 +36,7 @@ fn unknown(text: &[u8], at: usize, left: usize) -> Result<usize, SyntaxError>
     ensures { result ≡ value_at left text.now at }
 {
     let mut none = [0u32; 1];
-    value(text, &mut none, at, left)
+    result_of(value(text, &mut none, at, left))
 }
 
 // The value at a place; by one look where the table knows it.

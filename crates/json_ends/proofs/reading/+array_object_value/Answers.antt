@@ -3,7 +3,7 @@ use Rattle.json_value.proofs.Laws.{array-none, array-step, object-none, object-s
 use Rattle.json_value.specs.Values.{array_of, object_of, value_of}
 use Rattle.json_value.specs.Inner.Groups.{array_at, object_at}
 use Rattle.std.proofs.Math.Nat.{sub-zero}
-use Rattle.json_ends.proofs.Laws.{elements-turn, elements-over, members-turn, members-over}
+use Rattle.json_ends.proofs.Laws.{elements-turn, elements-over, members-turn, members-over, wrong-stays}
 use borrow.Author.Rules.{rules}
 use borrow.Author.Tests.{eq-eqb, ne_eqb}
 use Rattle.json_ends.proofs.reading.+array_object_value.Goals as goal
@@ -36,45 +36,44 @@ array-loop-init t c = record {
   ends = search rules;
 }
 
-pub array-returns-in_err-j : goal.array-returns-in_err-j
+pub array-returns-in_default : goal.array-returns-in_default
 unfolding array_at array_of
-array-returns-in_err-j t c = record {
+array-returns-in_default t c = record {
   is = rw (
     ← c.loop.invariant.reads,
     elements-turn _ _ c.loop-test.true,
     ← c.value.ensures.is,
-    c.in_err-j.was,
   )
-      (search rules);
+      (wrong-stays _ c.in_default.not-To _);
   ends = search rules;
 }
 
-pub array-returns-in_err-k : goal.array-returns-in_err-k
+pub array-returns-in-Err : goal.array-returns-in-Err
 unfolding array_at array_of
-array-returns-in_err-k t c = record {
+array-returns-in-Err t c = record {
   is = rw (
+    c.reading_of.ensures,
     ← c.loop.invariant.reads,
     elements-turn _ _ c.loop-test.true,
     ← c.value.ensures.is,
-    c.in_ok-j.was,
+    c.in-To.is,
     ← c.after.ensures,
-    c.in_err-k.was,
-  )
-      (search rules);
+    c.in-Err.is,
+  );
   ends = search rules;
 }
 
-pub array-returns-in-Done-2 : goal.array-returns-in-Done-2
+pub array-returns-in-Ok-Done : goal.array-returns-in-Ok-Done
 unfolding array_at array_of
-array-returns-in-Done-2 t c = record {
+array-returns-in-Ok-Done t c = record {
   is = rw (
     ← c.loop.invariant.reads,
     elements-turn _ _ c.loop-test.true,
     ← c.value.ensures.is,
-    c.in_ok-j.was,
+    c.in-To.is,
     ← c.after.ensures,
-    c.in_ok-k.was,
-    c.in-Done-2.is,
+    c.in-Ok-Done.is,
+    c.in-Ok-Done.field-0-is,
   );
   ends = search rules;
 }
@@ -86,10 +85,10 @@ array-loop-preserved t c = record {
     ← c.loop.invariant.reads,
     elements-turn _ _ c.loop-test.true,
     ← c.value.ensures.is,
-    c.in_ok-j.was,
+    c.in-To.is,
     ← c.after.ensures,
-    c.in_ok-k.was,
-    c.in-More-2.is,
+    c.in-Ok-More.is,
+    c.in-Ok-More.field-0-is,
   );
   size = search rules;
   ends = search rules;
@@ -133,64 +132,63 @@ object-loop-init t c = record {
   ends = search rules;
 }
 
-pub object-returns-in_err-v : goal.object-returns-in_err-v
+pub object-returns-in-Err : goal.object-returns-in-Err
 unfolding object_at object_of
-object-returns-in_err-v t c = record {
+object-returns-in-Err t c = record {
   is = rw (
+    c.reading_of.ensures,
     ← c.loop.invariant.reads,
     members-turn _ _ c.loop-test.true,
     ← c.name.ensures.is,
-    c.in_err-v.was,
-  )
-      (search rules);
+    c.in-Err.is,
+  );
   ends = search rules;
 }
 
-pub object-returns-in_err-j : goal.object-returns-in_err-j
+pub object-returns-in_default : goal.object-returns-in_default
 unfolding object_at object_of
-object-returns-in_err-j t c = record {
+object-returns-in_default t c = record {
   is = rw (
     ← c.loop.invariant.reads,
     members-turn _ _ c.loop-test.true,
     ← c.name.ensures.is,
-    c.in_ok-v.was,
+    c.in-Ok.is,
     ← c.value.ensures.is,
-    c.in_err-j.was,
   )
-      (search rules);
+      (wrong-stays _ c.in_default.not-To _);
   ends = search rules;
 }
 
-pub object-returns-in_err-k : goal.object-returns-in_err-k
+pub object-returns-in-Err-after : goal.object-returns-in-Err-after
 unfolding object_at object_of
-object-returns-in_err-k t c = record {
+object-returns-in-Err-after t c = record {
   is = rw (
+    c.reading_of-in-Err-after.ensures,
     ← c.loop.invariant.reads,
     members-turn _ _ c.loop-test.true,
     ← c.name.ensures.is,
-    c.in_ok-v.was,
+    c.in-Ok.is,
     ← c.value.ensures.is,
-    c.in_ok-j.was,
+    c.in-To.is,
     ← c.after.ensures,
-    c.in_err-k.was,
-  )
-      (search rules);
+    c.in-Err-after.is,
+  );
   ends = search rules;
 }
 
-pub object-returns-in-Done-2 : goal.object-returns-in-Done-2
+pub object-returns-in-Ok-Done : goal.object-returns-in-Ok-Done
 unfolding object_at object_of
-object-returns-in-Done-2 t c = record {
+object-returns-in-Ok-Done t c = record {
   is = rw (
     ← c.loop.invariant.reads,
     members-turn _ _ c.loop-test.true,
     ← c.name.ensures.is,
-    c.in_ok-v.was,
+    c.in-Ok.is,
     ← c.value.ensures.is,
-    c.in_ok-j.was,
+    c.in-To.is,
     ← c.after.ensures,
-    c.in_ok-k.was,
-    c.in-Done-2.is,
+    c.in-Ok-Done.is,
+    c.in-Ok-Done.field-0-is,
   );
   ends = search rules;
 }
@@ -202,12 +200,12 @@ object-loop-preserved t c = record {
     ← c.loop.invariant.reads,
     members-turn _ _ c.loop-test.true,
     ← c.name.ensures.is,
-    c.in_ok-v.was,
+    c.in-Ok.is,
     ← c.value.ensures.is,
-    c.in_ok-j.was,
+    c.in-To.is,
     ← c.after.ensures,
-    c.in_ok-k.was,
-    c.in-More-2.is,
+    c.in-Ok-More.is,
+    c.in-Ok-More.field-0-is,
   );
   size = search rules;
   ends = search rules;
@@ -239,4 +237,4 @@ value-note-requires-then-b-eq91 t c = (rw (value-step, ← c.byte-b.ensures.is, 
 
 pub value-note-requires-2 : goal.value-note-requires-2
 unfolding value_of
-value-note-requires-2 t c = (rw (value-step, ← c.byte-b.ensures.is, ne_eqb _ _ c.if-b-eq123.false, ne_eqb _ _ c.if-b-eq91.false, ← c.scalar-found.ensures), search rules)
+value-note-requires-2 t c = (rw (c.reading_of-found.ensures, value-step, ← c.byte-b.ensures.is, ne_eqb _ _ c.if-b-eq123.false, ne_eqb _ _ c.if-b-eq91.false, ← c.scalar.ensures), search rules)
