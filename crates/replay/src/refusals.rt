@@ -56,6 +56,7 @@ fn is_range(from: i64, to: i64) -> bool
     is_monday(up(from)) && is_monday(up(to)) && from <= to
 }
 
+#[tactic(auto, using(crate::proofs::RangeLaws::weeks_passed))]
 pub(crate) fn weeks_in(from: i64, to: i64) -> u64
     ensures { result ≡ weeks_in from to }
 {
