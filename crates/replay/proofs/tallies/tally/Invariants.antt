@@ -8,4 +8,4 @@ use Rattle.replay.specs.Inner.Numbers.{class_number}
 use Rattle.replay.proofs.tallies.tally.Given as goal
 
 abbrev pub invariant-loop-z : goal.invariant-loop-z
-invariant-loop-z l = (l.n ≤ l.z-index) × (l.n + count (in_class (class_number l.class)) (drop l.z-index l.p) ≡ count (in_class (class_number l.class)) l.p)
+invariant-loop-z l = (l.n ≤ l.z-index) × (l.n + count (in_class (class_number l.fn.class)) (drop l.z-index l.p) ≡ count (in_class (class_number l.fn.class)) l.p)
