@@ -4,7 +4,6 @@ use borrow.Author.Rules.{rules}
 use Rattle.weeks.specs.Inner.Places.{Below}
 use Rattle.replay.specs.Inner.Sorted.{filled}
 use Rattle.replay.proofs.SpanLaws.{sweep-below}
-use Rattle.replay.proofs.ClearLaws.{zeros-are}
 use Rattle.replay.proofs.places.fill.Goals as goal
 
 pub upload_all-requires : goal.upload_all-requires
@@ -12,4 +11,4 @@ upload_all-requires c = subst (Below 0) (sym c.sweep.ensures) (sweep-below 0 0 _
 
 pub returns : goal.returns
 unfolding filled
-returns c = search (rules, zeros-are)
+returns c = search rules
