@@ -239,3 +239,5 @@ pub lent-asks : (d : Dates) (rows : List Bool) (from to n room : ℕ) → Listin
 lent-asks d rows from to n room l is =
     subst (λ (k : ℕ). Listing d rows from to k × ((k ≤ 1024) × (k ≤ n))) (lent-days room (omega arith))
     (record { plain = l.plain; whole = l.whole; span = l.span; room = omega (arith, l.room) }, (omega arith, omega arith))
+
+pub ruleset lent = (lent-days, lent-asks)

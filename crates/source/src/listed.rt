@@ -90,6 +90,7 @@ fn list_ids(
 }
 
 // The ids from `from` on and before `to`, as many as fit; there is no override.
+#[tactic(auto, using(crate::proofs::ListedLaws::lent))]
 pub(crate) fn listed(dates: Dates, rows: &[bool], from: u64, to: u64, out: &mut [u64]) -> Chunk
     requires { Listing dates rows.now from to (length out.old) }
     ensures { HandedUnnamed dates rows.now from to out.old out.new result.count result.next }
