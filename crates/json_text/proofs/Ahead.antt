@@ -4,16 +4,19 @@ use Prim.Native.Nat.{ℕ, zero, suc, ◌+◌, ◌-◌, ◌≤◌, ◌<◌}
 use mathlib.Core.Bool.{Bool, true, false}
 use mathlib.Core.List.{List}
 use mathlib.Core.Path.{◌≡◌, refl, ap, sym, ◌∙◌}
+use native.Mathlib.Decide.{dec_lt}
 use native.Mathlib.Omega.{arith}
+use borrow.Author.Tests.{eq-eqb}
 use lib.ListN.{length, get_or, get_or-eq_default}
 use lib.Dec.{eqb, ltb}
 use Rattle.json_text.specs.Bytes.{byte, next}
-use Rattle.json_text.specs.Inner.Plain.{plain_at}
+use Rattle.json_text.specs.Inner.Plain.{is_plain, plain_at}
 use Rattle.json_text.specs.Utf8.{is_tail, tails_at, second_at, multi_at}
 use Rattle.json_text.specs.Strings.{is_hex, hex_at, is_escaped, escape_at, char_at, chars_at}
 use Rattle.json_text.specs.declared.SyntaxError.{SyntaxError}
 use Rattle.json_text.specs.declared.SyntaxError.TheVariants.{Malformed}
 use Rattle.json_text.proofs.Laws.{chars-step, chars-none}
+use Rattle.json_text.proofs.Blocks.{plain-front}
 use Rattle.json_text.proofs.Skip.{chars-skip}
 
 -- Where a reader reads to a place, that lies after k.
@@ -114,3 +117,21 @@ rest-wrong s i e h c r = rw (chars-step (length s - i) (omega arith) s i, c, r)
 
 pub rest-none : (s : List ℕ) (i : ℕ) → length s ≤ i → chars_at (length s - i) s i ≡ Err Malformed
 rest-none s i h = chars-none (length s - i) (omega arith) s i
+
+-- A quote lies in the text.
+quote-within : (s : List ℕ) (i : ℕ) → get_or s i 0 ≡ 0x22 → i < length s
+quote-within s i e = go (dec_lt i (length s))
+  where
+    go : Dec (i < length s) → i < length s
+    go (yes p) = p
+    go (no p) = let z : get_or s i 0 ≡ 0 = get_or-eq_default s 0 (omega arith) in absurd (omega arith)
+
+-- What is left of a string at a quote and at a plain byte, where tests and places stand as the reader has them.
+pub turn_quote : (s : List ℕ) (i : ℕ) → get_or s i 0 ≡ 0x22 → chars_at (length s - i) s i ≡ Ok (i + 1)
+turn_quote s i e = rest-quote s i (quote-within s i e) (eq-eqb _ _ e)
+
+pub turn_run : (s : List ℕ) (i : ℕ) → i < length s → is_plain (get_or s i 0) ≡ true
+    → chars_at (length s - i) s i ≡ chars_at (length s - plain_at s (i + 1)) s (plain_at s (i + 1))
+turn_run s i h c = rest-run s i (plain_at s (i + 1)) h (plain-front s i (plain_at s (i + 1)) refl h c)
+
+pub ruleset turns = (turn_quote, turn_run)

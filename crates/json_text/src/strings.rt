@@ -70,6 +70,7 @@ fn character(text: &[u8], at: usize) -> Result<usize, SyntaxError>
 }
 
 // A string with its quotes. A turn of the loop is a run of plain bytes, or one char.
+#[tactic(auto, using(crate::proofs::Ahead::turns))]
 pub fn string(text: &[u8], at: usize) -> Result<usize, SyntaxError>
     ensures { result ≡ string_at text.now at }
 {
