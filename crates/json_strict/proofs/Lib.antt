@@ -1,3 +1,4 @@
 pub mod Laws
 pub mod Faulted
 pub mod Free
+pub mod Zeros

@@ -37,6 +37,7 @@ pub fn judge(text: &[u8], ends: &mut [u32]) -> u32
 }
 
 // The answer, with a table of N ends. A longer text has its answer too, in more time.
+#[tactic(auto, using(crate::proofs::Zeros::ends_none))]
 fn answer_in<const N: usize>(text: &[u8]) -> u32
     requires { N ≤ 65536 }
     ensures { result ≡ answer_of text.now }
