@@ -5,7 +5,7 @@ use mathlib.Core.List.{List}
 use mathlib.Core.Option.{Option, none, some}
 use mathlib.Core.Path.{◌≡◌, refl}
 use Rattle.std.proofs.Common.{Some}
-use Rattle.fault.specs.Fault.{a_fault, lower, first}
+use Rattle.fault.specs.Fault.{a_fault, faults_at, lower, first, First}
 use Rattle.fault.proofs.Laws.{first-groups}
 use Rattle.json_tree.specs.Finds.{look_up}
 use Rattle.json_tree.specs.Tree.{Fields, no_field, place_of, text_tree}
@@ -34,6 +34,11 @@ event-front s = go (object (text_tree s))
 first-in : (at : ℕ) (fields : Fields) → first (event_in at fields).faults ≡ lower (front_in at fields).fault (first (lists_faults (front_in at fields)))
 unfolding event_in front_in lists_faults
 first-in at fields = first-groups _ _
+
+-- 5 stands at the front of the text, however the 0 is written.
+pub five-front : (r : First) (place : ℕ) → r ≡ first (faults_at 5 place) → place ≡ 0 → r ≡ Some (a_fault 5 0)
+unfolding first faults_at lower
+five-front r place e z = rw z at e
 
 -- "Where 5 applies, 6 to 9 are not judged".
 pub first-none : (s : List ℕ) → object (text_tree s) ≡ none → event_first s ≡ Some (a_fault 5 0)
